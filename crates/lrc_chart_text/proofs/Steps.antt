@@ -1,5 +1,5 @@
 -- What loops make, with one item more.
-use Rattle.std.proofs.Common.{◌≡◌, ◌∙◌, ◌<◌, ◌+◌, ℕ, List, [], ◌∷◌, ◌++◌, ap, append-nil, append_assoc, get_or, length, refl, subst, sym, take}
+use Rattle.std.proofs.Common.{◌≡◌, ◌∙◌, ◌<◌, ◌+◌, ℕ, List, [], ◌∷◌, ◌++◌, ap, append-nil, append_assoc, get_or, length, subst, sym, take}
 use Rattle.std.specs.Prelude.{codes, Err, Ok, OnOk, Result}
 use Rattle.std.specs.List.{flat_map, range_with_len}
 use Rattle.std.proofs.lemmas.List.{take_more}
@@ -45,11 +45,6 @@ pub lines_pushed : (before here after : List (List ℕ)) (first old new : List �
     → new ≡ old ++ lines_text here → new ≡ first ++ lines_text after
 lines_pushed before here after first old new is was now =
     pushed first (lines_text before) (lines_text here) old new (lines_text after) (ap lines_text is ∙ texts-append before here) was now
-
--- texts of lines one behind another
-pub two_parts : (a b : List (List ℕ)) (first old new : List ℕ) → old ≡ first ++ lines_text a → new ≡ old ++ lines_text b
-    → new ≡ first ++ lines_text (a ++ b)
-two_parts a b first old new was now = lines_pushed a b (a ++ b) first old new refl was now
 
 -- the same where the items are seen through a reference
 module _ {X : Type 0} (items view : List X) (same : view ≡ items) (i : ℕ) (item : X) (within : i < length view) (is : item ≡ get_or view i item) where

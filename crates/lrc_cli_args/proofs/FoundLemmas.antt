@@ -8,7 +8,7 @@ use Rattle.clap.specs.Words.{Row, Text}
 use Rattle.clap.specs.Simple.{subcommand_rows}
 use Rattle.clap.specs.declared.parser.matches.ArgMatches.TheViews.{out-SubCommand}
 use Rattle.clap.specs.declared.parser.matches.SubCommand.{SubCommand}
-use Rattle.lrc_cli_args.specs.CommandLine.{IsAnswerTaken, IsAskTaken, IsCommandTaken, IsRequestTaken, IsShowTaken}
+use Rattle.lrc_cli_args.specs.CommandLine.{IsAskTaken, IsCommandTaken, IsRequestTaken, IsShowTaken}
 use Rattle.lrc_cli_args.specs.Options.{HasValue, IsChartTaken, IsExploreTaken, IsJudgeTaken, IsPlainTaken, IsRacesTaken, IsRunTaken, IsShowingTaken, IsSimTaken, IsTraceTaken}
 use Rattle.lrc_cli_args.specs.Options.{IsStepTaken, IsWhyTaken}
 use Rattle.lrc_cli_args.specs.declared.misfit.Misfit.{Misfit}
@@ -139,38 +139,6 @@ module _ (found : Option (Text × List Row)) (rows : List Row) (held : option_ma
 
   pub chart_rows : option_map (λ p. p.0) found ≡ Some (codes "chart") → IsChartTaken rows
   chart_rows named = named_rows found (codes "chart") rows named held (inr (inr (inr taken)))
-
-module _ (found : Option (Text × List Row)) (rows : List Row) (held : option_map (λ p. p.1) found ≡ Some rows) where
-  pub races_rows : IsRequestTaken found → option_map (λ p. p.0) found ≡ Some (codes "races") → IsRacesTaken rows
-  races_rows taken named = named_rows found (codes "races") rows named held taken
-
-  pub lint_rows : IsAnswerTaken found → option_map (λ p. p.0) found ≡ Some (codes "lint") → HasValue (codes "FILE") rows
-  lint_rows taken named = named_rows found (codes "lint") rows named held (inr (inr taken))
-
-  pub why_rows : IsAnswerTaken found → option_map (λ p. p.0) found ≡ Some (codes "why") → IsWhyTaken rows
-  why_rows taken named = named_rows found (codes "why") rows named held (inr (inr taken))
-
--- a command that is none of the first three is answered to the texts in files
-pub answer_left : (found : Option (Text × List Row)) → (option_map (λ p. p.0) found ≡ Some (codes "help") → false ≡ true)
-    → (option_map (λ p. p.0) found ≡ Some (codes "version") → false ≡ true) → (option_map (λ p. p.0) found ≡ Some (codes "races") → false ≡ true)
-    → IsRequestTaken found → IsAnswerTaken found
-answer_left None help version races taken = elim taken [ inl t ↦ absurd t | inr (inl t) ↦ absurd t | inr (inr t) ↦ t ]
-answer_left (Some f) help version races taken = elim taken [
-  | inl (inl t) ↦ let bad : false ≡ true = help (ap Some t) in absurd cc
-  | inl (inr t) ↦ let bad : false ≡ true = version (ap Some t) in absurd cc
-  | inr (inl t) ↦ let bad : false ≡ true = races (ap Some t.0) in absurd cc
-  | inr (inr t) ↦ t
-]
-
--- and one of these that is neither `lint` nor `why` is one of the others
-pub choice_left : (found : Option (Text × List Row)) → (option_map (λ p. p.0) found ≡ Some (codes "lint") → false ≡ true)
-    → (option_map (λ p. p.0) found ≡ Some (codes "why") → false ≡ true) → IsAnswerTaken found → IsCommandTaken found
-choice_left None lint why taken = elim taken [ inl t ↦ absurd t | inr t ↦ t ]
-choice_left (Some f) lint why taken = elim taken [
-  | inl (inl t) ↦ let bad : false ≡ true = lint (ap Some t.0) in absurd cc
-  | inl (inr t) ↦ let bad : false ≡ true = why (ap Some t.0) in absurd cc
-  | inr t ↦ t
-]
 
 -- a command that shows something of a run is one of all commands
 pub show_taken : (found : Option (Text × List Row)) → IsSomeAnd found IsShowTaken → IsCommandTaken found

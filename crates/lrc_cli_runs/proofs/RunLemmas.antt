@@ -1,5 +1,5 @@
 -- What is known of a run that was made.
-use Rattle.std.proofs.Common.{◌≡◌, ◌≢◌, ◌∙◌, ◌<◌, ◌≤◌, ℕ, List, ap, All as Every, IfOk, Option, None, Some, Result, Ok, Err, arith, get_or, refl, sym, subst}
+use Rattle.std.proofs.Common.{◌≡◌, ◌∙◌, ◌<◌, ◌≤◌, ℕ, List, ap, All as Every, IfOk, Option, None, Some, Result, Ok, Err, arith, get_or, sym, subst}
 use Rattle.lrc_clock.specs.Keeping.{KeepsTime}
 use Rattle.lrc_lang.specs.declared.program.Program.{Program}
 use Rattle.lrc_lines.specs.Statements.{act_statements}
@@ -9,12 +9,8 @@ use Rattle.lrc_events.specs.EventsText.{ReadsEvents}
 use Rattle.lrc_protocol.specs.declared.event.Event.{Event}
 use Rattle.lrc_protocol.specs.Node.{OptionsRecord}
 use Rattle.lrc_order_laws.proofs.TimesOfRuns.{acts_of_nodes}
-use Rattle.lrc_cli_args.specs.declared.choice.Form.{Form}
-use Rattle.lrc_cli_args.specs.declared.choice.Form.TheVariants.{States}
-use Rattle.lrc_cli_args.specs.declared.choice.Part.{Part}
 use Rattle.lrc_cli_args.specs.declared.choice.RunOptions.{RunOptions}
 use Rattle.lrc_cli_args.specs.declared.choice.Shape.{Shape}
-use Rattle.lrc_cli_args.specs.declared.choice.Shape.TheVariants.{Trace}
 use Rattle.lrc_cli_args.specs.declared.choice.Way.{Way}
 use Rattle.lrc_cli_args.specs.declared.choice.Way.TheVariants as ways
 use Rattle.lrc_world.specs.Report.{IsWornBy}
@@ -104,11 +100,6 @@ module _ (program : Program) (options : RunOptions) (run : Run) (acts : List Act
   -- and their times
   pub times_of : KeepsTime options.nodes.count acts (times_in run.origins.times)
   times_of = subst (λ (acts : List Act). KeepsTime options.nodes.count acts (times_in run.origins.times)) (sym same) is.origins.times
-
--- the form of a trace that tells of all of a run
-pub tells_all : (form : Form) → ((part : Part) → form ≢ States part) → keep_for (Trace form) ≡ All
-tells_all (States part) other = absurd (other part refl)
-tells_all _ other = refl
 
 -- the turns that its events make are kept, where all is
 pub turned_whole : (program : Program) (options : RunOptions) (run : Run) → IsRunWith program options All run

@@ -1,5 +1,5 @@
 -- What is shown of a run's turns, and why it is not.
-use Rattle.std.proofs.Common.{◌≡◌, ◌≢◌, ℕ, List, Option, refl, subst, sym}
+use Rattle.std.proofs.Common.{◌≡◌, ℕ, List, Option, subst, sym}
 use Rattle.lrc_trace.specs.declared.act.Act.{Act}
 use Rattle.lrc_lang.specs.declared.program.Program.{Program}
 use Rattle.lrc_world.specs.declared.run.Run.{Run}
@@ -12,7 +12,7 @@ use Rattle.lrc_cli_args.specs.declared.choice.Shape.TheVariants.{Step, Trace}
 use Rattle.lrc_cli_answer.specs.declared.fault.Fault.{Fault}
 use Rattle.lrc_cli_answer.specs.declared.fault.Fault.TheVariants.{NoMemory, TooManyTurns}
 use Rattle.lrc_cli_runs.specs.Explained.{IsExplained}
-use Rattle.lrc_cli_runs.specs.Shown.{IsFormShown, IsShowFault, IsTraceFault, IsTraceShown}
+use Rattle.lrc_cli_runs.specs.Shown.{IsShowFault, IsTraceFault}
 use Rattle.lrc_cli_runs.specs.Stated.{IsStatesFault}
 
 -- a report with reasons, of acts that are these, and its text that is this
@@ -21,12 +21,6 @@ pub explained_so : (text : List ℕ) (program : Program) (options : RunOptions) 
 explained_so text program options acts read first_race told out are is explains =
     subst (λ (o : List ℕ). IsExplained text program options acts first_race o) (sym is)
     (subst (λ (l : List Act). IsExplained text program options l first_race told) are explains)
-
--- a trace in a form that is not one of states
-pub form_traced : (form : Form) (text : List ℕ) (program : Program) (options : RunOptions) (run : Run) (out : List ℕ)
-    → ((part : Part) → form ≢ States part) → IsFormShown form text program options run out → IsTraceShown form text program options run out
-form_traced (States part) text program options run out other is = absurd (other part refl)
-form_traced _ text program options run out other is = is
 
 -- why the turns are not shown is why there is no trace of them
 pub states_untraced : (part : Part) (text : List ℕ) (program : Program) (options : RunOptions) (run : Run) (fault : Fault)

@@ -1,5 +1,5 @@
 -- An act happens before one of another node exactly where the other's time covers its interval.
-use Rattle.std.proofs.Common.{◌≡◌, ℕ, ◌+◌, ◌<◌, ◌≤◌, ◌⊎◌, true, List, inl, inr, refl, subst, arith}
+use Rattle.std.proofs.Common.{◌≡◌, ℕ, ◌+◌, ◌≤◌, ◌⊎◌, true, List, inl, inr, refl, subst, arith}
 use Rattle.std.proofs.lemmas.Bool.{cases_eq, cases_lt}
 use Rattle.lrc_trace.specs.declared.act.Act.{Act}
 use Rattle.lrc_trace.specs.declared.act.Deed.{Deed}
@@ -25,15 +25,7 @@ module _ (run : List Act) where
       let index = closer.interval in
       omega arith
 
-  -- so an interval is closed before a later one begins,
-  pub closed_before_later : (q k c j : ℕ) → ClosesAt run q k c → k < interval_at run q j → c < j
-  closed_before_later q k c j closer lt =
-      elim (cases_lt c j) [
-        | inl less ↦ less
-        | inr le ↦ let fall = never_fall run q j c le in let index = closer.interval in absurd (omega arith)
-      ]
-
-  -- and at one position alone
+  -- an interval is closed at one position alone
   pub closed_once : (q k c e : ℕ) → ClosesAt run q k c → ClosesAt run q k e → c ≡ e
   closed_once q k c e a b =
       elim (cases_lt c e) [

@@ -9,7 +9,7 @@ use Rattle.std.proofs.lemmas.List.Elements.{All-nil, All-cons, All-head, All-tai
 use Rattle.lrc_barrier.specs.declared.arrival.Arrival.{Arrival}
 use Rattle.lrc_barrier.specs.declared.departure.Departure.{Departure}
 use Rattle.lrc_barrier.specs.Barrier.{ManagerRecord, ArriveStep, refuses, waits, departs, accepted, arrived, arrivals_of, with_arrival, departed}
-use Rattle.lrc_barrier.specs.Barrier.{departure_to, departures_of, after_arrive, arrive_answer, is_next, has_arrived, first_manager, IsDeparture}
+use Rattle.lrc_barrier.specs.Barrier.{departure_to, departures_of, after_arrive, arrive_answer, is_next, has_arrived, IsDeparture}
 use Rattle.lrc_control.specs.Barrier.{KeepsEpisodes, AreDepartures}
 
 -- each place of a list, where one is set
@@ -26,9 +26,6 @@ none_begun : (n node : ℕ) → IfSome (slice_index_or (replicate n None) node N
 none_begun zero node = tt
 none_begun (suc n) zero = tt
 none_begun (suc n) (suc node) = none_begun n node
-
-pub first_begun : (nodes : ℕ) → KeepsEpisodes (first_manager nodes)
-first_begun nodes = λ node. none_begun nodes node
 
 with_begun : (manager : ManagerRecord) (from : ℕ) (arrival : Arrival) → KeepsEpisodes manager → 1 ≤ arrival.episode
     → KeepsEpisodes (with_arrival manager from arrival)

@@ -13,10 +13,6 @@ module _ {A : Type 0} (w : WordHistory A) where
   pub writer_in : {xs : List A} (ys : List A) {a : A} {value : ℕ} → IsWriter w xs a value → Contains ys a → IsWriter w ys a value
   writer_in ys h there = record { member = there; wrote = h.wrote }
 
-  -- an interval wrote one value last
-  pub one_value : {xs ys : List A} {a : A} {u v : ℕ} → IsWriter w xs a u → IsWriter w ys a v → u ≡ v
-  one_value g h = let e = g.wrote in let f = h.wrote in cc
-
   pub zero_fits : Fits w 0 []
   zero_fits = record {
     weak = inl refl;

@@ -1,6 +1,6 @@
 -- A way along which waiting leads, step by step.
-use Rattle.std.proofs.Common.{◌≡◌, ◌∙◌, ◌<◌, ◌≤◌, ◌+◌, ◌-◌, ℕ, suc, List, [], ◌∷◌, ◌++◌, Option, Some, None, true, false, length, refl, sym, ap, arith, append-nil, append_assoc}
-use Rattle.std.specs.Prelude.{◌==◌, if◌then◌else◌, nat_lt, option_map, slice_index_or}
+use Rattle.std.proofs.Common.{◌≡◌, ◌∙◌, ◌<◌, ◌≤◌, ◌+◌, ◌-◌, ℕ, suc, List, [], ◌∷◌, ◌++◌, Option, Some, None, refl, sym, ap, arith, append-nil, append_assoc}
+use Rattle.std.specs.Prelude.{option_map, slice_index_or}
 use Rattle.std.proofs.lemmas.Bool.{eq-eqb, ne_eqb, lt-ltb, le-ltb}
 use Rattle.lrc_explain_waits.specs.Circles.{back_by, way_back}
 
@@ -8,10 +8,6 @@ use Rattle.lrc_explain_waits.specs.Circles.{back_by, way_back}
 abbrev pub behind : List ℕ → Option (List ℕ) → Option (List ℕ)
 behind way None = None
 behind way (Some more) = Some (way ++ more)
-
-pub behind_none : (more : Option (List ℕ)) → behind [] more ≡ more
-behind_none None = refl
-behind_none (Some more) = refl
 
 behind_one : (way : List ℕ) (next : ℕ) (more : Option (List ℕ)) → behind way (option_map (λ l. next ∷ l) more) ≡ behind (way ++ next ∷ []) more
 behind_one way next None = refl

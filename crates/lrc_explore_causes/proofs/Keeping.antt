@@ -34,12 +34,6 @@ module _ (run : List Act) (Stays : ℕ → Type 0) where
   unique (left more goes) (kept more' get' stays') = absurd (goes stays')
   unique (left more goes) (left more' goes') = unique more more'
 
-  -- there are no more than positions
-  pub few : {k : ℕ} {told : List Act} → Keeps run Stays k told → length told ≤ k
-  few beginning = omega arith
-  few (kept {position} {told} {act} more get stays) = let long = length_push told act in let less = few more in omega (arith, long, less)
-  few (left more goes) = let less = few more in omega (arith, less)
-
   -- an act that stays has its seat
   pub seat : {n : ℕ} {told : List Act} → Keeps run Stays n told → (k : ℕ) (act : Act) → k < n → slice_get run k ≡ Some act → Stays k
       → Seat run Stays k act told

@@ -1,13 +1,12 @@
 -- The outcome of a number, and a run that has it.
 use Rattle.std.proofs.Common.{◌≡◌, ℕ, zero, suc, ◌+◌, ◌<◌, ◌≤◌, List, [], ◌∷◌, inl, inr, length, map, sym, subst, ◌∙◌, ap, arith}
-use Rattle.std.specs.Prelude.{Contains, Option, Some, None, slice_get}
+use Rattle.std.specs.Prelude.{Contains, Some, None, slice_get}
 use Rattle.std.specs.List.{IsDistinct}
 use Rattle.std.specs.List.Sorted.{IsPermutation}
 use Rattle.std.proofs.lemmas.Bool.{cases_eq}
 use Rattle.std.proofs.lemmas.List.{get_or-map, length-map}
 use Rattle.std.proofs.lemmas.List.Sorted.{Contains-permutation, IsPermutation-sym, length_permutation}
 use Rattle.std.proofs.lemmas.Option.{get_or_from_slice_get, same_Some, slice_get_within}
-use Rattle.lrc_lang.specs.declared.program.Program.{Program}
 use Rattle.lrc_trace.specs.declared.act.Act.{Act}
 use Rattle.lrc_orders.specs.declared.outcomes.Outcome.{Outcome}
 use Rattle.lrc_orders.specs.contracts.outcomes.OutcomePartialEq.TheImpl.{eq-value}
@@ -19,7 +18,7 @@ use Rattle.lrc_explore.specs.declared.ended.Ended.{Ended}
 use Rattle.lrc_explore.specs.Ended.{AreEnded, IsRunFor, IsRunWith}
 use Rattle.lrc_text.specs.Parts.{texts_of}
 use Rattle.lrc_explore_text.proofs.Listed.{Part}
-use Rattle.lrc_explore_text.specs.OutcomeRun.{HasFewerOutcomes, HasNoLineBefore, IsNumberedAt, IsNumberedRun, IsRunAt, IsRunOfNumber}
+use Rattle.lrc_explore_text.specs.OutcomeRun.{HasFewerOutcomes, HasNoLineBefore, IsNumberedAt, IsNumberedRun, IsRunAt}
 use Rattle.lrc_explore_text.specs.Outcomes.{AreLinesOf, AreOutcomesOf, outcome_line}
 
 module _ (task : Task) (ended : Ended) (e : AreEnded task ended) where
@@ -51,12 +50,6 @@ module _ (task : Task) (ended : Ended) (e : AreEnded task ended) where
       there = at.there ∙ ap Some (sym at.at.is);
       run = run at.at.outcome at.at.there;
     }
-
--- the program of a task is this one
-pub of_program : (task : Task) (program : Program) (nodes number : ℕ) (o : Option (List Act)) → task.program.now ≡ program → task.flat.nodes ≡ nodes
-    → IsRunOfNumber task.program.now task.flat.nodes number o → IsRunOfNumber program nodes number o
-of_program task program nodes number o p n is =
-    subst (λ m. IsRunOfNumber program m number o) n (subst (λ q. IsRunOfNumber q task.flat.nodes number o) p is)
 
 -- where there is no line of this number there are fewer outcomes
 pub no_line : (nodes : ℕ) (outcomes : List Outcome) (lines : List (List ℕ)) (at number : ℕ) → AreLinesOf nodes outcomes lines → length lines ≤ at

@@ -6,7 +6,6 @@ use Rattle.std.proofs.lemmas.List.Elements.{All-cons, All-more, All-nil, All-pop
 use Rattle.lrc_trace.specs.declared.act.Act.{Act}
 use Rattle.lrc_trace.specs.Conflict.{Races, Reads, Writes}
 use Rattle.lrc_trace.proofs.Positions.{Does-within}
-use Rattle.lrc_judge.specs.Synchronization.{Breaks, IsFirstBreak, acquire, release, depart}
 use Rattle.lrc_judge.specs.Reading.{IsFirstMisread}
 use Rattle.lrc_judge.specs.InOrder.{IsFirstOutOfOrder}
 use Rattle.lrc_judge.specs.declared.in_order.OutOfOrder.{OutOfOrder}
@@ -15,14 +14,6 @@ use Rattle.lrc_judge.specs.declared.lanes.Pair.{Pair}
 use Rattle.lrc_acts.specs.ActsText.{SayActs, empty, more, none}
 use Rattle.lrc_acts.specs.declared.reading.ActsFault.{ActsFault}
 use Rattle.lrc_judge_text.specs.Judgement.{IsNodeCount}
-
-breaks_within : {nodes : ℕ} {run : List Act} {j : ℕ} → Breaks nodes run j → j < length run
-breaks_within (acquire d h) = Does-within d
-breaks_within (release d h) = Does-within d
-breaks_within (depart d h k) = Does-within d
-
-pub break_within : {nodes : ℕ} {run : List Act} {p : ℕ} → IsFirstBreak nodes run p → p < length run
-break_within h = breaks_within h.broken
 
 pub misread_within : {run : List Act} {p : ℕ} → IsFirstMisread run p → p < length run
 misread_within h = Does-within h.misread.read.1

@@ -16,9 +16,6 @@ use Rattle.lrc_labels.proofs.Names.{letter_iff}
 word_byte_iff : (byte : ℕ) → (is_word_byte byte ≡ true) ↔ IsLetterOrDigit byte
 word_byte_iff byte = search (rules, tests)
 
-spells : List ℕ → Keyword → Bool
-spells word keyword = bytes_eq (keyword_text keyword) word
-
 keyword_in : (word : List ℕ) (some : List Keyword) → list_any (λ keyword. bytes_eq (keyword_text keyword) word) some ≡ true → IsKeyword word
 keyword_in word [] h = absurd (cc)
 keyword_in word (keyword ∷ others) h = first (keyword_in word others) (bytes_eq (keyword_text keyword) word) refl h

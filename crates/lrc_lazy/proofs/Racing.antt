@@ -44,10 +44,6 @@ module _ (program : Program) (nodes : ℕ) where
     before : List Act
     before = take position run
 
-    long : length before ≡ position
-    unfolding before
-    long = let l = length-take position run in let lt = within in omega arith
-
     calm : (i j : ℕ) → Races before i j → ⊥
     unfolding before
     calm i j race =

@@ -74,12 +74,6 @@ module _ (run : List Act) (j word : ℕ) where
         ]
   ]
 
-  -- the value of the last such write, or 0
-  pub record Chosen : Type 0 where
-    pub value : ℕ
-    pub is : Greatest IsWrittenAt j ⊎ ((i : ℕ) → IsWrittenAt i → ⊥)
-    pub may : MayRead run j word value
-
   last_may : (i v : ℕ) → WrittenBefore run j word i v → ((k u : ℕ) → WrittenBefore run j word k u → k ≤ i) → MayRead run j word v
   last_may i v written last = record {
     weak = inr (i, written);

@@ -42,9 +42,6 @@ no_lock_read : (w v : ℕ) → IsNoLock (Read w v)
 no_lock_read w v = record { acquires_not = λ l e. cc; releases_not = λ l e. cc }
 
 module _ (program : Program) (nodes : ℕ) (acts : List Act) (machine : Plain) (knowledge : Knowledge) (s : Stands program nodes acts machine knowledge) where
-  j : ℕ
-  j = length acts
-
   -- the machine where no barrier is gone
   abbrev whole : Plain
   whole = advanced s.gone machine

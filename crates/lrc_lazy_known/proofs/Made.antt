@@ -3,7 +3,7 @@ use Rattle.std.proofs.Common.{◌≡◌, ℕ, zero, suc, ◌+◌, ◌<◌, ◌�
 use Rattle.std.specs.Prelude.{◌↔◌, ◌==◌, ◌&&◌, ◌||◌, if◌then◌else◌, Some, None, Contains, slice_get, slice_index_or, insert}
 use Rattle.std.proofs.lemmas.Bool.{cases_eq, cases_lt, eq-eqb, ne_eqb}
 use Rattle.std.proofs.lemmas.List.{length_push, get_or_past, get_or_default, take-append-drop}
-use Rattle.std.proofs.lemmas.List.Elements.{Contains-push_cases, Contains-append_left, Contains-append_right, Contains-append_cases}
+use Rattle.std.proofs.lemmas.List.Elements.{Contains-append_left, Contains-append_right, Contains-append_cases}
 use Rattle.std.proofs.lemmas.Option.{slice_get_past, slice_get_within, get_or_from_slice_get, same_Some}
 use Rattle.lrc_trace.proofs.Positions.{slice_get-front, slice_get-seam}
 use Rattle.lrc_lazy_known.specs.declared.known.Known.{Known}
@@ -21,9 +21,6 @@ get_at (x ∷ xs) zero lt = (x, refl)
 get_at (x ∷ xs) (suc k) lt = get_at xs k (omega arith)
 
 module _ {A : Type 0} (is : ℕ → A → Type 0) where
-  pub each_none : (xs : List A) → xs ≡ [] → AreEach is xs 0
-  each_none xs e = record { len = ap length e; each = λ k x at. let lt = slice_get_within xs k x at in let none = ap length e in absurd (omega arith) }
-
   pub each_push : (xs ys : List A) (n : ℕ) (y : A) → ys ≡ xs ++ y ∷ [] → AreEach is xs n → is n y → AreEach is ys (n + 1)
   each_push xs ys n y e all new =
       let count = all.len in
@@ -312,33 +309,11 @@ insert_values xs i x v =
       ],
     )
 
-pub push_values : (xs : List ℕ) (x v : ℕ) → Contains (xs ++ x ∷ []) v ↔ (Contains xs v ⊎ (v ≡ x))
-push_values xs x v = (
-  λ c. elim (Contains-push_cases xs x v c) [ inl a ↦ inl a | inr e ↦ inr (sym e) ],
-  λ c. elim c [
-    | inl a ↦ Contains-append_left xs (x ∷ []) v a
-    | inr e ↦ Contains-append_right xs (x ∷ []) v (0, omega arith, sym e)
-  ],
-)
-
--- a value that is there already
-pub there_values : (xs : List ℕ) (x v k : ℕ) → k < length xs → slice_index_or xs k x ≡ x → Contains xs v ↔ (Contains xs v ⊎ (v ≡ x))
-there_values xs x v k lt e = (
-  λ c. inl c,
-  λ c. elim c [ inl a ↦ a | inr same ↦ subst (λ y. Contains xs y) (sym same) (k, lt, e) ],
-)
-
 -- ---- values one after another
 
 -- the value is one of the first so many
 abbrev pub IsAmong : List ℕ → (count v : ℕ) → Type 0
 IsAmong xs count v = (k : ℕ) × (k < count) × (slice_index_or xs k v ≡ v)
-
-pub among_none : (own all more : List ℕ) → all ≡ own → (v : ℕ) → Contains all v ↔ (Contains own v ⊎ IsAmong more 0 v)
-among_none own all more e v = (
-  λ c. inl (subst (λ l. Contains l v) e c),
-  λ c. elim c [ inl a ↦ subst (λ l. Contains l v) (sym e) a | inr b ↦ absurd (omega (arith, b.1)) ],
-)
 
 pub among_more : (own before after more : List ℕ) (place x : ℕ) → place < length more → slice_index_or more place x ≡ x
     → ((v : ℕ) → Contains before v ↔ (Contains own v ⊎ IsAmong more place v))

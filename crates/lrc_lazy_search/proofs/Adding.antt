@@ -216,13 +216,6 @@ pub record Taken (keys all left : List LazyState) : Type 0 where
   pub is : all ≡ left ++ taken
   pub there : AreThere keys taken
 
-pub none_taken : (keys all : List LazyState) → Taken keys all all
-none_taken keys all = record { taken = []; is = sym (all_of all); there = λ k x at. cc }
-  where
-    all_of : (xs : List LazyState) → xs ++ [] ≡ xs
-    all_of [] = refl
-    all_of (x ∷ xs) = ap (λ ys. x ∷ ys) (all_of xs)
-
 behind : (xs ys : List LazyState) (x : LazyState) → (xs ++ x ∷ []) ++ ys ≡ xs ++ x ∷ ys
 behind [] ys x = refl
 behind (z ∷ xs) ys x = ap (λ l. z ∷ l) (behind xs ys x)
@@ -238,9 +231,6 @@ take_one old new all before after x e g has t = record {
     go : AreThere new (x ∷ t.taken)
     go zero y at = let same : x ≡ y = same_Some x y at in subst (HasKey new) same has
     go (suc k) y at = key_on g (t.there k y at)
-
-pub all_taken : (keys all left : List LazyState) → left ≡ [] → Taken keys all left → AreThere keys all
-all_taken keys all left none t k x at = t.there k x (sym (ap (λ l. slice_get l k) (t.is ∙ ap (λ l. l ++ t.taken) none)) ∙ at)
 
 -- the states that are taken from the end are among all
 pub item_of : (keys all before after : List LazyState) (x : LazyState) → before ≡ after ++ x ∷ [] → Taken keys all before

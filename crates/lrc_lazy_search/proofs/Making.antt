@@ -5,7 +5,7 @@ use Rattle.std.proofs.lemmas.Bool.{cases_lt}
 use Rattle.std.proofs.lemmas.List.{get_or-set_same, length-set, length-map}
 use Rattle.std.proofs.lemmas.Option.{same_Some, slice_get_within, get_or_from_slice_get}
 use Rattle.lrc_trace.specs.declared.act.Deed.{Deed}
-use Rattle.lrc_trace.specs.declared.act.Deed.TheVariants.{Read, Acquire}
+use Rattle.lrc_trace.specs.declared.act.Deed.TheVariants.{Read}
 use Rattle.lrc_exec.specs.declared.spot.Flat.{Flat}
 use Rattle.lrc_exec.specs.Meaning.{Thread, Next, next_of}
 use Rattle.lrc_exec.specs.Plain.{Plain, thread_in, plain_step}
@@ -136,12 +136,6 @@ module _ (flat : Flat) (key : LazyState) (fit : IsFit flat key) (node : ℕ) whe
             subst (λ a. Gives (word_of key.knowledge a) node y) word_is (subst (λ b. Gives (word_of key.knowledge w) node b) value_is gives);
       }
 
-  -- none where the machine makes none
-  pub none_can : option_map (λ (s : Deed × Plain). s.0) (plain_step machine node) ≡ None → (d : Deed) → CanMake flat.words machine key.knowledge node d → ⊥
-  none_can none d can =
-      let too = made_too machine can.memory words node d can.after can.made in
-      let never : ◌≡◌ {A = Option Deed} None (Some too.deed) = sym none ∙ ap (option_map (λ (s : Deed × Plain). s.0)) too.made in cc
-
   -- the step whose deed is this
   step_of : (d : Deed) → option_map (λ (s : Deed × Plain). s.0) (plain_step machine node) ≡ Some d → (after : Plain) × (plain_step machine node ≡ Some (d, after))
   step_of d e = go (plain_step machine node) refl
@@ -260,18 +254,6 @@ module _ (flat : Flat) (key : LazyState) (fit : IsFit flat key) (node : ℕ) whe
       let g = some_given (last_of word node) (values_of word node) in
       record { deed = Read w g.0; can = read_made flat key fit node w u g.0 s.0 s.1 g.1; free = λ l e. cc }
   front_can deed is free = record { deed = deed; can = one_sound flat key fit node deed is (λ w u e. cc) 0 deed refl; free = free }
-
-  pub front_waits : (l : ℕ) → next ≡ Some (Acquire l) → IsInFront flat key node → ⊥
-  front_waits l is f =
-      let found = one_all flat key fit node (Acquire l) is (λ w u e. cc) f.deed f.can in
-      only found.0 found.1
-    where
-      only : (k : ℕ) → slice_get (Acquire l ∷ []) k ≡ Some f.deed → ⊥
-      only zero e = f.free l (sym (same_Some (Acquire l) f.deed e))
-      only (suc k) e = cc
-
-  pub front_none : next ≡ None → IsInFront flat key node → ⊥
-  front_none none f = none_can flat key fit node none f.deed f.can
 
 pub poked_long : (d : Deed) (memory : List ℕ) → length (poked d memory) ≡ length memory
 poked_long (Read w v) memory = length-set memory w v

@@ -1,18 +1,17 @@
 -- States that are written in the one way, and count no barriers that are gone.
 use Rattle.std.proofs.Common.{◌≡◌, ℕ, zero, suc, ◌<◌, ◌-◌, List, [], ◌∷◌, ◌++◌, false, map, replicate, refl, sym, subst, ◌∙◌, ap, arith}
 use Rattle.std.specs.Prelude.{Some, slice_index, slice_set, if◌then◌else◌}
-use Rattle.std.proofs.lemmas.List.{get_or-map, get_or-replicate}
+use Rattle.std.proofs.lemmas.List.{get_or-map}
 use Rattle.lrc_trace.specs.declared.act.Deed.{Deed}
 use Rattle.lrc_trace.specs.declared.act.Deed.TheVariants.{Read, Write}
 use Rattle.lrc_exec.specs.declared.spot.Flat.{Flat}
 use Rattle.lrc_exec.specs.declared.state.State.{State}
 use Rattle.lrc_exec.specs.Plain.{Plain, plain_step, thread_in}
 use Rattle.lrc_exec.specs.Spots.{spot_thread}
-use Rattle.lrc_exec.specs.States.{plain_at, IsFirst, IsStateOf}
+use Rattle.lrc_exec.specs.States.{plain_at, IsStateOf}
 use Rattle.lrc_orders.proofs.Effects.{memory_after}
 use Rattle.lrc_orders.proofs.Gathering.{put_all}
 use Rattle.lrc_orders_laws.proofs.Parts.{stepped}
-use Rattle.lrc_lazy_known.specs.Tidy.{IsTidy}
 use Rattle.lrc_lazy.specs.Standing.{departures_of, is_waiting}
 use Rattle.lrc_lazy_search.specs.declared.state.LazyState.{LazyState}
 use Rattle.lrc_lazy_search.specs.Searching.{poked, blanked, AreNeat, CountNoneGone, CountsNoneGone, IsBlank, IsNeat}
@@ -39,16 +38,7 @@ blank_after flat before mid made after node d poke make blank zeros =
     ∙ ap (blanked d) (ap (λ (m : Plain). m.memory) s.took.is ∙ ap (memory_after d) (poke ∙ ap (poked d) zeros))
     ∙ zeros_stay d flat.words
 
-pub first_neat : (flat : Flat) (place : ℕ) (key : LazyState) → IsFirst flat place key.state → IsTidy key.knowledge → IsNeat flat key
-first_neat flat place key first tidy = record { blank = ap (λ (m : Plain). m.memory) first.begun; tidy = tidy }
-
 -- ---- barriers that are gone
-
-pub first_left : (flat : Flat) (place : ℕ) (key : LazyState) → IsFirst flat place key.state → 0 < flat.nodes → CountsNoneGone flat key
-first_left flat place key first some =
-    let is = ap (λ (m : Plain). slice_index m.arrivals 0) first.begun in
-    let none = get_or-replicate {A = ℕ} flat.nodes 0 0 0 some in
-    record { node = 0; within = some; none = omega (arith, is, none) }
 
 -- where the counts are lowered by the least number of departures, none are left of its node
 pub none_left : (flat : Flat) (key after : LazyState) (by node : ℕ) → IsStateOf flat key.state → node < flat.nodes
@@ -64,9 +54,6 @@ none_left flat key after by node valid within least arrivals spots =
 
 pub none_neat : (flat : Flat) (keys : List LazyState) → keys ≡ [] → AreNeat flat keys
 none_neat flat keys none = subst (AreNeat flat) (sym none) (λ k x at. cc)
-
-pub none_count : (flat : Flat) (keys : List LazyState) → keys ≡ [] → CountNoneGone flat keys
-none_count flat keys none = subst (CountNoneGone flat) (sym none) (λ k x at. cc)
 
 pub neat_push : (flat : Flat) (key : LazyState) (old new : List LazyState) → new ≡ old ++ key ∷ [] → AreNeat flat old → IsNeat flat key → AreNeat flat new
 neat_push flat key old new e all this = put_all (λ k x. IsNeat flat x) false old new key e all this

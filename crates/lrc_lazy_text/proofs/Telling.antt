@@ -1,8 +1,7 @@
 -- What is told of the outcomes of lazy runs.
-use Rattle.std.proofs.Common.{◌≡◌, ℕ, List, length, sym, subst, ◌∙◌, ap}
-use Rattle.std.specs.Prelude.{◌↔◌, Option, Some, None, slice_get}
+use Rattle.std.proofs.Common.{◌≡◌, ℕ, List, sym, subst, ◌∙◌, ap}
+use Rattle.std.specs.Prelude.{◌↔◌, Some, None, slice_get}
 use Rattle.std.specs.List.{IsDistinct}
-use Rattle.std.proofs.lemmas.List.{length-replicate}
 use Rattle.std.proofs.lemmas.Option.{same_Some}
 use Rattle.lrc_lang.specs.declared.program.Program.{Program}
 use Rattle.lrc_trace.specs.declared.act.Act.{Act}
@@ -12,7 +11,7 @@ use Rattle.lrc_orders.specs.Outcome.{HasOutcome}
 use Rattle.lrc_explore_text.specs.OutcomeRun.{IsNumberedAt}
 use Rattle.lrc_lazy.specs.Lazy.{IsLazyOutcome}
 use Rattle.lrc_lazy_run.specs.Ended.{IsEndedLazyRun, IsLazyRunFor}
-use Rattle.lrc_lazy_text.specs.Listed.{AreLazyOutcomes, AreSeedsFor}
+use Rattle.lrc_lazy_text.specs.Listed.{AreLazyOutcomes}
 use Rattle.lrc_lazy_text.specs.One.{IsLazyRunAt, IsNumberedLazyRun}
 
 -- the search finds exactly the outcomes, each once
@@ -20,12 +19,6 @@ pub outcomes_found : (program : Program) (nodes : ℕ) (found outcomes : List Ou
     → ((notes : List Act) → IsLazyOutcome program nodes notes ↔ HasOutcome found notes) → IsDistinct eq-value.it found → AreLazyOutcomes program nodes outcomes
 outcomes_found program nodes found outcomes is exact once =
     subst (λ l. AreLazyOutcomes program nodes l) (sym is) (record { exact = λ notes. ((exact notes).1, (exact notes).0); once = once })
-
--- each outcome has a seed or none
-pub as_many_seeds : (program : Program) (nodes : ℕ) (tries : Option ℕ) (outcomes : List Outcome) (seeds : List (Option ℕ))
-    → AreSeedsFor program nodes tries outcomes seeds → length seeds ≡ length outcomes
-as_many_seeds program nodes (Some tries) outcomes seeds are = are.count
-as_many_seeds program nodes None outcomes seeds are = ap length are ∙ length-replicate (length outcomes) None
 
 module _ (program : Program) (nodes : ℕ) (outcomes : List Outcome) (are : AreLazyOutcomes program nodes outcomes) where
   module _ (place : ℕ) (own : Outcome) (there : slice_get outcomes place ≡ Some own) (notes : List Act) (is : notes ≡ own.notes.items) where

@@ -1,16 +1,14 @@
 -- What is still to do once a statement is passed.
-use Rattle.std.proofs.Common.{◌≡◌, ℕ, suc, ◌+◌, ◌-◌, ◌<◌, ◌≤◌, Bool, true, false, List, [], ◌∷◌, ◌++◌, Some, None, refl, sym, ap, ◌∙◌, arith}
+use Rattle.std.proofs.Common.{◌≡◌, ℕ, ◌+◌, ◌-◌, ◌<◌, ◌≤◌, Bool, true, false, List, [], ◌∷◌, ◌++◌, refl, sym, ap, ◌∙◌, arith}
 use Rattle.std.proofs.Common.{get_or, take, length, drop, fold}
-use Rattle.std.specs.Prelude.{slice_get, slice_index_or}
 use Rattle.std.proofs.lemmas.List.{take_more}
-use Rattle.std.proofs.lemmas.Option.{same_Some, slice_get-get_or}
 use Rattle.lrc_lang.specs.declared.program.Statement.{Statement, Row_of-Statement, end_of-Statement, more_of-Statement}
 use Rattle.lrc_lang.specs.declared.program.Statement.TheBlock.{hidden-the_row-Statement-0}
 use Rattle.lrc_lang.specs.declared.program.Statement.TheVariants.{Assign, Read, Write, Acquire, Release, Barrier, Print, If', While', If, While}
 use Rattle.lrc_exec.specs.Meaning.{block}
 use Rattle.lrc_exec.proofs.Flat.{if_made, while_made, block-items}
 use Rattle.lrc_lines.specs.declared.way.Stretch.{Stretch}
-use Rattle.lrc_lines.specs.Tasks.{Task, behind, behind_block, tasks, beyond, passed, next_line}
+use Rattle.lrc_lines.specs.Tasks.{Task, behind, behind_block, tasks, beyond, passed}
 use Rattle.lrc_lines.specs.Ways.{tasks_of, todo_of}
 
 -- ---- lines
@@ -72,24 +70,6 @@ todo_of_opened (x ∷ xs) lines all items s some first_is others_is lines_is is 
     ∙ ap (λ l. tasks (s.first.now ∷ s.others.now) l ++ todo_of items) lines_is
     ∙ ap (λ first. tasks (first ∷ s.others.now) lines ++ todo_of items) first_is
     ∙ ap (λ others. tasks (x ∷ others) lines ++ todo_of items) others_is
-
--- the last stretch gives the line
-pub last_line : (end : ℕ) (outer : List Task) (items : List Stretch) (s : Stretch) → slice_get items (length items - 1) ≡ Some s →
-    next_line end (fold (λ around t. tasks_of t ++ around) outer items) ≡ slice_index_or s.lines.now 0 end
-last_line end outer [] s is = cc
-last_line end outer (x ∷ []) s is =
-    let place : length (x ∷ []) - 1 ≡ 0 = omega arith in
-    ap (λ (t : Stretch). slice_index_or t.lines.now 0 end) (same_Some x s (sym (ap (slice_get (x ∷ [])) place) ∙ is))
-last_line end outer (x ∷ y ∷ rest) s is =
-    let place : length (x ∷ y ∷ rest) - 1 ≡ suc (length (y ∷ rest) - 1) = omega arith in
-    last_line end (tasks_of x ++ outer) (y ∷ rest) s (sym (ap (slice_get (x ∷ y ∷ rest)) place) ∙ is)
-
--- where there is no last one, there is none
-pub no_last : (items : List Stretch) → slice_get items (length items - 1) ≡ None → items ≡ []
-no_last [] is = refl
-no_last (x ∷ rest) is =
-    let there = slice_get-get_or (x ∷ rest) (length (x ∷ rest) - 1) x (omega arith) in
-    cc
 
 -- what comes behind the first statement of a stretch and of those around it
 abbrev pub rest_of : Stretch → List Stretch → List Task

@@ -1,7 +1,6 @@
 -- What is told of a fault, from what was found.
-use Rattle.std.proofs.Common.{◌≡◌, ◌<◌, ◌+◌, ℕ, zero, suc, true, false, cond, List, [], ◌∷◌, ◌++◌, length, map, get_or, take, drop, Option, Some, None, MatchOption, Result, Ok, Err, OnOk, IfOk, refl, sym, ap, ◌∙◌}
-use Rattle.std.proofs.Common.{arith, length-append, append_assoc, append-nil}
-use Rattle.std.proofs.lemmas.List.{length-map, take_more, drop_more}
+use Rattle.std.proofs.Common.{◌≡◌, ◌+◌, ℕ, zero, suc, List, [], ◌∷◌, ◌++◌, length, map, get_or, Option, Some, None, MatchOption, Result, Ok, Err, OnOk, IfOk, refl, sym, ap, ◌∙◌}
+use Rattle.std.proofs.Common.{append_assoc}
 use Rattle.lrc_lang.specs.declared.fault.FaultKind.{FaultKind}
 use Rattle.lrc_lang.specs.declared.kind.Kind.{Kind}
 use Rattle.lrc_lang.specs.declared.positions.Located as code_located
@@ -9,34 +8,9 @@ use Rattle.lrc_lang.specs.FirstFault.{IsFirstFaultOf}
 use Rattle.lrc_lang.specs.Parser.Located.{located_of}
 use Rattle.lrc_lang.specs.Positions.{HasLocated}
 use Rattle.lrc_lint_fault.specs.declared.hint.Hint.{Hint}
-use Rattle.lrc_lint_fault.specs.Told.{is_digit, digits_of, fault_lines, TellsFault}
-
--- ---- digits
-
-pub digits_behind : (text : List ℕ) (i : ℕ) → i < length text → digits_of text ≡ take i text ++ digits_of (drop i text) → is_digit (get_or text i 0) ≡ true
-    → digits_of text ≡ take (i + 1) text ++ digits_of (drop (i + 1) text)
-digits_behind text i within so_far is =
-    let byte = get_or text i 0 in
-    let here : digits_of (drop i text) ≡ byte ∷ digits_of (drop (i + 1) text) =
-    ap digits_of (drop_more text i 0 within) ∙ ap (λ b. cond b (byte ∷ digits_of (drop (i + 1) text)) []) is in
-    so_far ∙ ap (λ ds. take i text ++ ds) here ∙ sym (append_assoc (take i text) (byte ∷ []) (digits_of (drop (i + 1) text)))
-    ∙ ap (λ front. front ++ digits_of (drop (i + 1) text)) (sym (take_more text i 0 within))
-
-pub digits_end : (text : List ℕ) (i : ℕ) → i < length text → digits_of text ≡ take i text ++ digits_of (drop i text) → is_digit (get_or text i 0) ≡ false
-    → take i text ≡ digits_of text
-digits_end text i within so_far other =
-    let byte = get_or text i 0 in
-    let here : digits_of (drop i text) ≡ [] =
-    ap digits_of (drop_more text i 0 within) ∙ ap (λ b. cond b (byte ∷ digits_of (drop (i + 1) text)) []) other in
-    sym (so_far ∙ ap (λ ds. take i text ++ ds) here ∙ append-nil (take i text))
+use Rattle.lrc_lint_fault.specs.Told.{fault_lines, TellsFault}
 
 -- ---- the place of the fault
-
-pub within_all : (xs : List code_located.Located) (i : ℕ) (kind : FaultKind) (some : List Kind) → IsFirstFaultOf (map located_of xs) i kind some → i < length xs
-within_all xs i kind some first =
-    let h = first.has in
-    let long = simp (length-map, length-append) at (ap length h.split) in
-    omega (arith, long, h.place)
 
 item_behind : {A : Type 0} (front : List A) (found d : A) (others : List A) → get_or (front ++ found ∷ others) (length front) d ≡ found
 item_behind [] found d others = refl

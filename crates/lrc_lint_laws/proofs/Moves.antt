@@ -71,9 +71,6 @@ module _ (value : ℕ) (t : Thread) where
   stuck : (task : Task) (more todo : List Task) (cause : _) → Leads task more todo (traps cause)
   stuck task more todo cause goes = cc
 
-  kept : Keeps t t
-  kept = record { setting = refl; held = refl }
-
   leads : (s : Statement) (lines : List ℕ) (more : List Task)
       → Leads (record { statement = s; lines = lines }) more (beyond (first_is_met t (s ∷ statements more)) s lines more) (next_of_statement t s (statements more))
   leads (Assign name e) lines more =

@@ -66,23 +66,6 @@ any_more seen test items i x lt here =
     ∙ list_any-append test (map seen (take i items)) (seen (get_or items i x) ∷ [])
     ∙ ap (λ (b : Bool). list_any test (map seen (take i items)) || b) (or_false (test (seen (get_or items i x))) ∙ ap (λ (y : _). test (seen y)) (sym here))
 
-module _ {A S : Type 0} (seen : A → S) (test : S → Bool) (items : List A) where
-  all_from : (i : ℕ) (x : A) → i < length items → x ≡ get_or items i x
-      → list_all test (map seen (drop i items)) ≡ (test (seen x) && list_all test (map seen (drop (i + 1) items)))
-  all_from i x lt here =
-      ap (λ (l : List A). list_all test (map seen l)) (drop_more items i x lt)
-      ∙ ap (λ (y : A). test (seen y) && list_all test (map seen (drop (i + 1) items))) (sym here)
-
-  pub all_later : (i : ℕ) (x : A) → i < length items → x ≡ get_or items i x → test (seen x) ≡ true
-      → list_all test (map seen (drop i items)) ≡ list_all test (map seen (drop (i + 1) items))
-  all_later i x lt here holds = all_from i x lt here ∙ ap (λ (b : Bool). b && list_all test (map seen (drop (i + 1) items))) holds
-
-  pub all_fails : (i : ℕ) (x : A) → i < length items → x ≡ get_or items i x → test (seen x) ≡ false → list_all test (map seen (drop i items)) ≡ false
-  all_fails i x lt here fails = all_from i x lt here ∙ ap (λ (b : Bool). b && list_all test (map seen (drop (i + 1) items))) fails
-
-  pub all_done : (i : ℕ) → length items ≤ i → list_all test (map seen (drop i items)) ≡ true
-  all_done i past = ap (λ (l : List A). list_all test (map seen l)) (drop_all i items past)
-
 pub any_same : {A : Type 0} (p q : A → Bool) → ((x : A) → p x ≡ q x) → (items : List A) → list_any p items ≡ list_any q items
 any_same p q same [] = refl
 any_same p q same (x ∷ others) = ap (λ (b : Bool). b || list_any p others) (same x) ∙ ap (λ (b : Bool). q x || b) (any_same p q same others)

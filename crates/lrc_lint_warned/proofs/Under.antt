@@ -42,10 +42,6 @@ paths_more path (first ∷ others) s =
     ap (λ l. path ∷ (paths_within path (statement_of first) ++ l)) (paths_more after others s)
     ∙ ap (λ l. path ∷ l) (sym (append_assoc (paths_within path (statement_of first)) (paths after (block_of others)) (last ∷ paths_within last (statement_of s))))
 
-module _ (side : Side) (lock : ℕ) where
-  tested : List Path → List Bool
-  tested = map (is_under side lock)
-
 -- the statements of a block, one after another
 module _ (side : Side) (lock : ℕ) (block : List Statement) (path : Path) where
   pub one_later : (i : ℕ) (s : Statement) (old now after : List Bool) → i < length block → s ≡ get_or block i s

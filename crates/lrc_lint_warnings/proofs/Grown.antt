@@ -1,19 +1,10 @@
 -- Lists that grow by one item for each, and what a sort by a key ensures.
-use Rattle.std.proofs.Common.{◌≡◌, ◌∙◌, ◌<◌, ◌+◌, ℕ, ap, sym, subst, List, [], ◌∷◌, ◌++◌, length, map, take, get_or, append_assoc}
+use Rattle.std.proofs.Common.{◌≡◌, ℕ, subst, List}
 use Rattle.std.specs.Prelude.{IfOk, Result}
-use Rattle.std.proofs.lemmas.List.{map_more}
 use Rattle.lrc_lang.specs.Statements.{Block}
 use Rattle.lrc_lint_warned.specs.declared.found.Found.{Found}
 use Rattle.lrc_lint_warned.specs.Found.{NodeAt, StatementAt}
 use Rattle.lrc_lint_warnings.specs.Collected.{all_of}
-
-module _ {A B : Type 0} (of : A → B) (items : List A) where
-  pub mapped_more : (i : ℕ) (d : A) (old now next : List B) → i < length items → now ≡ old ++ map of (take i items)
-      → next ≡ now ++ of (get_or items i d) ∷ [] → next ≡ old ++ map of (take (i + 1) items)
-  mapped_more i d old now next lt is more =
-      more ∙ ap (λ l. l ++ of (get_or items i d) ∷ []) is
-      ∙ append_assoc old (map of (take i items)) (of (get_or items i d) ∷ [])
-      ∙ ap (λ l. old ++ l) (sym (map_more of items i d lt))
 
 pub all_same : {R E : Type 0} (items_of : R → List Found) (result : Result R E) (nodes other_nodes : List NodeAt)
     (statements other_statements : List StatementAt) (b other : Block) (words words_too locks locks_too : ℕ)

@@ -16,10 +16,6 @@ use Rattle.lrc_mail.specs.Sent.{AreCounts, number_after}
 abbrev pub behind : List EnvelopeRecord → Option (List EnvelopeRecord × List ℕ) → Option (List EnvelopeRecord × List ℕ)
 behind before rest = option_map (λ more. (before ++ more.0, more.1)) rest
 
-behind-none : (o : Option (List EnvelopeRecord × List ℕ)) → o ≡ behind [] o
-behind-none None = refl
-behind-none (Some (out, sent)) = refl
-
 behind-more : (out : List EnvelopeRecord) (e : EnvelopeRecord) (o : Option (List EnvelopeRecord × List ℕ))
     → behind out (option_map (λ more. (e ∷ more.0, more.1)) o) ≡ behind (out ++ e ∷ []) o
 behind-more out e None = refl
@@ -30,10 +26,6 @@ pub record Midway (me first : ℕ) (start : List ℕ) (all : List Letter) (sent 
   pub counts : AreCounts sent
   pub to : All (λ letter. letter.to < length sent) rest
   pub same : numbered me first start all ≡ behind out (numbered me first sent rest)
-
-pub begins : (me first : ℕ) (start : List ℕ) (all : List Letter) → AreCounts start → All (λ letter. letter.to < length start) all
-    → Midway me first start all start [] all
-begins me first start all counts to = record { counts = counts; to = to; same = behind-none (numbered me first start all) }
 
 -- one letter more
 goes_on : (me first : ℕ) (sent : List ℕ) (out : List EnvelopeRecord) (letter : Letter) (rest : List Letter) (number : ℕ) (b : Bool)

@@ -77,9 +77,6 @@ length-swept kept =
     ∙ length-map (with_each kept.table without_twin).copies dropped ∙ length-map kept.table.copies without_twin
 
 module _ (kept : Kept) where
-  old : ℕ → PageCopy
-  old page = copy_at kept.table page
-
   abbrev clean : ℕ → PageCopy
   clean page = dropped (without_twin (copy_at kept.table page))
 

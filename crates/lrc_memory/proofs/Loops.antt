@@ -98,11 +98,6 @@ drop_ends me keepers old new i past so_far =
 
 -- ---- changes written into a copy, key by key
 
-pub patch_starts : (store : StoreRecord) (table : Table) (page : ℕ) → page < length table.copies
-    → table ≡ with_copy table page (patched_with store (copy_at table page) [])
-patch_starts store table page within =
-    ap (λ (cs : List PageCopy). record table { copies = cs }) (sym (set-get_or table.copies page (fresh [])))
-
 patched-more : (store : StoreRecord) (copy : PageCopy) (keys : List Key) (i : ℕ) (d : Key) → i < length keys
     → patched_with store copy (take (i + 1) keys) ≡ patched (patched_with store copy (take i keys)) (changes_or_none store (get_or keys i d))
 patched-more store copy keys i d within =

@@ -22,12 +22,6 @@ changed_more f [] i d h = absurd (omega (arith, h))
 changed_more f (x ∷ xs) zero d h = refl
 changed_more f (x ∷ xs) (suc i) d h = ap (λ l. f x ∷ l) (changed_more f xs i d (omega (arith, h)))
 
-pub changed_all : {X : Type 0} (f : X → X) (xs : List X) (i : ℕ) → length xs ≡ i → map f (take i xs) ++ drop i xs ≡ map f xs
-changed_all f [] zero h = refl
-changed_all f [] (suc i) h = cc
-changed_all f (x ∷ xs) zero h = cc
-changed_all f (x ∷ xs) (suc i) h = ap (λ l. f x ∷ l) (changed_all f xs i (omega (arith, h)))
-
 -- ---- one element changed
 
 -- what changes nothing that passes a test

@@ -9,42 +9,14 @@ use Rattle.lrc_exec.specs.declared.machine.Ask.TheVariants.{End as Ask_End}
 use Rattle.lrc_envelope.specs.Envelope.{EnvelopeRecord}
 use Rattle.lrc_exec.specs.Ask.{ask_of}
 use Rattle.lrc_exec.specs.Meaning.{Thread, Next, quiet, prints, reads, writes, acquires, releases, arrives, departs, traps, ends, next_of}
-use Rattle.lrc_protocol.specs.Node.{Course, going, trapped, ended, deed_of, course_of, Letter, is_idle, Node, Effect, acts, acts_by, makes}
+use Rattle.lrc_protocol.specs.Node.{Course, going, trapped, ended, is_idle, Node, Effect, acts}
 use Rattle.lrc_protocol.specs.Turn.{begins_of, begins, may_begin, run_effect, charged, run_turn, turn_by, turn_or, turn_of, turn_with}
 use Rattle.lrc_protocol.specs.Turn.{Outcome, not_ready, worn}
 use Rattle.lrc_control.specs.Text.{asked_in, cost_to_begin}
-use Rattle.lrc_node.specs.Effects.{value_asked, memory_asked, acted, deed_next, effect_asked, begun_node, turn_asked}
+use Rattle.lrc_node.specs.Effects.{effect_asked, begun_node, turn_asked}
 use Rattle.lrc_node.specs.Effects.{CanBegin, RefusesRun, too_large, without_memory}
 use Rattle.lrc_node.specs.declared.fault.NodeFault.{NodeFault}
 use Rattle.lrc_node.specs.declared.fault.NodeFault.TheVariants.{Worn, NoMemory}
-
--- ---- acts
-
-made : (letters : List Letter) (node : Node) (next : Next) → makes letters node next ≡ record {
-  deed = Some (deed_of (value_asked node (Some (ask_of next))) next);
-  letters = letters;
-  node = record node { course = course_of (value_asked node (Some (ask_of next))) next; memory = memory_asked node (Some (ask_of next)) };
-}
-made letters node (quiet after) = refl
-made letters node (prints value after) = refl
-made letters node (reads word after) = refl
-made letters node (writes word value after) = refl
-made letters node (acquires lock after) = refl
-made letters node (releases lock after) = refl
-made letters node (arrives after) = refl
-made letters node (departs after) = refl
-made letters node (traps cause) = refl
-made letters node ends = refl
-
-acts_on : (letters : List Letter) (node : Node) (course : Course) → acts_by letters (record node { course = course }) course
-    ≡ record { deed = deed_next (record node { course = course }); letters = letters; node = acted (record node { course = course }) }
-acts_on letters node (going thread) = made letters (record node { course = going thread }) (next_of thread)
-acts_on letters node (trapped cause) = refl
-acts_on letters node ended = refl
-
--- what the node does when its text makes its next deed
-pub acts_is : (letters : List Letter) (node : Node) → acts letters node ≡ record { deed = deed_next node; letters = letters; node = acted node }
-acts_is letters node = acts_on letters node node.course
 
 -- ---- what is begun
 

@@ -1,8 +1,7 @@
 -- Misses: what a page needs, and that it can be read once it is repaired.
-use Rattle.std.proofs.Common.{◌≡◌, ℕ, ◌<◌, Bool, true, false, List, [], length, refl, sym, ◌∙◌, ap}
+use Rattle.std.proofs.Common.{◌≡◌, ℕ, ◌<◌, Bool, true, false, List, [], refl, sym, ◌∙◌, ap}
 use Rattle.std.specs.Prelude.{Option, Some, None, All, not, if◌then◌else◌}
 use Rattle.std.proofs.lemmas.Bool.{and_parts}
-use Rattle.std.proofs.lemmas.List.{get_or-set_same}
 use Rattle.std.proofs.lemmas.List.Elements.{All-map, All-nil}
 use Rattle.lrc_page.specs.declared.size.Size.{Size}
 use Rattle.lrc_exec.specs.declared.machine.Ask.{Ask}
@@ -47,10 +46,6 @@ pub fits_at_once : (size : Size) (nodes : ℕ) (memory : Memory) (page : ℕ) �
 fits_at_once size nodes memory page r met =
     fits size (keeper_at memory page) (copy_at memory page) r
     (not_true (is_due (base_of (keeper_at memory page) (copy_at memory page))) (and_parts _ _ met).0)
-
--- a page that is repaired can be read
-pub readable_mended : (memory : Memory) (need : Need) → need.page < length memory.copies → is_readable (copy_at (repaired memory need) need.page) ≡ true
-readable_mended memory need within = ap is_readable (get_or-set_same memory.copies need.page _ absent within)
 
 -- with its page readable an access can be made
 pub can_access : (node : Node) (memory : Memory) (page : ℕ) (ask : Option Ask) → AccessesPage node page ask → is_readable (copy_at memory page) ≡ true

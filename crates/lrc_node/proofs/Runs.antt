@@ -98,17 +98,6 @@ between-broken xs x rest q above last upto is own differ =
 
 -- ---- all nodes
 
--- at the start none has come
-pub runs-none : (known : List ℕ) → AreUnbroken known [] known
-runs-none known = record {
-  counted = refl;
-  each = λ q. record {
-    risen = omega arith;
-    run = let none : entry known q - entry known q ≡ 0 = omega arith in
-        sym (ap (range_with_len (entry known q + 1)) none);
-  };
-}
-
 pub runs-more : (known : List ℕ) (xs : List IntervalRecord) (x : IntervalRecord) (reached : List ℕ) → AreUnbroken known xs reached
     → x.node < length known → index_of x ≡ entry reached x.node + 1 → AreUnbroken known (xs ++ x ∷ []) (set reached x.node (index_of x))
 runs-more known xs x reached are within next = record {

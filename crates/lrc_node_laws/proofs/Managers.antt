@@ -9,11 +9,6 @@ use Rattle.lrc_barrier.specs.Barrier.{ManagerRecord, ArriveStep, refuses, waits,
 use Rattle.lrc_barrier.specs.Barrier.{arrivals_of, is_next, has_arrived, after_arrive, CleanStep, refuses_clean, awaits, discards, cleaned, cleaned_by}
 use Rattle.lrc_barrier.specs.Barrier.{cleaned_with, after_clean}
 
-accepted-many : (manager : ManagerRecord) (b : Bool)
-    → length (after_arrive manager (if b then departs (departures_of (arrivals_of manager)) (departed manager) else waits manager)).last ≡ length manager.last
-accepted-many manager true = refl
-accepted-many manager false = refl
-
 -- what was accepted goes on with the manager that has one more arrival
 arrived_by : (manager : ManagerRecord) (from : ℕ) (arrival : Arrival) (next here : Bool)
     → length (after_arrive manager (if next then (if here then refuses Twice else accepted (with_arrival manager from arrival)) else refuses WrongEpisode)).last

@@ -74,9 +74,6 @@ no_place : (b : Bool) → cond {A = ℕ} b 1 0 ≡ 0 → b ≡ false
 no_place true e = absurd (omega (arith, e))
 no_place false e = refl
 
-waits_to_depart : (w : Wait) → 1 ≤ awaits_depart w → awaits_departure w ≡ true
-waits_to_depart w some = ap awaits_departure (waits_for_departure w some)
-
 waits_to_discard : (w : Wait) → 1 ≤ awaits_word w → awaits_discard w ≡ true
 waits_to_discard (discard collection) some = refl
 waits_to_discard nothing some = absurd (omega (arith, some))

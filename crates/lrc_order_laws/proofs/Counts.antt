@@ -72,10 +72,6 @@ access_next (Some (reads w t)) e = (reads w t, (refl, refl))
 access_next (Some (writes w v t)) e = (writes w v t, (refl, refl))
 access_next _ e = cc
 
--- a test of deeds that synchronize
-pub record Synchronizing (test : Deed → Bool) : Type 0 where
-  pub plain_number : (value : ℕ) (next : Next) → is_plain next ≡ true → number test (Some (deed_of value next)) ≡ 0
-
 closes-plain : (value : ℕ) (next : Next) → is_plain next ≡ true → number closes (Some (deed_of value next)) ≡ 0
 closes-plain value (acquires l t) e = cc
 closes-plain value (releases l t) e = cc

@@ -99,10 +99,6 @@ noting_same o before after at same = λ manager is. record {
 -- ---- every turn
 
 module _ (s : Site) where
-  -- who waited so waited for no departure
-  not_departing : (w : Wait) {X : Type 0} → s.wait ≡ w → (w ≡ departure → ⊥) → s.wait ≡ departure → X
-  not_departing w e ne d = absurd (ne (sym e ∙ d))
-
   -- by what was awaited and is
   rests : (came : Came) (acts : Bool) (w wait : Wait) (locks : Locks) (letters : List Letter) → s.wait ≡ w → AreQuiet letters
       → (w ≡ departure → ⊥) → (wait ≡ departure → ⊥) → ((t : List ℕ) → time_in wait ≡ Some t → time_in w ≡ Some t)

@@ -1,17 +1,16 @@
 -- Where the acts of a run lead the thread of a node.
-use Rattle.std.proofs.Common.{◌≡◌, ℕ, ◌+◌, ◌<◌, Bool, true, false, List, [], ◌∷◌, ◌++◌, length, get_or, take, refl, sym, ap, subst, ◌∙◌}
+use Rattle.std.proofs.Common.{◌≡◌, ℕ, ◌+◌, ◌<◌, Bool, true, false, List, [], ◌∷◌, ◌++◌, length, get_or, take, refl, sym, ap, ◌∙◌}
 use Rattle.std.specs.Prelude.{if◌then◌else◌}
 use Rattle.std.proofs.lemmas.List.{take_more}
 use Rattle.lrc_lang.specs.declared.program.Program.{Program}
 use Rattle.lrc_trace.specs.declared.act.Act.{Act}
 use Rattle.lrc_trace.specs.declared.act.Deed.{Deed}
 use Rattle.lrc_trace.specs.declared.act.Deed.TheVariants.{Quiet, Print, Read, Write, Acquire, Release, Arrive, Depart, Trap, End}
-use Rattle.lrc_exec.specs.Ask.{ask_of, TakesAnswer}
+use Rattle.lrc_exec.specs.Ask.{ask_of}
 use Rattle.lrc_exec.specs.Meaning.{Thread, next_of}
 use Rattle.lrc_lines.specs.Walks.{Walk, goes_on, led, walk_behind}
-use Rattle.lrc_lines.proofs.Following.{goes_takes}
 use Rattle.lrc_lines.proofs.Several.{more_other, more_own}
-use Rattle.lrc_private_names.specs.Standing.{completes, passes, thread_before}
+use Rattle.lrc_private_names.specs.Standing.{thread_before}
 use Rattle.lrc_private_names.specs.Ways.{thread_led}
 
 thread-if : (b : Bool) (one other : Walk) → (if b then one else other).thread ≡ (if b then one.thread else other.thread)
@@ -30,22 +29,6 @@ led-thread w Arrive = refl
 led-thread w Depart = thread-if (goes_on (ask_of (next_of w.thread))) _ w
 led-thread w (Trap cause) = refl
 led-thread w End = refl
-
--- a thread that passes takes an answer
-goes_if_passes : (t : Thread) (d : Deed) → passes t d ≡ true → goes_on (ask_of (next_of t)) ≡ true
-goes_if_passes t Quiet e = e
-goes_if_passes t (Print v) e = e
-goes_if_passes t (Read word v) e = e
-goes_if_passes t (Write word v) e = e
-goes_if_passes t (Acquire l) e = e
-goes_if_passes t (Release l) e = e
-goes_if_passes t Arrive e = cc
-goes_if_passes t Depart e = e
-goes_if_passes t (Trap cause) e = cc
-goes_if_passes t End e = cc
-
-pub takes_if_passes : (t : Thread) (d : Deed) → passes t d ≡ true → TakesAnswer (ask_of (next_of t))
-takes_if_passes t d e = goes_takes (ask_of (next_of t)) (goes_if_passes t d e)
 
 module _ (program : Program) (nodes : ℕ) (lines : List ℕ) (acts : List Act) (node at : ℕ) (act : Act) (within : at < length acts)
     (is : act ≡ get_or acts at act) where

@@ -1,60 +1,19 @@
--- Nodes that are not ready, events that are skipped, and repeats.
-use Rattle.std.proofs.Common.{◌≡◌, ℕ, zero, suc, List, [], ◌∷◌, ◌++◌, Bool, true, false, map, refl, sym, ap, subst, ◌∙◌, append-nil}
+-- Nodes that are ready, messages that come, and repeats.
+use Rattle.std.proofs.Common.{◌≡◌, ℕ, zero, suc, List, [], ◌∷◌, ◌++◌, true, map, refl, sym, ap, subst, ◌∙◌, append-nil}
 use Rattle.std.specs.Prelude.{Option, Some, None, ◌≢◌, remove, is_some, slice_get, slice_set, if◌then◌else◌}
 use Rattle.std.specs.Option.{option_to_list}
 use Rattle.std.proofs.lemmas.Option.{same_Some}
-use Rattle.lrc_exec.specs.Meaning.{Thread, Next, quiet, prints, reads, writes, acquires, releases, arrives, departs, traps, ends, next_of}
+use Rattle.lrc_exec.specs.Meaning.{Next}
 use Rattle.lrc_envelope.specs.Envelope.{EnvelopeRecord}
-use Rattle.lrc_protocol.specs.declared.event.Event.TheVariants.{Run, Deliver, Repeat}
-use Rattle.lrc_protocol.specs.Node.{going, trapped, ended, is_idle, Node, Effect}
-use Rattle.lrc_protocol.specs.Turn.{begins_of, begins, may_begin, run_effect, charged, TurnRecord, Outcome, done, not_ready, unexpected, worn}
+use Rattle.lrc_protocol.specs.declared.event.Event.TheVariants.{Deliver, Repeat}
+use Rattle.lrc_protocol.specs.Node.{Node, Effect}
+use Rattle.lrc_protocol.specs.Turn.{begins, run_effect, charged, TurnRecord, Outcome, done, not_ready, unexpected, worn}
 use Rattle.lrc_protocol.specs.Turn.{turn_with, turn_or, turn_by, run_turn, take_turn, take_anew, empty_turn, is_ready, is_addressed, is_repeat}
-use Rattle.lrc_protocol.specs.Run.{Input, run, taken, EntryRecord, Logged, Logging, logged, refused, too_large, outcome_of, logging, logs}
-use Rattle.lrc_protocol.specs.Run.{next_stamp, World, Flying, with_turn, with_mark, after_input, input_to, delivers, event_on}
+use Rattle.lrc_protocol.specs.Run.{Input, taken, EntryRecord, Logged, Logging, logged, refused, too_large, outcome_of, logs}
+use Rattle.lrc_protocol.specs.Run.{World, Flying, with_turn, with_mark, after_input, input_to, delivers, event_on}
 use Rattle.lrc_protocol.proofs.Worlds.{Entries, logs-entries}
 
 -- ---- readiness
-
-pub waits-unready : (node : Node) → is_idle node.mail.wait ≡ false → is_ready node ≡ false
-waits-unready node e = ap (λ b. is_some (if b then begins_of node.left node.course else None)) e
-
--- a node whose course begins nothing
-stopped : (node : Node) (b : Bool) → begins_of node.left node.course ≡ None → is_some (if b then begins_of node.left node.course else None) ≡ false
-stopped node true e = ap is_some e
-stopped node false e = refl
-
-pub trapped-unready : (node : Node) (cause : _) → node.course ≡ trapped cause → is_ready node ≡ false
-trapped-unready node cause e = stopped node (is_idle node.mail.wait) (ap (begins_of node.left) e)
-
-pub ended-unready : (node : Node) → node.course ≡ ended → is_ready node ≡ false
-ended-unready node e = stopped node (is_idle node.mail.wait) (ap (begins_of node.left) e)
-
--- with no steps left only the end of the text is begun
-nothing_begun : (next : Next) → next ≢ ends → may_begin 0 next ≡ false
-nothing_begun (quiet after) ne = refl
-nothing_begun (prints printed after) ne = refl
-nothing_begun (reads word after) ne = refl
-nothing_begun (writes word written after) ne = refl
-nothing_begun (acquires lock after) ne = refl
-nothing_begun (releases lock after) ne = refl
-nothing_begun (arrives after) ne = refl
-nothing_begun (departs after) ne = refl
-nothing_begun (traps cause) ne = refl
-nothing_begun ends ne = absurd (ne refl)
-
-pub spent-unready : (node : Node) (thread : Thread) → node.course ≡ going thread → node.left ≡ 0 → next_of thread ≢ ends → is_ready node ≡ false
-spent-unready node thread c l ne =
-    stopped node (is_idle node.mail.wait)
-    (ap (begins_of node.left) c
-    ∙ ap (λ k. begins_of k (going thread)) l
-    ∙ ap (λ b. if b then Some (next_of thread) else None) (nothing_begun (next_of thread) ne))
-
-unready_none : (o : Option Next) → is_some o ≡ false → o ≡ None
-unready_none None e = refl
-unready_none (Some next) e = cc
-
-pub unready-refuses : (node : Node) → is_ready node ≡ false → run_turn node ≡ not_ready
-unready-refuses node e = ap (turn_by node) (unready_none (begins node) e)
 
 turn_with-done : (effect : Effect) (n : _) → turn_with effect n ≢ not_ready
 turn_with-done effect None e = cc
@@ -71,20 +30,7 @@ turn_by-done node (Some next) s e = turn_or-done (run_effect (charged node next)
 pub ready-goes_on : (node : Node) → is_ready node ≡ true → run_turn node ≢ not_ready
 ready-goes_on node s e = turn_by-done node (begins node) s e
 
--- ---- events that are skipped
-
-pub no_node-skipped : (world : World) (n : ℕ) → slice_get world.nodes n ≡ None → event_on world (Run n) ≡ Some world
-no_node-skipped world n e = ap (input_to world world.flight n run 0) e
-
-pub unready-skipped : (world : World) (n : ℕ) (l : Logged) → slice_get world.nodes n ≡ Some l → is_ready l.node ≡ false → event_on world (Run n) ≡ Some world
-unready-skipped world n l at e =
-    ap (input_to world world.flight n run 0) at
-    ∙ ap (λ o. after_input world world.flight n (logging run (next_stamp l.log 0) l.log o)) (unready-refuses l.node e)
-
-pub no_message-skipped : (world : World) (place : ℕ) → slice_get world.flight place ≡ None → (event_on world (Deliver place) ≡ Some world)
-    × (event_on world (Repeat place) ≡ Some world)
-no_message-skipped world place e =
-    (ap (delivers world (remove world.flight place)) e, ap (delivers world (with_mark world.flight place)) e)
+-- ---- messages that come
 
 -- a message that comes to a node
 delivered : (world : World) (flight : List Flying) (o : Option Flying) (flying : Flying) (l : Logged) → o ≡ Some flying
@@ -92,19 +38,6 @@ delivered : (world : World) (flight : List Flying) (o : Option Flying) (flying :
     → delivers world flight o ≡ after_input world flight flying.envelope.to (logs l (taken flying.envelope) flying.stamp)
 delivered world flight o flying l at there =
     ap (delivers world flight) at ∙ ap (input_to world flight flying.envelope.to (taken flying.envelope) flying.stamp) there
-
-refused_one : (world : World) (flight : List Flying) (flying : Flying) (l : Logged) → take_turn l.node flying.envelope ≡ unexpected
-    → after_input world flight flying.envelope.to (logs l (taken flying.envelope) flying.stamp) ≡ Some world
-refused_one world flight flying l e =
-    ap (λ o. after_input world flight flying.envelope.to (logging (taken flying.envelope) (next_stamp l.log flying.stamp) l.log o)) e
-
-pub refused-skipped : (world : World) (place : ℕ) (flying : Flying) (l : Logged) → slice_get world.flight place ≡ Some flying
-    → slice_get world.nodes flying.envelope.to ≡ Some l → take_turn l.node flying.envelope ≡ unexpected
-    → (event_on world (Deliver place) ≡ Some world) × (event_on world (Repeat place) ≡ Some world)
-refused-skipped world place flying l at there e = (
-  delivered world (remove world.flight place) (slice_get world.flight place) flying l at there ∙ refused_one world _ flying l e,
-  delivered world (with_mark world.flight place) (slice_get world.flight place) flying l at there ∙ refused_one world _ flying l e,
-)
 
 -- ---- repeats
 

@@ -1,14 +1,11 @@
 -- The first event that no program would give, one event further.
-use Rattle.std.proofs.Common.{◌≡◌, ℕ, ◌+◌, ◌≤◌, List, inl, inr, subst, arith}
+use Rattle.std.proofs.Common.{ℕ, ◌+◌, ◌≤◌, List, arith}
 use Rattle.std.specs.Prelude.{Option, Some, None, MatchOption}
-use Rattle.std.proofs.lemmas.Bool.{cases_eq}
 use Rattle.lrc_races_trace.specs.declared.event.Event.{Event}
-use Rattle.lrc_races_trace.specs.declared.fault.Fault.{Fault}
 use Rattle.lrc_races_trace.specs.declared.fault.Reason.{Reason}
 use Rattle.lrc_races_trace.specs.declared.fault.Reason.TheVariants.{Joined, Waits as WaitsAtOne, NotArrived, Held, NotHeld, Known}
 use Rattle.lrc_races_trace.specs.Trace.{At}
 use Rattle.lrc_races_trace.specs.Formed.{Holds, rank, IsFirstFault}
-use Rattle.lrc_races_trace.proofs.Positions.{At-one}
 use Rattle.lrc_races_detector.specs.Held.{HasNoLockFault, IsOfLock}
 use Rattle.lrc_races_detector.specs.Threads.{IsJoined, IsKnown}
 use Rattle.lrc_races_detector.specs.Waits.{HasNoBarrierFault, IsBarrierFault}
@@ -104,15 +101,3 @@ module _ (events : List Event) (n : ℕ) (b : Event) (here : At events n b) wher
       earlier = λ k a other lt at holds. none k a other lt at holds;
     },
   )
-
-  pub fault_stays : (fault : Fault) → IsFirstFault events n (Some fault) → IsFirstFault events (n + 1) (Some fault)
-  fault_stays fault (k, lt, at, is) = (k, omega arith, at, is)
-
-  pub none_further : HasNoFault events n b → IsFirstFault events n None → IsFirstFault events (n + 1) None
-  none_further fine none = λ k a other lt at holds.
-      elim (cases_eq k n) [
-        | inl same ↦
-            let is : a ≡ b = At-one (subst (λ m. At events m a) same at) here in
-            fine other (subst (λ e. Holds events n e other) is (subst (λ m. Holds events m a other) same holds))
-        | inr before ↦ none k a other (omega arith) at holds
-      ]

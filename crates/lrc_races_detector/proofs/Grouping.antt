@@ -215,9 +215,6 @@ module _ (pairs : List Pair) (b : Pair) where
           }
 
     module _ (none : (k : ℕ) (g : Group) → slice_get groups k ≡ Some g → are_alike g.first b ≡ false) where
-      new : Group
-      new = record { first = b; count = 1 }
-
       unlike : (k : ℕ) (p : Pair) → slice_get pairs k ≡ Some p → are_alike b p ≡ false
       unlike k p at = false_from (are_alike b p) (λ e.
           let (l, g, there, alike) = old.all k p at in
@@ -279,13 +276,6 @@ module _ (pairs : List Pair) (b : Pair) where
               )
             ];
       }
-
-pub none_grouped : AreAll [] []
-none_grouped = record {
-  each = λ k g at. let never : ⊥ = cc in absurd never;
-  rising = λ k l g h lt at at'. let never : ⊥ = cc in absurd never;
-  all = λ place p at. let never : ⊥ = cc in absurd never;
-}
 
 module _ (pairs : List Pair) (groups : List Group) (all : AreAll pairs groups) where
   at_one : (i j : ℕ) (g h : Group) → IsGroup pairs i g → IsGroup pairs j h → are_alike g.first h.first ≡ true → g ≡ h

@@ -1,14 +1,6 @@
 -- What a list says at each index, where one element is pushed or set.
-use Rattle.std.proofs.Common.{◌≡◌, ◌≢◌, ℕ, zero, suc, ◌<◌, List, [], ◌∷◌, ◌++◌, length, set, refl, ap, arith}
-use Rattle.std.specs.Prelude.{Option, Some, None, slice_get}
-
--- one is pushed that says as much as none
-pub pushed-same : {X Y : Type 0} (f : Option X → Y) (xs : List X) (y : X) → f (Some y) ≡ f None → (k : ℕ)
-    → f (slice_get (xs ++ y ∷ []) k) ≡ f (slice_get xs k)
-pushed-same f [] y e zero = e
-pushed-same f [] y e (suc k) = refl
-pushed-same f (x ∷ xs) y e zero = refl
-pushed-same f (x ∷ xs) y e (suc k) = pushed-same f xs y e k
+use Rattle.std.proofs.Common.{◌≡◌, ◌≢◌, ℕ, zero, suc, ◌<◌, List, [], ◌∷◌, length, set, refl, ap, arith}
+use Rattle.std.specs.Prelude.{Some, slice_get}
 
 pub slice_get-set_same : {X : Type 0} (xs : List X) (i : ℕ) (y : X) → i < length xs → slice_get (set xs i y) i ≡ Some y
 slice_get-set_same [] i y h = absurd (omega arith)

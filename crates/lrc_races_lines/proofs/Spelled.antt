@@ -141,12 +141,6 @@ spelled-open w rest l (with_text {idle = idle} inner is text) e =
     let (p, q) = seam-unique 40 idle (inner ++ 41 ∷ []) w rest (idle-lacks idle is).1 l e in
     inr (record { idles = refl; none = refl; is = subst (λ x. IsIdleWord x) p is; inner = inner; text = text; encloses = sym q })
 
--- one without
-pub spelled-closed : {kind : Kind} {target o : List ℕ} → Lacks 40 o → SpellsOperation kind target o → IsIdleWord o
-spelled-closed l (with_target {kind = kind} {target = target} acts name) = absurd (seam-not-lacking 40 (word kind) (target ++ 41 ∷ []) l)
-spelled-closed l (alone is) = is
-spelled-closed l (with_text {idle = idle} inner is text) = absurd (seam-not-lacking 40 idle (inner ++ 41 ∷ []) l)
-
 -- no operation has a bar
 pub spelled-lacks : {kind : Kind} {target o : List ℕ} → SpellsOperation kind target o → Lacks 124 o
 spelled-lacks (with_target {kind = kind} {target = target} acts name) =

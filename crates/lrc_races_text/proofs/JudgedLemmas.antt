@@ -183,9 +183,6 @@ module _ (form : Form) {before after : Naming} {said : List Said} {events : List
 
 -- ---- one event more
 
-shown : Form → Bool → Naming → List Pair → List ℕ
-shown form group naming pairs = if group then [] else race_lines form naming pairs
-
 shown-append : (form : Form) (group : Bool) (naming : Naming) (xs ys : List Pair)
     → (if group then [] else race_lines form naming xs) ++ (if group then [] else race_lines form naming ys)
     ≡ (if group then [] else race_lines form naming (xs ++ ys))

@@ -181,10 +181,6 @@ none_past acts closed node are few past =
     let long : length closed ≡ 256 = ap length are ∙ length-map-range_with_len (next_of_node acts) 0 256 in
     omega (arith, long, few, past)
 
-pub closed_past : (acts : List Act) (act : Act) (closed : List ℕ) → AreClosed acts closed → act.node < 256 → length closed ≤ act.node
-    → AreClosed (acts ++ act ∷ []) closed
-closed_past acts act closed are few past = absurd (none_past acts closed act.node are few past)
-
 -- the interval that comes next
 pub interval_is : (acts : List Act) (closed : List ℕ) (node : ℕ) → AreClosed acts closed → node < 256
     → slice_index closed node ≡ interval_at acts node (length acts)

@@ -1,7 +1,6 @@
 -- What is answered of a run that halts, and of one that does not.
-use Rattle.std.proofs.Common.{◌≡◌, ◌∙◌, ◌<◌, ◌≤◌, ◌⊎◌, inl, inr, ℕ, zero, suc, List, [], ◌∷◌, Option, Some, Result, Ok, Err, IfErr, IsErrAnd, true, ap, arith, length, map, refl, subst, sym}
+use Rattle.std.proofs.Common.{◌≡◌, ◌∙◌, ◌<◌, ◌≤◌, ◌⊎◌, inl, inr, ℕ, zero, suc, List, [], ◌∷◌, Option, Some, Result, Ok, Err, IsErrAnd, true, ap, arith, length, map, refl, subst, sym}
 use Rattle.std.specs.Prelude.{All, slice_get}
-use Rattle.std.proofs.lemmas.List.{length-map}
 use Rattle.std.proofs.lemmas.Option.{slice_get_within}
 use Rattle.lrc_lang.specs.declared.program.Program.{Program}
 use Rattle.lrc_envelope.specs.declared.picker.Picker.{Picker}
@@ -16,7 +15,6 @@ use Rattle.lrc_threads.specs.declared.stop.Stop.TheVariants as stops
 use Rattle.lrc_threads.specs.Threads.{IsFirstFailure}
 use Rattle.lrc_weave.specs.declared.fault.WeaveFault.{WeaveFault}
 use Rattle.lrc_weave.specs.declared.fault.WeaveFault.TheVariants as weaving
-use Rattle.lrc_weave.specs.Logs.{AreLogs}
 use Rattle.lrc_weave.specs.Matched.{AreMatched}
 use Rattle.lrc_world.specs.declared.keep.Keep.{Keep}
 use Rattle.lrc_world.specs.declared.keep.Keep.TheVariants.{All as All', Newest, Turns}
@@ -28,12 +26,11 @@ use Rattle.lrc_world.specs.Turned.{turned_of, when_all}
 use Rattle.lrc_world.specs.World.{kept_log, with_turns}
 use Rattle.lrc_world.proofs.Theorem.{all_kept}
 use Rattle.lrc_weave.proofs.Places.{some_same}
-use Rattle.lrc_run.specs.declared.fault.RunFault.TheVariants.{BadNodes, BadSteps}
 use Rattle.lrc_run.specs.declared.halt.Halt.{Halt}
 use Rattle.lrc_run.specs.declared.halt.Halt.TheVariants.{Worn, Refused, Mismatch, NoMemory}
 use Rattle.lrc_run.specs.declared.halt.Left.{Left}
 use Rattle.lrc_run.specs.declared.told.ToldRun.{ToldRun}
-use Rattle.lrc_run.specs.Halts.{AreLeft, Differ, IsHalt, IsLeft, IsMismatch, IsRefused, IsRunFault, StoppedWith, fault_of, logs_left}
+use Rattle.lrc_run.specs.Halts.{AreLeft, IsHalt, IsLeft, IsRefused, IsRunFault, StoppedWith, fault_of, logs_left}
 use Rattle.lrc_run.specs.Run.{IsThreadedRun, IsTold, IsWovenReport, MakeTurnsOf, Reports, turns_of_nodes}
 use Rattle.lrc_run.proofs.Telling.{same_origins}
 
@@ -45,11 +42,6 @@ module _ (program : Program) (nodes : ℕ) (options : OptionsRecord) (picker : P
   of_halt (Mismatch left) is = (left, is)
   of_halt NoMemory is = tt
 
-  -- memory may run out at any time
-  pub ran_out : {T : Type 0} (r : Result T Halt) → IsErrAnd r (λ halt. halt ≡ NoMemory) → IfErr r (IsHalt program nodes options picker)
-  ran_out (Ok x) is = tt
-  ran_out (Err halt) is = subst (IsHalt program nodes options picker) (sym is) tt
-
   module _ (left : Left) (logs : List (List EntryRecord)) (stops : List (Option Stop)) (wires : List MailboxRecord) (logs_are : logs_left left ≡ logs)
       (stops_are : left.stops.items ≡ stops) (wires_are : left.wires ≡ wires) where
     -- what is handed back is what the nodes left
@@ -58,16 +50,6 @@ module _ (program : Program) (nodes : ℕ) (options : OptionsRecord) (picker : P
         subst (λ l. AreLeft program nodes options picker l left.stops.items left.wires) (sym logs_are)
         (subst (λ s. AreLeft program nodes options picker logs s left.wires) (sym stops_are)
         (subst (AreLeft program nodes options picker logs stops) (sym wires_are) are))
-
-    -- also where it does not tell of one run
-    pub is_mismatch : AreLeft program nodes options picker logs stops wires → Differ program nodes options logs stops wires
-        → IsMismatch program nodes options picker left
-    is_mismatch are differ = record {
-      left_so = is_left are;
-      differ = subst (λ l. Differ program nodes options l left.stops.items left.wires) (sym logs_are)
-          (subst (λ s. Differ program nodes options logs s left.wires) (sym stops_are)
-          (subst (Differ program nodes options logs stops) (sym wires_are) differ));
-    }
 
   -- a report of events after which nothing is left to do is that of a run
   module _ (run : Run) (woven : IsWovenReport program nodes options run.events.items run.report) (over : run.is_over ≡ true)
@@ -124,18 +106,6 @@ module _ (program : Program) (nodes : ℕ) (options : OptionsRecord) (picker : P
       taken = taken;
     };
   }
-
-  -- there are no more logs than nodes
-  pub few_left : {A : Type 0} (seen : A → List EntryRecord) (logs : List A) → AreLogs program nodes options (map seen logs) → nodes ≤ 16
-      → length logs ≤ 16
-  few_left seen logs are few = omega (arith, sym (length-map logs seen) ∙ are.count)
-
--- no fault of a run that halted is one of its numbers
-pub in_range : (halt : Halt) → (fault_of halt ≡ BadNodes → ⊥) × (fault_of halt ≡ BadSteps → ⊥)
-in_range (Worn worn) = (λ e. cc, λ e. cc)
-in_range (Refused left) = (λ e. cc, λ e. cc)
-in_range (Mismatch left) = (λ e. cc, λ e. cc)
-in_range NoMemory = (λ e. cc, λ e. cc)
 
 -- a fault that is handed on
 pub same_fault : {T : Type 0} (r : Result T WeaveFault) (fault : WeaveFault) → IsErrAnd r (λ f. f ≡ fault) → r ≡ Err weaving.Mismatch

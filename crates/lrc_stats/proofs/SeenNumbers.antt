@@ -1,6 +1,6 @@
 -- The numbers that were seen, with one turn more.
-use Rattle.std.proofs.Common.{◌≡◌, ◌∙◌, ◌<◌, ◌++◌, ℕ, zero, suc, Bool, true, false, List, [], ◌∷◌, cond, inl, inr, refl, sym, subst, ap}
-use Rattle.std.proofs.Common.{length, get_or, set, replicate, eq-eqb}
+use Rattle.std.proofs.Common.{◌≡◌, ◌∙◌, ◌<◌, ◌++◌, ℕ, Bool, true, false, List, [], ◌∷◌, cond, inl, inr, refl, sym, subst, ap}
+use Rattle.std.proofs.Common.{length, get_or, set, eq-eqb}
 use Rattle.std.specs.Prelude.{◌==◌, ◌||◌, ◌&&◌, nat_lt}
 use Rattle.std.specs.List.{list_any}
 use Rattle.std.proofs.lemmas.Bool.{cases_eq, ne_eqb}
@@ -8,9 +8,9 @@ use Rattle.std.proofs.lemmas.List.{get_or-set_same, get_or-set_other, get_or_def
 use Rattle.std.proofs.lemmas.List.Folds.{list_any-append}
 use Rattle.lrc_store.specs.Order.{placed}
 use Rattle.lrc_envelope.specs.Envelope.{EnvelopeRecord}
-use Rattle.lrc_protocol.specs.Run.{EntryRecord, Input, run, taken}
-use Rattle.lrc_stats.specs.Learned.{is_taking, takes_repeat, took}
-use Rattle.lrc_stats.specs.Seen.{HasSeen, has_seen}
+use Rattle.lrc_protocol.specs.Run.{EntryRecord, taken}
+use Rattle.lrc_stats.specs.Learned.{is_taking, took}
+use Rattle.lrc_stats.specs.Seen.{HasSeen}
 use Rattle.lrc_stats.specs.declared.seen.Seen.{Seen}
 
 abbrev has : ℕ → List ℕ → Bool
@@ -45,33 +45,7 @@ took-more : (before : List EntryRecord) (entry : EntryRecord) (from number : ℕ
     → took (before ++ entry ∷ []) from number ≡ (took before from number || (is_taking from number entry.input || false))
 took-more before entry from number = list_any-append (λ (e : EntryRecord). is_taking from number e.input) before (entry ∷ [])
 
-pub again-is-seen : (before : List EntryRecord) (seen : Seen) (input : Input) → HasSeen before seen
-    → has_seen seen input ≡ takes_repeat before input
-again-is-seen before seen run h = refl
-again-is-seen before seen (taken e) h = h.numbers e.from e.number
-
--- ---- none
-
-none-there : (n from : ℕ) → get_or {A = List ℕ} (replicate n []) from [] ≡ []
-none-there zero from = refl
-none-there (suc n) zero = refl
-none-there (suc n) (suc from) = none-there n from
-
-pub none-seen : (seen : Seen) (n : ℕ) → seen.numbers.items ≡ replicate n [] → HasSeen [] seen
-none-seen seen n is = record {
-  numbers = λ from number. ap (λ l. has number (get_or l from [])) is ∙ ap (has number) (none-there n from);
-}
-
 -- ---- one more
-
-pub seen-own : (before : List EntryRecord) (seen : Seen) (entry : EntryRecord) → entry.input ≡ run → HasSeen before seen
-    → HasSeen (before ++ entry ∷ []) seen
-seen-own before seen entry is h = record {
-  numbers = λ from number.
-      h.numbers from number ∙ with_none (took before from number)
-      ∙ ap (λ i. took before from number || (is_taking from number i || false)) (sym is)
-      ∙ sym (took-more before entry from number);
-}
 
 pub seen-taken : (before : List EntryRecord) (old new : Seen) (entry : EntryRecord) (e : EnvelopeRecord) → entry.input ≡ taken e
     → e.from < length old.numbers.items

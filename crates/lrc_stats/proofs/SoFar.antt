@@ -1,12 +1,12 @@
 -- What the messages brought of the first turns of a log, with one turn more.
-use Rattle.std.proofs.Common.{◌≡◌, ◌∙◌, ◌+◌, ◌<◌, ◌++◌, ℕ, Bool, true, false, List, [], ◌∷◌, cond, refl, sym, ap, arith}
+use Rattle.std.proofs.Common.{◌≡◌, ◌∙◌, ◌+◌, ◌<◌, ◌++◌, ℕ, Bool, true, false, List, [], ◌∷◌, cond, sym, ap, arith}
 use Rattle.std.proofs.Common.{length, take, get_or}
 use Rattle.std.specs.Prelude.{count_by, sum_by}
 use Rattle.std.proofs.lemmas.List.{length_push}
 use Rattle.std.proofs.lemmas.List.Sums.{fold_more, sum_by-append}
 use Rattle.lrc_protocol.specs.Run.{EntryRecord}
-use Rattle.lrc_stats.specs.Learned.{IsLearned, a_repeat, brought, brought_after, discards, first_takings, interval_count}
-use Rattle.lrc_stats.specs.Learned.{takes_repeat, notice_count, nothing, together, with_entry}
+use Rattle.lrc_stats.specs.Learned.{a_repeat, brought, brought_after, discards, first_takings, interval_count}
+use Rattle.lrc_stats.specs.Learned.{takes_repeat, notice_count, together, with_entry}
 use Rattle.lrc_stats.specs.declared.learned.Learned.{Learned}
 
 -- of so many turns these are no repeats, and brought this
@@ -19,9 +19,6 @@ pub record IsSoFar (count : ℕ) (kept : List EntryRecord) (learned : Learned) :
 pub kept_more : (log : List EntryRecord) (i : ℕ) (d : EntryRecord) → i < length log
     → first_takings (take (i + 1) log) ≡ with_entry (first_takings (take i log)) (get_or log i d)
 kept_more log i d lt = fold_more with_entry [] log i d lt
-
-pub so_far_none : IsSoFar 0 [] nothing
-so_far_none = record { repeats = refl; intervals = refl; notices = refl; discards = refl }
 
 sum_push : (f : EntryRecord → ℕ) (kept : List EntryRecord) (entry : EntryRecord) → sum_by f (kept ++ entry ∷ []) ≡ sum_by f kept + f entry
 sum_push f kept entry =
@@ -51,8 +48,3 @@ module _ (count : ℕ) (kept : List EntryRecord) (entry : EntryRecord) (learned 
 
   pub so_far_more : IsSoFar (count + 1) (with_entry kept entry) (together learned (brought_after kept entry))
   so_far_more = by_test (takes_repeat kept entry.input)
-
-pub so_far_all : (log : List EntryRecord) (learned : Learned) → IsSoFar (length log) (first_takings log) learned → IsLearned log learned
-so_far_all log learned h =
-    let repeats = h.repeats in
-    record { repeats = omega arith; intervals = h.intervals; notices = h.notices; discards = h.discards }

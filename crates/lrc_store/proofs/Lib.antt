@@ -16,7 +16,6 @@ pub mod PagePlaces
 pub mod Places
 pub mod Ranks
 pub mod Records
-pub mod Risings
 pub mod Rowed
 pub mod Sought
 pub mod Starts

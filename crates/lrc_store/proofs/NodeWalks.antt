@@ -1,11 +1,10 @@
 -- What a walk along a node's list has gathered.
 use Rattle.std.proofs.Common.{◌≡◌, ℕ, ◌+◌, ◌<◌, ◌≤◌, ◌∙◌, Bool, true, false, not, ◌&&◌, cond, eqb, eqb-true, Option, None, Some}
-use Rattle.std.proofs.Common.{List, [], ◌∷◌, ◌++◌, length, get_or, map, take, drop, reverse, refl, ap, sym, subst, arith}
+use Rattle.std.proofs.Common.{List, [], ◌∷◌, ◌++◌, length, get_or, map, take, reverse, refl, ap, sym, subst, arith}
 use Rattle.std.specs.List.{All, AllPairs, filter}
 use Rattle.std.proofs.lemmas.Bool.{leb-true, le-leb}
 use Rattle.std.proofs.lemmas.List.{get_or-map, get_or-take, get_or_default, length-take-le, take-map, take_all, reverse-append, append-nil, append_assoc}
 use Rattle.std.proofs.lemmas.List.Elements.{All-head, All-tail}
-use Rattle.std.proofs.Math.Seq.{take-append_seam, drop-append_seam}
 use Rattle.lrc_time.specs.Time.{entry, knows}
 use Rattle.lrc_store.specs.Chains.{last_at}
 use Rattle.lrc_store.specs.Interval.{IntervalRecord, index_of}
@@ -135,19 +134,6 @@ module _ (node : ℕ) (since upto : List ℕ) (intervals : List IntervalRecord) 
       ∙ older at k d ascending within less here known (eqb (get_or intervals k d).node node) refl) in
       (at, omega (arith, within), none, gathered at found found false walked d not_newer (sym (append-nil found)))
 
-  pub walk_ends : (found : List IntervalRecord) → IsWalked None found → filter (is_newer_of node since upto) intervals ≡ reverse found
-  walk_ends found walked = walked.3 ∙ ap (λ (l : List IntervalRecord). l ++ reverse found) walked.2
-
   -- the same of what stands behind other intervals
   abbrev pub IsWalkedBehind : List IntervalRecord → Option ℕ → List IntervalRecord → Type 0
   IsWalkedBehind before next found = (more : List IntervalRecord) × (found ≡ before ++ more) × IsWalked next more
-
-  -- once the part behind is turned, the newer intervals stand behind the others
-  pub walk_turned : (before found turned : List IntervalRecord) (count : ℕ) → IsWalkedBehind before None found → count ≡ length before
-      → turned ≡ take count found ++ reverse (drop count found) → turned ≡ before ++ filter (is_newer_of node since upto) intervals
-  walk_turned before found turned count walked is by =
-      let more = walked.0 in
-      let front : take count found ≡ before = ap (λ n. take n found) is ∙ ap (take (length before)) walked.1 ∙ take-append_seam before more in
-      let back : drop count found ≡ more = ap (λ n. drop n found) is ∙ ap (drop (length before)) walked.1 ∙ drop-append_seam before more in
-      by ∙ ap (λ (l : List IntervalRecord). l ++ reverse (drop count found)) front
-      ∙ ap (λ (l : List IntervalRecord). before ++ l) (ap reverse back ∙ sym (walk_ends more walked.2))

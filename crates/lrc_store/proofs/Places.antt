@@ -1,22 +1,15 @@
 -- The first element of a list that passes a test, and a list in which one element is changed.
-use Rattle.std.proofs.Common.{◌≡◌, ◌≢◌, ℕ, suc, ◌+◌, ◌<◌, ◌≤◌, Bool, true, false, nat_lt, ◌||◌, not, Option, Some, None, List}
-use Rattle.std.proofs.Common.{[], ◌∷◌, length, get_or, set, map, cond, refl, ap, sym, ◌∙◌, ⊎_elim, arith}
-use Rattle.std.specs.List.{find, list_any, position, position_or_len}
+use Rattle.std.proofs.Common.{◌≡◌, ◌≢◌, ℕ, ◌<◌, ◌≤◌, Bool, false, Option, Some, None, List}
+use Rattle.std.proofs.Common.{[], ◌∷◌, length, get_or, set, map, refl, ap, sym, ◌∙◌, ⊎_elim, arith}
+use Rattle.std.specs.List.{find, position, position_or_len}
 use Rattle.std.specs.Option.{is_some}
 use Rattle.std.proofs.lemmas.Grind.{common_steps}
-use Rattle.std.proofs.lemmas.Bool.{cases_eq, cases_lt, lt-ltb, le-ltb}
+use Rattle.std.proofs.lemmas.Bool.{cases_eq}
 use Rattle.std.proofs.lemmas.List.{same_lists, get_or-map, get_or-set_same, get_or-set_other, length-map, length-set}
 use Rattle.std.proofs.lemmas.List.Folds.{find_at}
 use Rattle.std.proofs.lemmas.List.Quantifiers.{position-Some}
 use Rattle.std.proofs.lemmas.List.Sums.{fails_before_first}
 use Rattle.std.proofs.lemmas.Option.{gets}
-
-same_below : (m n : ℕ) → nat_lt m n ≡ nat_lt (1 + m) (suc n)
-same_below m n =
-    ⊎_elim
-    (λ (less : m < n). lt-ltb m n less ∙ sym (lt-ltb (1 + m) (suc n) (omega arith)))
-    (λ (at_most : n ≤ m). le-ltb m n at_most ∙ sym (le-ltb (1 + m) (suc n) (omega arith)))
-    (cases_lt m n)
 
 module _ {X : Type 0} where
   pub find-position : (p : X → Bool) (xs : List X) (i : ℕ) (d : X) → position p xs ≡ Some i
@@ -77,28 +70,3 @@ module _ {X : Type 0} where
       cc)
       (λ (other : k ≢ i). get_or-map f xs k d d inside ∙ others k d inside other ∙ sym (get_or-set_other xs i k y d other))
       (cases_eq k i))
-
-  next_place : (p : X → Bool) (x : X) (xs : List X) → list_any p xs ≡ nat_lt (position_or_len p xs) (length xs)
-      → list_any p (x ∷ xs) ≡ nat_lt (position_or_len p (x ∷ xs)) (length (x ∷ xs))
-  next_place p x xs rest = by_test (p x)
-    where
-      by_test : (b : Bool) → (b || list_any p xs) ≡ nat_lt (cond (not b) (1 + position_or_len p xs) 0) (suc (length xs))
-      by_test true = sym (lt-ltb 0 (suc (length xs)) (omega arith))
-      by_test false = rest ∙ same_below (position_or_len p xs) (length xs)
-
-  first_place : (p : X → Bool) (xs : List X) → list_any p xs ≡ nat_lt (position_or_len p xs) (length xs)
-  first_place p [] = refl
-  first_place p (x ∷ xs) = next_place p x xs (first_place p xs)
-
-  -- an element passes where there is a place at which one does
-  pub list_any-position : (p : X → Bool) (xs : List X) → list_any p xs ≡ is_some (position p xs)
-  list_any-position p xs = first_place p xs ∙ sym (by_test (nat_lt (position_or_len p xs) (length xs)) (position_or_len p xs))
-    where
-      by_test : (b : Bool) (i : ℕ) → is_some {T = ℕ} (cond b (Some i) None) ≡ b
-      by_test true i = refl
-      by_test false i = refl
-
-  pub list_any-map : {Y : Type 0} (f : Y → X) (p : X → Bool) (ys : List Y)
-      → list_any p (map f ys) ≡ list_any (λ y. p (f y)) ys
-  list_any-map f p [] = refl
-  list_any-map f p (y ∷ ys) = ap (λ b. p (f y) || b) (list_any-map f p ys)

@@ -143,30 +143,7 @@ is_lt-nat_cmp a b = by_tests (nat_lt a b) (eqb a b)
     by_tests false true = refl
     by_tests false false = refl
 
--- a list in order by one test is in order by an equal one
-pub IsSortedBy-same : {X : Type 0} (lt other : X → X → Bool) (xs : List X) → ((a b : X) → lt a b ≡ other a b)
-    → IsSortedBy lt xs → IsSortedBy other xs
-IsSortedBy-same lt other xs equal sorted k d low high = sym (equal (get_or xs (k + 1) d) (get_or xs k d)) ∙ sorted k d low high
-
--- node and index, compared as a pair
-pub IsSortedBy-by_node : (found : List IntervalRecord)
-    → IsSortedBy (λ a b. is_lt (ordering_then (nat_cmp a.node b.node) (nat_cmp (index_of a) (index_of b)))) found
-    → IsSortedBy by_node found
-IsSortedBy-by_node found sorted =
-    IsSortedBy-same (λ a b. is_lt (ordering_then (nat_cmp a.node b.node) (nat_cmp (index_of a) (index_of b)))) by_node found
-    (λ a b.
-    is_lt-ordering_then a.node b.node (nat_cmp (index_of a) (index_of b))
-    ∙ ap (λ v. nat_lt a.node b.node || (eqb a.node b.node && v)) (is_lt-nat_cmp (index_of a) (index_of b)))
-    sorted
-
 -- ---- what is newer
-
-pub IsNewer-from_sort : (store : StoreRecord) (since upto : List ℕ) (found sorted : List IntervalRecord) → IsStore store
-    → found ≡ filter (is_newer since upto) (intervals_of store) → IsPermutation found sorted → IsSortedBy by_node sorted
-    → IsNewer store since upto sorted
-IsNewer-from_sort store since upto found sorted sound kept moved up =
-    IsAscendingPart-from_sort by_node IsStrictWeakOrder-by_node (is_newer since upto) (intervals_of store) sorted
-    (Comparable-by_node store sound) (subst (λ (l : List IntervalRecord). IsPermutation l sorted) kept moved) up
 
 -- the function gives what is newer, and nothing else is
 pub IsNewer-newer_of : (store : StoreRecord) (since upto : List ℕ) → IsStore store

@@ -4,7 +4,7 @@ use Rattle.std.proofs.Common.{◌∷◌, length, get_or, set, map, refl, ap, sym
 use Rattle.std.specs.List.{position, AllPairs}
 use Rattle.lrc_page.specs.Pages.{IsRising}
 use Rattle.std.proofs.lemmas.Bool.{cases_lt, ne_eqb}
-use Rattle.std.proofs.lemmas.List.{get_or-map, length-map, map-set, set-get_or}
+use Rattle.std.proofs.lemmas.List.{get_or-map, length-map}
 use Rattle.std.proofs.lemmas.List.Quantifiers.{position-Some}
 use Rattle.lrc_page.specs.declared.changes.Change.{Change}
 use Rattle.lrc_store.specs.Interval.{IntervalRecord}
@@ -49,17 +49,6 @@ notice_with-other page changes notice other = ap (λ b. cond b (record { page = 
 pub notice_with-same : (page : ℕ) (changes : List Change) (notice : NoticeRecord) → eqb notice.page page ≡ true
     → notice_with page changes notice ≡ record { page = page; changes = Some changes }
 notice_with-same page changes notice same = ap (λ b. cond b (record { page = page; changes = Some changes }) notice) same
-
--- a notice written in place of one of the same page leaves the pages
-pub pages-written : (notices : List NoticeRecord) (i : ℕ) (old new : NoticeRecord) → i < length notices
-    → old ≡ get_or notices i old → new.page ≡ old.page
-    → map (λ notice. notice.page) (set notices i new) ≡ map (λ notice. notice.page) notices
-pages-written notices i old new within read same =
-    let pages = map (λ (notice : NoticeRecord). notice.page) notices in
-    let there : get_or pages i old.page ≡ (get_or notices i old).page = get_or-map (λ notice. notice.page) notices i old old.page within in
-    let kept : set pages i (get_or pages i old.page) ≡ pages = set-get_or pages i old.page in
-    let equal : new.page ≡ get_or pages i old.page = same ∙ ap (λ (notice : NoticeRecord). notice.page) read ∙ sym there in
-    map-set (λ (notice : NoticeRecord). notice.page) notices i new ∙ ap (λ page. set pages i page) equal ∙ kept
 
 -- the notice of a page gets changes
 pub map-notice_with : (page : ℕ) (changes : List Change) (notices : List NoticeRecord) (place : ℕ)

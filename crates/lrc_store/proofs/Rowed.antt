@@ -16,9 +16,6 @@ use Rattle.lrc_store.proofs.Followed.{places_from-push}
 
 -- ---- rows
 
-pub AreRows-none : (rows : List RowRecord) (nodes : ℕ) → length rows ≡ nodes → All (λ row. row.places ≡ []) rows → AreRows rows nodes []
-AreRows-none rows nodes count none = record { count = count; each = λ node d within. none node d (omega (arith, within, count)) }
-
 pub AreRows-push : (rows : List RowRecord) (nodes : ℕ) (keys : List ℕ) (node at : ℕ) (old row : RowRecord) → AreRows rows nodes keys
     → node < nodes → at ≡ length keys → old ≡ get_or rows node old → row.places ≡ old.places ++ at ∷ []
     → AreRows (set rows node row) nodes (keys ++ node ∷ [])
@@ -64,9 +61,6 @@ places_from-append key start (x ∷ xs) ys =
 pub places_from-front : (key : ℕ) (xs ys : List ℕ) → length (places_from key 0 xs) ≤ length (places_from key 0 (xs ++ ys))
 places_from-front key xs ys =
     omega (arith, ap length (places_from-append key 0 xs ys), length-append (places_from key 0 xs) (places_from key (0 + length xs) ys))
-
-abbrev nodes_in : List IntervalRecord → List ℕ
-nodes_in intervals = map (λ i. i.node) intervals
 
 -- there are as many places as intervals
 pub places_from-count : (node start : ℕ) (intervals : List IntervalRecord)

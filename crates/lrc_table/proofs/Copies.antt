@@ -60,13 +60,6 @@ pub base-cond : (b : Bool) (one other : PageCopy) → one.base ≡ other.base �
 base-cond true one other same = same
 base-cond false one other same = refl
 
-pub closed-state : (state : State) (values : List ℕ) (twin base : Option (List ℕ))
-    → (closed (copy_of state values twin base)).state ≢ Written
-closed-state Valid values twin base is = cc
-closed-state Written values twin base is = cc
-closed-state Invalid values twin base is = cc
-closed-state Absent values twin base is = cc
-
 closed_pending : (state : State) (values : List ℕ) (found base : Option (List ℕ)) (twin : List ℕ) → state ≡ Written
     → found ≡ Some twin → pending_changes (closed (copy_of state values found base)) ≡ Some (changes_between twin values)
 closed_pending state values found base twin is given = rw (is, given) refl

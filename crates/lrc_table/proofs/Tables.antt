@@ -311,12 +311,6 @@ closed_written copy =
     (λ (not_so : is_written copy.state ≡ false). rw not_so not_so)
     (cases_Bool (is_written copy.state))
 
-written_readable : (state : State) → is_written state ≡ true → is_readable state ≡ true
-written_readable Valid is = refl
-written_readable Written is = refl
-written_readable Invalid is = absurd (cc)
-written_readable Absent is = absurd (cc)
-
 pub whole-closed : (size : Size) (copy : PageCopy) → IsWhole size copy → IsWhole size (closed copy)
 whole-closed size copy whole =
     ⊎_elim

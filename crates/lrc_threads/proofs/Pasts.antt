@@ -40,10 +40,6 @@ found_at : {A B : Type 0} (part : A → B) (o : Option A) (b : B) → option_map
 found_at part None b is = cc
 found_at part (Some a) b is = (a, refl, cc)
 
--- what has the same parts has as many
-pub same_count : {A B C : Type 0} (f : A → C) (g : B → C) (xs : List A) (ys : List B) → map f xs ≡ map g ys → length xs ≡ length ys
-same_count f g xs ys is = sym (length-map xs f) ∙ ap length is ∙ length-map ys g
-
 -- what holds of what is at each place holds of all
 all_at : {A : Type 0} (P : A → Type 0) (items : List A) → ((k : ℕ) (one : A) → slice_get items k ≡ Some one → P one) → All P items
 all_at P [] each = All-nil P

@@ -1,10 +1,10 @@
 -- What the comparison of logs and mailboxes keeps, from one entry to the next.
-use Rattle.std.proofs.Common.{◌≡◌, ℕ, zero, suc, ◌+◌, ◌<◌, ◌≤◌, ◌↔◌, inl, inr, Bool, true, false, IsTrue, List, [], ◌∷◌, ◌++◌}
+use Rattle.std.proofs.Common.{◌≡◌, ℕ, zero, suc, ◌+◌, ◌<◌, ◌↔◌, inl, inr, Bool, true, false, IsTrue, List, [], ◌∷◌, ◌++◌}
 use Rattle.std.proofs.Common.{length, map, take, drop, refl, sym, ap, subst, ◌∙◌, arith}
 use Rattle.std.specs.Prelude.{Option, Some, None, is_none, Result, Ok, Err, IfOk, slice_get, ◌&&◌}
 use Rattle.std.specs.List.{list_all}
 use Rattle.std.proofs.lemmas.Bool.{cases_eq, and_parts, ltb-true, lt-ltb}
-use Rattle.std.proofs.lemmas.Option.{slice_get_within, slice_get_past}
+use Rattle.std.proofs.lemmas.Option.{slice_get_within}
 use Rattle.std.proofs.Math.Seq.{drop-length}
 use Rattle.lrc_envelope.specs.Envelope.{EnvelopeRecord}
 use Rattle.lrc_post.specs.declared.parcel.Wire.{Wire}
@@ -39,9 +39,6 @@ first_taken before log entry old new (taken e) is (message, first, (flying, some
 abbrev pub TakenSo : List Wire → List EntryRecord → ℕ → ℕ → List Wire → Type 0
 TakenSo history log k before rest =
     (before ≡ last_stamp (take k log)) × (Takes (take k log) (drop k log) (taken_in history rest) ↔ Takes [] log (takes_in history))
-
-pub so_start : (history : List Wire) (log : List EntryRecord) → TakenSo history log 0 0 history
-so_start history log = (refl, (λ t. t, λ t. t))
 
 module _ (history : List Wire) (log : List EntryRecord) (k before : ℕ) (rest new : List Wire) (entry : EntryRecord) (at : slice_get log k ≡ Some entry)
     (so : TakenSo history log k before rest) where
@@ -124,26 +121,11 @@ left_if history old new place before stamp e wire at next E (Ok false) so = λ l
     (sym l.1 ∙ ap (map (message_at history)) next ∙ ap (λ o. message_if o ∷ taken_in history new) at)) l.2))
 left_if history old new place before stamp e wire at next E (Err fault) so = so
 
-pub left_not : (history old new : List Wire) (before stamp : ℕ) (e : EnvelopeRecord) → IsNextTake old new None
-    → IsLeft before stamp (taken e) (taken_in history old) (taken_in history new) false
-left_not history old new before stamp e next = λ left l.
-    not_empty (taken_in history old) l.0 left (ap (map (message_at history)) next) l.1
-
-pub left_past : (history old new : List Wire) (place before stamp : ℕ) (e : EnvelopeRecord) → length history ≤ place → IsNextTake old new (Some place)
-    → IsLeft before stamp (taken e) (taken_in history old) (taken_in history new) false
-left_past history old new place before stamp e past next = λ left l.
-    let none : message_at history place ≡ None = ap message_if (slice_get_past history place past) in
-    none_some l.0 l.2.0
-    (head_is l.0 (message_at history place) left (taken_in history new) (sym l.1 ∙ ap (map (message_at history)) next) ∙ none) l.2.1
-
 -- ---- all of a list, and all puts
 
 module _ {X : Type 0} (P : ℕ → X → Type 0) (xs : List X) where
   abbrev pub UpTo : ℕ → Type 0
   UpTo k = (n : ℕ) (x : X) → n < k → slice_get xs n ≡ Some x → P n x
-
-  pub up_to_none : UpTo 0
-  up_to_none = λ n x lt at. absurd (omega (arith, lt))
 
   pub up_to_more : (k : ℕ) (x : X) → UpTo k → slice_get xs k ≡ Some x → P k x → UpTo (k + 1)
   up_to_more k x all at here = λ n y lt at_n. elim (cases_eq k n) [

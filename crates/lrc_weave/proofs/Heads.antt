@@ -1,6 +1,6 @@
 -- The least of the next turns.
-use Rattle.std.proofs.Common.{◌≡◌, ℕ, zero, suc, ◌+◌, ◌<◌, ◌≤◌, inl, inr, Bool, true, false, List, [], ◌∷◌, length, refl, sym, ap, subst, ◌∙◌, arith}
-use Rattle.std.specs.Prelude.{Option, Some, None, option_map, nat_le, cond, slice_index_or}
+use Rattle.std.proofs.Common.{◌≡◌, ℕ, zero, suc, ◌+◌, ◌<◌, ◌≤◌, inl, inr, Bool, true, false, List, length, refl, sym, ap, subst, ◌∙◌, arith}
+use Rattle.std.specs.Prelude.{Option, Some, None, option_map, nat_le, cond}
 use Rattle.std.proofs.lemmas.Bool.{cases_eq, leb-true, leb-false}
 use Rattle.lrc_protocol.specs.Run.{EntryRecord}
 use Rattle.lrc_weave.specs.declared.order.Head.{Head}
@@ -105,28 +105,6 @@ module _ (stamps : ℕ → Option ℕ) where
       let best : Option Head = earlier_of before.0 (stamps below) below in
       let more : below + 1 ≡ suc below = omega arith in
       (best, subst (λ k. IsBest stamps k best) more (best_more below before.0 before.1))
-
--- ---- the stamps in a list
-
-stamp_within : (stamps : List (Option ℕ)) (n stamp : ℕ) → stamp_of stamps n ≡ Some stamp → n < length stamps
-stamp_within [] n stamp at = cc
-stamp_within (s ∷ stamps) zero stamp at = omega arith
-stamp_within (s ∷ stamps) (suc n) stamp at = omega (arith, stamp_within stamps n stamp at)
-
-read_stamp : (stamps : List (Option ℕ)) (n : ℕ) (s : Option ℕ) → n < length stamps → s ≡ slice_index_or stamps n s → s ≡ stamp_of stamps n
-read_stamp [] n s within is = absurd (omega (arith, within))
-read_stamp (x ∷ stamps) zero s within is = is
-read_stamp (x ∷ stamps) (suc n) s within is = read_stamp stamps n s (omega (arith, within)) is
-
-pub first_more : (stamps : List (Option ℕ)) (n : ℕ) (s : Option ℕ) (best : Option Head) → n < length stamps → s ≡ slice_index_or stamps n s
-    → IsBest (stamp_of stamps) n best → IsBest (stamp_of stamps) (n + 1) (earlier_of best s n)
-first_more stamps n s best within is so =
-    subst (λ o. IsBest (stamp_of stamps) (n + 1) (earlier_of best o n)) (sym (read_stamp stamps n s within is)) (best_more (stamp_of stamps) n best so)
-
-pub first_all : (stamps : List (Option ℕ)) (n : ℕ) (best : Option Head) → n ≡ length stamps → IsBest (stamp_of stamps) n best
-    → IsFirst (stamp_of stamps) (option_map (λ (h : Head). h.node) best)
-first_all stamps n best all so =
-    best_all (stamp_of stamps) (length stamps) (stamp_within stamps) best (subst (λ k. IsBest (stamp_of stamps) k best) all so)
 
 -- ---- the stamps in logs
 

@@ -1,10 +1,10 @@
 -- Lines of puts, and what the turns of a log take from them.
-use Rattle.std.proofs.Common.{◌≡◌, ℕ, zero, suc, ◌+◌, ◌<◌, ◌≤◌, ◌↔◌, inl, inr, Bool, true, false, cond, IsTrue, List, [], ◌∷◌, ◌++◌}
+use Rattle.std.proofs.Common.{◌≡◌, ℕ, zero, suc, ◌+◌, ◌<◌, ◌↔◌, inl, inr, Bool, true, false, cond, IsTrue, List, [], ◌∷◌, ◌++◌}
 use Rattle.std.proofs.Common.{length, map, filter, take, drop, replicate, refl, sym, ap, subst, ◌∙◌, arith, append-nil, append_assoc}
 use Rattle.std.specs.Prelude.{Option, Some, Result, Ok, Err, IfOk, slice_get, slice_index_or, slice_set, ◌==◌, ◌&&◌}
 use Rattle.std.specs.List.{list_all, range_with_len}
 use Rattle.std.proofs.lemmas.Bool.{cases_eq, and_parts, eq-eqb, eqb-true, ne_eqb}
-use Rattle.std.proofs.lemmas.List.{append_cancel_left, map-append, take-append-drop, length-map, length-set, length-replicate, get_or-replicate, get_or-set_same, get_or-set_other, ext_get_or, map-set, set_past, get_or-map}
+use Rattle.std.proofs.lemmas.List.{append_cancel_left, map-append, take-append-drop, length-map, length-set, length-replicate, get_or-replicate, get_or-set_same, get_or-set_other, ext_get_or, map-set, get_or-map}
 use Rattle.std.proofs.lemmas.List.Elements.{filter-append}
 use Rattle.std.proofs.lemmas.List.FromFn.{length-range_with_len, get_or-map-range_with_len}
 use Rattle.std.proofs.lemmas.Grind.{flat_map-append}
@@ -16,7 +16,7 @@ use Rattle.lrc_protocol.specs.Run.{EntryRecord, Flying, sent_by}
 use Rattle.lrc_weave.specs.Logs.{all_sent, sent_to}
 use Rattle.lrc_weave.specs.Matched.{is_put_by}
 use Rattle.lrc_weave.specs.Compared.{sent_as, only_to, puts_by_each, with_put, line_at, AreNext, AreAllNext, AreSent}
-use Rattle.lrc_weave.proofs.Places.{head_is, false_true, nothing, read, taken_more}
+use Rattle.lrc_weave.proofs.Places.{nothing, read, taken_more}
 
 abbrev Line : Type 0
 Line = List (Option Flying)
@@ -37,17 +37,6 @@ next_then a b old mid new false first then = λ more e.
 next_not : (a b : List Flying) (old new : Line) → AreNext a old new false → AreNext (a ++ b) old new false
 next_not a b old new apart = λ more e.
     apart (map Some b ++ more) (e ∙ ap (λ xs. xs ++ more) (map-append Some a b) ∙ append_assoc (map Some a) (map Some b) more)
-
--- the first of a line
-pub first_next : {V : Type 0} (f : V → Option Flying) (line rest : List V) (first : V) (m : Flying) (is : Bool) → line ≡ first ∷ rest
-    → IsTrue is ↔ (f first ≡ Some m) → AreNext (m ∷ []) (map f line) (map f rest) is
-first_next f line rest first m true split same = ap (map f) split ∙ ap (λ x. x ∷ map f rest) (same.0 refl)
-first_next f line rest first m false split same = λ more e.
-    false_true (same.1 (head_is (f first) (Some m) (map f rest) more (sym (ap (map f) split) ∙ e)))
-
-pub none_next : {V : Type 0} (f : V → Option Flying) (line rest : List V) (m : Flying) → length line ≡ 0 → AreNext (m ∷ []) (map f line) (map f rest) false
-none_next f [] rest m none = λ more e. cc
-none_next f (v ∷ line) rest m none = absurd (omega (arith, none))
 
 -- ---- all lines
 
@@ -121,15 +110,6 @@ one_taken m to lines rest true is_to within next = (
 one_taken m to lines rest false is_to within next =
     (to, within, subst (λ ms. AreNext ms (line_at lines to) [] false) (sym (for_it m to is_to)) next)
 
--- it is for none that has a line
-pub none_there : (m : Flying) (lines : List Line) → length lines ≤ m.envelope.to → AreAllNext (m ∷ []) lines lines true
-none_there m lines past = (
-  refl,
-  λ owner there.
-      subst (λ ms. AreNext ms (line_at lines owner) (line_at lines owner) true)
-      (sym (not_for_it m owner (λ e. omega (arith, past, there, e)))) refl,
-)
-
 -- as the code keeps the lines
 module _ {V : Type 0} (f : V → Line) where
   pub sent_next : (m : Flying) (to : ℕ) (vs later : List V) (d new : V) (E : Type 0) (result : Result Bool E) → m.envelope.to ≡ to → to < length vs
@@ -140,9 +120,6 @@ module _ {V : Type 0} (f : V → Line) where
       (one_taken m to (map f vs) (f new) is is_to (subst (λ n. to < n) (sym (length-map vs f)) within)
       (subst (λ l. AreNext (m ∷ []) l (f new) is) (sym (get_or-map f vs to d [] within)) next))
   sent_next m to vs later d new E (Err fault) is_to within after next = next
-
-  pub sent_past : (m : Flying) (to : ℕ) (vs : List V) → m.envelope.to ≡ to → length vs ≤ to → AreAllNext (m ∷ []) (map f vs) (map f vs) true
-  sent_past m to vs is_to past = none_there m (map f vs) (omega (arith, length-map vs f, is_to, past))
 
 -- ---- the messages of a turn
 
@@ -159,11 +136,6 @@ module _ (stamp : ℕ) (out : List EnvelopeRecord) (k : ℕ) (e : EnvelopeRecord
   pub turn_not : b ≡ false → AreAllNext (map (sent_as stamp) out) old new false
   turn_not none =
       all_no_more (map (sent_as stamp)) (map-append (sent_as stamp)) out k e old mid new (read out k e within is) before (next_is false none)
-
-pub turn_all : (stamp : ℕ) (out : List EnvelopeRecord) (k : ℕ) (old new : List Line) → k ≡ length out
-    → AreAllNext (map (sent_as stamp) (take k out)) old new true → AreAllNext (map (sent_as stamp) out) old new true
-turn_all stamp out k old new all before =
-    subst (λ es. AreAllNext (map (sent_as stamp) es) old new true) (ap (λ n. take n out) all ∙ take-length out) before
 
 -- ---- the turns of a log
 
@@ -285,13 +257,6 @@ module _ {V W : Type 0} (items : V → List W) (f : W → Wire) where
       (ap (map f) more ∙ map-append f (items line) (wire ∷ [])
       ∙ ap (λ xs. xs ++ f wire ∷ []) (ap seen is ∙ sym (get_or-map seen lines from line [] within)))
       ∙ ap (λ w. slice_set (map seen lines) from (slice_index_or (map seen lines) from [] ++ w ∷ [])) put
-      ∙ ap (with_put (map seen lines)) (sym put)
-
-  pub put_past : (lines : List V) (from to stamp : ℕ) (bytes : List ℕ) (wire : Wire) → length lines ≤ from → wire ≡ Put from to stamp bytes
-      → map seen lines ≡ with_put (map seen lines) wire
-  put_past lines from to stamp bytes wire past put =
-      sym (set_past (map seen lines) from (slice_index_or (map seen lines) from [] ++ Put from to stamp bytes ∷ [])
-      (subst (λ n. n ≤ from) (sym (length-map lines seen)) past))
       ∙ ap (with_put (map seen lines)) (sym put)
 
   pub put_next : (nodes : ℕ) (history : List Wire) (k : ℕ) (wire : Wire) (old new : List V) → k < length history → wire ≡ slice_index_or history k wire

@@ -7,12 +7,9 @@ use Rattle.std.proofs.lemmas.List.{length-map, length-set, length-append, get_or
 use Rattle.std.proofs.Math.Seq.{drop-length}
 use Rattle.std.proofs.lemmas.Option.{slice_get-get_or, slice_get_within, slice_get_read, same_Some}
 use Rattle.lrc_envelope.specs.Envelope.{EnvelopeRecord}
-use Rattle.lrc_protocol.specs.declared.event.Event.{Event}
 use Rattle.lrc_protocol.specs.Run.{Input, run, taken, EntryRecord}
-use Rattle.lrc_weave.specs.declared.events.MessageName.{MessageName}
 use Rattle.lrc_weave.specs.Woven.{takes_same, is_taken_among}
 use Rattle.lrc_weave.specs.Again.{has_key, is_noted, is_again, AreAgain, AreAllAgain}
-use Rattle.lrc_weave.specs.Events.{message_name, IsMadeByEvent, IsTurnOf}
 use Rattle.lrc_weave.proofs.Places.{taken_more, dropped_less}
 use Rattle.lrc_weave.proofs.Members.{in_map}
 
@@ -47,9 +44,6 @@ so_begun log place keys again all none counted = record {
       ap (λ ks. has_key ks message) none ∙ sym (ap (is_taken_among message) (ap (λ n. drop n log) all ∙ drop-length log));
   bits = λ k entry le at. absurd (omega (arith, le, all, slice_get_within log k entry at));
 }
-
-pub so_done : (log : List EntryRecord) (keys : List (ℕ × ℕ)) (again : List Bool) → AreSo log 0 keys again → AreAgain log again
-so_done log keys again so = record { count = so.count; each = λ place entry at. so.bits place entry (omega arith) at }
 
 noted_is : (log : List EntryRecord) (keys : List (ℕ × ℕ)) (later : List EntryRecord)
     → ((message : EnvelopeRecord) → has_key keys message ≡ is_taken_among message later)
@@ -93,9 +87,6 @@ so_more log place below keys new again entry input b so next low entry_is is mor
 
 -- ---- all logs
 
-pub all_begun : AreAllAgain [] []
-all_begun = record { count = refl; each = λ node log at. cc }
-
 end_of : {X : Type 0} (xs : List X) (x y : X) (k : ℕ) → slice_get (xs ++ x ∷ []) k ≡ Some y → (slice_get xs k ≡ Some y) ⊎ ((k ≡ length xs) × (x ≡ y))
 end_of [] x y zero at = inr (refl, (let same : x ≡ y = cc in same))
 end_of [] x y (suc k) at = cc
@@ -129,26 +120,6 @@ all_more logs bits log again all here = record {
 }
 
 -- ---- a turn and its bit
-
-pub bit_is : (log : List EntryRecord) (again : List Bool) (place : ℕ) (entry : EntryRecord) (b : Bool) → AreAgain log again
-    → slice_get log place ≡ Some entry → b ≡ slice_index_or again place b → b ≡ is_again entry.input (drop (place + 1) log)
-bit_is log again place entry b are at is =
-    let within : place < length again = omega (arith, are.count, slice_get_within log place entry at) in
-    same_Some b (is_again entry.input (drop (place + 1) log))
-    (ap Some is ∙ sym (slice_get-get_or again place b within) ∙ are.each place entry at)
-
-pub turned : (node : ℕ) (log : List EntryRecord) (again : List Bool) (place : ℕ) (old left new : List MessageName) (event : Event)
-    (entry : EntryRecord) (b : Bool)
-    → place < length log → entry ≡ slice_index_or log place entry → AreAgain log again → b ≡ slice_index_or again place b
-    → IsMadeByEvent node b old entry.input left event → new ≡ left ++ map message_name entry.turn.out → IsTurnOf node log place old new event
-turned node log again place old left new event entry b within is are bit made sent =
-    let at : slice_get log place ≡ Some entry = slice_get_read log (length log) place entry refl within is in (
-      entry,
-      left,
-      at,
-      subst (λ x. IsMadeByEvent node x old entry.input left event) (bit_is log again place entry b are at bit) made,
-      sent,
-    )
 
 module _ {V W : Type 0} (f : V → List EntryRecord) (g : W → List Bool) where
   pub has_bits : (logs : List V) (bits : List W) (node : ℕ) → AreAllAgain (map f logs) (map g bits) → node < length logs → node < length bits

@@ -1,5 +1,5 @@
 -- Lists with an item for each node, and lists of exactly the positions of which something is so.
-use Rattle.std.proofs.Common.{◌≡◌, ℕ, ◌+◌, ◌∙◌, inl, inr, List, [], ◌∷◌, ◌++◌, length, refl, sym, subst, ap, arith, eqb}
+use Rattle.std.proofs.Common.{◌≡◌, ℕ, ◌+◌, ◌∙◌, inl, inr, List, [], ◌∷◌, ◌++◌, length, sym, subst, ap, arith, eqb}
 use Rattle.std.specs.Prelude.{Contains, slice_get}
 use Rattle.std.specs.Ordering.{nat_cmp}
 use Rattle.std.specs.List.{dedup}
@@ -19,9 +19,6 @@ use Rattle.lrc_why.specs.Positions.{AreWordsOf}
 use Rattle.lrc_why.specs.Spread.{OfEach}
 
 module _ {X : Type 0} (IsSo : ℕ → X → Type 0) where
-  pub each-none : (xs : List X) → xs ≡ [] → OfEach 0 IsSo xs
-  each-none xs empty = rw empty (record { all = refl; each = λ n x is. absurd (omega (arith, slice_get_within [] n x is)) })
-
   pub each-push : (xs ys : List X) (x : X) (n : ℕ) → OfEach n IsSo xs → IsSo n x → ys ≡ xs ++ x ∷ [] → OfEach (n + 1) IsSo ys
   each-push xs ys x n old here pushed =
       let long = length_push xs x in

@@ -34,10 +34,6 @@ pub first_there : (xs : List ℕ) (x : ℕ) → slice_get xs 0 ≡ Some x → Co
 first_there [] x is = cc
 first_there (y ∷ ys) x is = (0, omega arith, same_Some y x is)
 
-pub none_there : (xs : List ℕ) (x : ℕ) → slice_get xs 0 ≡ None → Contains xs x → ⊥
-none_there [] x is (k, lt, at) = absurd (omega (arith, lt))
-none_there (y ∷ ys) x is h = cc
-
 pub beside-decided : (run : List Act) (intervals : List ℕ) (position k : ℕ) (e : Act) (b : Bool) → AreIntervals run (length run) intervals
     → position < length run → k < length run → IsActOf run (get_or run position e).node k
     → b ≡ eqb (get_or intervals k 0) (get_or intervals position 0) → MatchBool b (IsBeside run position k) (IsBeside run position k → ⊥)

@@ -176,9 +176,6 @@ in_runs_again cs rest h =
 pub in_runs_agree : Agrees (λ bytes. whole_runs (runs_at bytes)) (λ cs. in_runs (runs_of cs)) AreChanging
 in_runs_agree = record { takes = in_runs_take; again = in_runs_again }
 
-pub few_runs_of : (cs : List Change) → AreChanging cs → length (runs_of cs) ≤ MOST_RUNS
-few_runs_of cs h = at_most_128 (runs_of cs) (runs_of-apart 0 cs (changing_from 0 cs h.0 h.1 (λ k d within. omega arith)))
-
 -- ---- runs as a loop reads them
 
 pub begins_above : (before : Option ℕ) (n first : ℕ) → is_after is_apart before first ≡ true → IsSomeAnd before (λ last. n ≤ last) → n < first

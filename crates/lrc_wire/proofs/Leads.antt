@@ -107,9 +107,6 @@ run_at (c ∷ cs) (suc start) within =
     let same : suc (start + lead (drop start cs)) ≡ suc start + lead (drop start cs) = omega arith in
     run_at cs start (omega arith) ∙ ap (λ (k : ℕ). first_run (drop start cs) ∷ runs_of (drop k (c ∷ cs))) same
 
-pub none_left : (cs : List Change) (start : ℕ) → length cs ≤ start → runs_of (drop start cs) ≡ []
-none_left cs start le = ap runs_of (drop_all start cs le)
-
 -- one more run was written
 pub run_written : (cs : List Change) (start : ℕ) (out : List ℕ) → start < length cs
     → (out ++ run (first_run (drop start cs))) ++ flat_map run (runs_of (drop (start + lead (drop start cs)) cs)) ≡ out

@@ -1,5 +1,5 @@
 -- How many bytes the parts have.
-use Rattle.std.proofs.Common.{◌≡◌, ◌∙◌, ℕ, suc, ◌+◌, ◌-◌, ◌*◌, ◌<◌, ◌≤◌, Bool, true, false, List, [], ◌∷◌, ◌++◌, length, get_or, take, refl, sym, ap, arith}
+use Rattle.std.proofs.Common.{◌≡◌, ℕ, suc, ◌+◌, ◌-◌, ◌*◌, ◌≤◌, Bool, true, false, List, [], ◌∷◌, ◌++◌, length, refl, ap, arith}
 use Rattle.std.specs.Int.{w16, w32, w64}
 use Rattle.std.specs.List.{flat_map}
 use Rattle.std.proofs.lemmas.List.{length-append}
@@ -10,7 +10,6 @@ use Rattle.lrc_envelope.specs.Records.{IndexedChangesRecord}
 use Rattle.lrc_wire.specs.declared.version.Version.TheVariants.{Two}
 use Rattle.lrc_wire.specs.Runs.{Run, changes_in_run, runs_of}
 use Rattle.lrc_wire.proofs.Runs.{runs_of-whole}
-use Rattle.lrc_wire.proofs.Written.{flat_map-take_more}
 use Rattle.lrc_wire.specs.Spelling.{byte, number, numbers, flag, time, pages, interval, intervals, news, indices, run, in_runs, part, parts, page_values}
 
 pub length_byte : (n : ℕ) → length (byte n) ≡ 1
@@ -147,12 +146,6 @@ length_behind_page n rest = omega (arith, length-append (number w16 n) rest, len
 
 pub length_behind_flag : (n : ℕ) (b : Bool) (rest : List ℕ) → length (number w32 n ++ (flag b ++ rest)) ≡ 5 + length rest
 length_behind_flag n b rest = omega (arith, length-append (number w32 n) (flag b ++ rest), length-append (flag b) rest, length_number_32 n, length_flag b)
-
--- one more element
-pub length-take_more : {A : Type 0} (f : A → List ℕ) (xs : List A) (i : ℕ) (d : A) → i < length xs
-    → length (flat_map f (take (i + 1) xs)) ≡ length (flat_map f (take i xs)) + length (f (get_or xs i d))
-length-take_more f xs i d within =
-    ap length (sym (flat_map-take_more f [] xs i d within)) ∙ length-append (flat_map f (take i xs)) (f (get_or xs i d))
 
 -- ---- how many parts a body has at most
 

@@ -1,5 +1,5 @@
 -- What may happen next, and which of it a number says.
-use Rattle.std.proofs.Common.{◌≡◌, ◌∙◌, ℕ, zero, suc, ◌+◌, ◌-◌, ◌%◌, ◌<◌, ◌≤◌, ◌^◌, arith, List, [], ◌∷◌, ◌++◌, Bool, true, false, Some, None, Ok, Option}
+use Rattle.std.proofs.Common.{◌≡◌, ◌∙◌, ℕ, zero, suc, ◌+◌, ◌-◌, ◌%◌, ◌<◌, ◌≤◌, ◌^◌, arith, List, [], ◌∷◌, ◌++◌, Bool, true, false, Some, None, Ok}
 use Rattle.std.proofs.Common.{refl, sym, ap, subst, length, map, ⊎_elim, ◌⊎◌, append-nil}
 use Rattle.std.specs.Prelude.{Result, cond, filter, min, slice_get, slice_index_or, option_map}
 use Rattle.std.specs.List.{range_with_len}
@@ -19,9 +19,8 @@ use Rattle.lrc_world.specs.declared.world.World.{World}
 use Rattle.lrc_world.specs.Driven.{DrivesTo, IsRunOver, PlaysOne, IsFull}
 use Rattle.lrc_world.specs.Random.{choices_of, drawn_event, picked, next_state, drawn_number, wandering}
 use Rattle.lrc_world.specs.Rounds.{ready_at}
-use Rattle.lrc_world.specs.World.{Starts, Shows, seen_flying, seen_sent}
+use Rattle.lrc_world.specs.World.{Starts, Shows}
 use Rattle.lrc_world.proofs.Driven.{goes_by, is_over, none_long}
-use Rattle.lrc_world.proofs.Lists.{same_length}
 use Rattle.lrc_world.proofs.NodeTurns.{not_none}
 
 -- ---- the one that a number says
@@ -180,13 +179,3 @@ picks_delivery number deliveries place ready is past some =
     ∙ ap (λ n. slice_get (map events.Deliver (range_with_len 0 deliveries)) (place - n)) long
     ∙ slice_get-map events.Deliver (range_with_len 0 deliveries) (place - length ready)
     ∙ ap (option_map events.Deliver) nth)
-
--- what is chosen of a world's choices
-pub chosen_of : (nodes number deliveries : ℕ) (ready : List ℕ) (world : World) (starts : Starts) (run : Run) (event : Option Event) → Shows starts world run
-    → ready ≡ filter (ready_at run) (range_with_len 0 nodes) → deliveries ≡ min (length world.flight.items) (2 ^ 32)
-    → event ≡ picked number (turns_and ready deliveries) → event ≡ drawn_event nodes number run
-chosen_of nodes number deliveries ready world starts run event shows is few picks =
-    picks
-    ∙ ap (λ r. picked number (turns_and r deliveries)) is
-    ∙ ap (λ d. picked number (turns_and (filter (ready_at run) (range_with_len 0 nodes)) d))
-    (few ∙ ap (λ n. min n (2 ^ 32)) (same_length seen_flying seen_sent world.flight.items run.flight shows.flight))

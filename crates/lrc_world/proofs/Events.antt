@@ -1,6 +1,6 @@
 -- One event more.
 use Rattle.std.proofs.Common.{◌≡◌, ◌∙◌, ℕ, ◌+◌, List, [], ◌∷◌, ◌++◌, Some, Result, Ok, Err, IfErr, IsErrAnd, OnOk, refl}
-use Rattle.std.proofs.Common.{◌↔◌, Bool, true, sym, ap, subst, take, drop, zero, suc, arith, length, ◌≤◌, ◌<◌}
+use Rattle.std.proofs.Common.{sym, ap, subst, take, drop, zero, suc, arith, length, ◌≤◌, ◌<◌}
 use Rattle.std.specs.Prelude.{slice_get, slice_index_or}
 use Rattle.std.proofs.lemmas.List.Sums.{fold-append}
 use Rattle.lrc_lang.specs.declared.program.Program.{Program}
@@ -15,7 +15,7 @@ use Rattle.lrc_world.specs.declared.keep.Keep.{Keep}
 use Rattle.lrc_world.specs.Turned.{when_all, turned_of, turner}
 use Rattle.lrc_world.specs.World.{NotesTurn, Starts, Shows, PlaysTo, starts_of}
 use Rattle.lrc_world.proofs.Noted.{noted_more}
-use Rattle.lrc_world.specs.Report.{AreAll, IsOver, IsWornBy, IsWornFault}
+use Rattle.lrc_world.specs.Report.{IsWornBy, IsWornFault}
 
 -- the run of the events so far, which the world shows, and the turns that they made
 abbrev pub Runs : Keep → Program → ℕ → OptionsRecord → List Event → World → Type 0
@@ -93,14 +93,3 @@ pub get_at : {X : Type 0} (xs : List X) (k : ℕ) (d : X) → k < length xs → 
 get_at [] k d within = absurd (omega (arith, within))
 get_at (x ∷ xs) zero d within = refl
 get_at (x ∷ xs) (suc k) d within = get_at xs k d (omega (arith, within))
-
-one_run : (a b : Run) → Some a ≡ Some b → a ≡ b
-one_run a b e = cc
-
--- whether nothing is left to do after the events, by the run of them
-pub over_after : (program : Program) (nodes : ℕ) (options : OptionsRecord) (events : List Event) (run : Run) (is_over : Bool)
-    → run_of program nodes options events ≡ Some run → (is_over ≡ true) ↔ IsOver run → (is_over ≡ true) ↔ AreAll program nodes options events
-over_after program nodes options events run is_over runs over = (
-  λ e. (run, runs, over.0 e),
-  λ all. over.1 (subst IsOver (one_run all.0 run (sym all.1 ∙ runs)) all.2),
-)

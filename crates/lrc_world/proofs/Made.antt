@@ -144,10 +144,6 @@ turned_more (Some world) (x ∷ before) event =
 
 -- ---- the turned events alone
 
-abbrev Alone : Option Run → List Event → Run → Type 0
-Alone None more end = Unit {0}
-Alone (Some world) more end = played world (events_in (turned_from (Some world) more)) ≡ Some end
-
 -- the run of one event and those after it that are not skipped
 alone_one : (world end : Run) (event : Event) (more : List Event) (next : Option Run) (o : Option ℕ) → event_on world event ≡ next
     → fold step_of next more ≡ Some end → ((w : Run) → next ≡ Some w → TurnsOrNot world w (left_in world event) o)

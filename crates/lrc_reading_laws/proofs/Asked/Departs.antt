@@ -7,7 +7,7 @@ use Rattle.std.proofs.lemmas.Bool.{cases_eq, cases_lt, le-leb, lt-leb}
 use Rattle.lrc_time.specs.Time.{entry, joined}
 use Rattle.lrc_time.proofs.Times.{entry-joined}
 use Rattle.lrc_store.specs.Interval.{IntervalRecord, index_of}
-use Rattle.lrc_store.proofs.Orders.{Contains-first, Contains-later, cases_Contains, none_Contains}
+use Rattle.lrc_store.proofs.Orders.{cases_Contains, none_Contains}
 use Rattle.lrc_barrier.specs.declared.arrival.Arrival.{Arrival}
 use Rattle.lrc_barrier.specs.Barrier.{is_news, intervals_of}
 use Rattle.lrc_protocol.specs.Times.{indices_by}
@@ -119,14 +119,6 @@ told_between former top time q arrivals h lt below most =
     ∙ ap (range_with_len (entry time q + 1)) same
 
 -- ---- the time of all
-
-pub join_entry-most : (q b : ℕ) (start : List ℕ) (times : List (List ℕ)) → entry start q ≤ b → ((t : List ℕ) → Contains times t → entry t q ≤ b)
-    → entry (fold joined start times) q ≤ b
-join_entry-most q b start [] s h = s
-join_entry-most q b start (t ∷ times) s h =
-    let first : entry t q ≤ b = h t (Contains-first t times) in
-    let both : entry (joined start t) q ≡ max (entry start q) (entry t q) = entry-joined start t q in
-    join_entry-most q b (joined start t) times (omega (arith, s, first, both)) (λ u there. h u (Contains-later t times u there))
 
 pub join_entry-least : (q b : ℕ) (start : List ℕ) (times : List (List ℕ)) → b ≤ entry start q → b ≤ entry (fold joined start times) q
 join_entry-least q b start [] s = s

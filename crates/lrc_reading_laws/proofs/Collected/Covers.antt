@@ -1,19 +1,17 @@
 -- In every run what a node has collected is covered by the time of every node; and who fetches has collected all that others have.
 use Rattle.std.proofs.Common.{◌≡◌, ℕ, List, Bool, true, false, is_some, refl, sym, ap, subst, ◌∙◌, arith}
-use Rattle.std.specs.Prelude.{Option, Some, None, Contains, slice_get}
+use Rattle.std.specs.Prelude.{Option, Some, None, slice_get}
 use Rattle.lrc_lang.specs.declared.program.Program.{Program}
 use Rattle.lrc_time.specs.Time.{Covers}
 use Rattle.lrc_time.proofs.Times.{covers-refl, covers-trans}
-use Rattle.lrc_store.proofs.Orders.{none_Contains}
-use Rattle.lrc_protocol.specs.Pages.{invalid, copy_at, Need}
+use Rattle.lrc_protocol.specs.Pages.{Need}
 use Rattle.lrc_protocol.specs.Barriers.{Collection}
-use Rattle.lrc_protocol.specs.Node.{Wait, nothing, grant, departure, access, upkeep, discard, needs_of, OptionsRecord}
+use Rattle.lrc_protocol.specs.Node.{Wait, nothing, grant, departure, access, upkeep, discard, OptionsRecord}
 use Rattle.lrc_protocol.specs.Run.{Logged, World}
 use Rattle.lrc_order_laws.specs.Counts.{is_inside}
 use Rattle.lrc_order_laws.specs.Barriers.{is_collecting}
 use Rattle.lrc_order_laws.proofs.Reached.{IsReached}
-use Rattle.lrc_node_laws.specs.Remembered.{IsBetween}
-use Rattle.lrc_node_laws.proofs.Always.{exact_at, between_at}
+use Rattle.lrc_node_laws.proofs.Always.{exact_at}
 use Rattle.lrc_reading_laws.proofs.Collected.Turns.{in_collection}
 use Rattle.lrc_reading_laws.proofs.Collected.Pairs.{inside, Fits}
 use Rattle.lrc_reading_laws.proofs.Collected.Flips.{cleans_in}
@@ -108,23 +106,3 @@ module _ (program : Program) (nodes : ℕ) (options : OptionsRecord) (world : Wo
     pub fetching_covers : (collection : Collection) (needs : List Need) → l.node.mail.wait ≡ upkeep collection needs
         → Covers l.node.memory.collected k.node.memory.collected
     fetching_covers collection needs w = fetching_by (one_under_way n l at (ap is_collecting w)) (ap in_collection w) (inside k.node) refl
-
-    -- of each page that is needed
-    needing_by : (w : Wait) → l.node.mail.wait ≡ w → (need : Need) → Contains (needs_of w) need → Covers l.node.memory.collected k.node.memory.collected
-    needing_by (access other) w need there = missing_covers other w
-    needing_by (upkeep collection needs) w need there = fetching_covers collection needs w
-    needing_by nothing w need there = absurd (none_Contains need there)
-    needing_by (grant lock) w need there = absurd (none_Contains need there)
-    needing_by departure w need there = absurd (none_Contains need there)
-    needing_by (discard collection) w need there = absurd (none_Contains need there)
-
-    pub needing_covers : (need : Need) → Contains (needs_of l.node.mail.wait) need → Covers l.node.memory.collected k.node.memory.collected
-    needing_covers need there = needing_by l.node.mail.wait refl need there
-
-    -- so what an invalid copy has covers all that others have collected
-    pub since_covers : (need : Need) (values since : List ℕ) → Contains (needs_of l.node.mail.wait) need
-        → copy_at l.node.memory need.page ≡ invalid values since → Covers since k.node.memory.collected
-    since_covers need values since there is =
-        let some : IsBetween l.node.locks.time l.node.memory need.page (invalid values since) =
-        subst (IsBetween l.node.locks.time l.node.memory need.page) is (between_at l.node (node_reached program nodes options world r n l at) need.page) in
-        covers-trans since l.node.memory.collected k.node.memory.collected some.0 (needing_covers need there)

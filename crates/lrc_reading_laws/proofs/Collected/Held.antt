@@ -28,7 +28,7 @@ use Rattle.lrc_node_laws.proofs.Always.{ranged_at, needed_at, between_at}
 use Rattle.lrc_reading_laws.proofs.Laws.{AwaitsBase}
 use Rattle.lrc_reading_laws.proofs.Collected.Turns.{in_collection, no_valid, Ended}
 use Rattle.lrc_reading_laws.proofs.Collected.Keepers.{Namer, namer_of, is_named_by, in_kept}
-use Rattle.lrc_reading_laws.proofs.Collected.Local.{HasKept, has_kept, missing_named, absent_elsewhere}
+use Rattle.lrc_reading_laws.proofs.Collected.Local.{HasKept, has_kept, missing_named}
 use Rattle.lrc_reading_laws.proofs.Collected.Flips.{cleans_in, Flips, goes_on, starts, stops, flips}
 use Rattle.lrc_reading_laws.proofs.Collected.Pairs.{inside}
 use Rattle.lrc_reading_laws.proofs.Collected.Agree.{Agree, Did, stays, begins, ends, turned, Whose, own, other, whose, next_fit, next_exclusive}
@@ -270,13 +270,7 @@ module _ (program : Program) (nodes : ℕ) (options : OptionsRecord) where
         (ranged_at l.node (node_reached program nodes options world r n l at)).memory in
         omega (arith, fits.in_range, a.page_is, ranges.copies)
 
-    -- it asks another node
-    pub asks_another : m ≡ n → ⊥
-    asks_another e =
-        absent_elsewhere l.node (node_reached program nodes options world r n l at) page awaited_page awaited_absent
-        (awaited_keeper program nodes options world r n l page m at a ∙ e ∙ sym (me_at program nodes options world r n l at))
-
-    -- and that has a base copy of the page
+    -- the node that is asked has a base copy of the page
     pub asked_has_base : slice_get world.nodes m ≡ Some k → is_some (base_at k.node.memory page) ≡ true
     asked_has_base at_m =
         let served : Served world = all_served r.events world r.runs in

@@ -33,7 +33,7 @@ use Rattle.lrc_node_laws.proofs.Remembered.{Between}
 use Rattle.lrc_node_laws.proofs.OwnCopies.{set-copy, map-copy}
 use Rattle.lrc_node_laws.proofs.Reach.{first_view}
 use Rattle.lrc_node_laws.proofs.Tokened.{come_to}
-use Rattle.lrc_node_laws.proofs.Always.{ranged, ranged_at, needed, between, copied_own}
+use Rattle.lrc_node_laws.proofs.Always.{ranged, needed, between, copied_own}
 use Rattle.lrc_reading_laws.proofs.Collected.Turns.{keepers_after, KeepsCopies, no_valid, written_absent, dropped_absent}
 use Rattle.lrc_reading_laws.proofs.Collected.Turns.{mended-keeps, clean-keeps, learned-keeps, closes-keeps, bases-keep}
 use Rattle.lrc_reading_laws.proofs.Collected.Keepers.{names, Namer, keeper-named, keeper-unnamed, in_kept, from_kept, IsKept}
@@ -300,9 +300,3 @@ absent_elsewhere node r = all-elsewhere r.program r.nodes r.options r.me r.leads
 
 pub has_kept : (node : Node) → IsReached node → HasKept node.memory.bases node.mail.wait
 has_kept node r = all-has r.program r.nodes r.options r.me r.leads.among (view_of node) (come_to node r).walked
-
--- a page that a node keeps anew is there
-pub kept_there : (node : Node) → IsReached node → (page : ℕ) → Contains (kept_pages node.setting.me node.memory) page → copy_at node.memory page ≡ absent → ⊥
-kept_there node r page there e =
-    let is : IsKept node.setting.me node.memory page = from_kept node.setting.me node.memory page there in
-    absent_elsewhere node r page (omega (arith, is.in_range, (ranged_at node r).memory.copies, (ranged_at node r).memory.keepers)) e is.mine

@@ -15,25 +15,14 @@ use Rattle.lrc_order_laws.proofs.Sends.{Came, comes}
 use Rattle.lrc_node_laws.proofs.Change.{View, Walk}
 use Rattle.lrc_node_laws.proofs.Reach.{first_view}
 use Rattle.lrc_reading_laws.specs.Made.{AllMade}
-use Rattle.lrc_node_laws.proofs.Turning.{First, Brings, rests, manages, closes, learns, begins, discards, misses, gets_changes}
-use Rattle.lrc_node_laws.proofs.Turning.{gets_page, Later, moves, puts, cleans, mends, Played, begun, goes_on, played-walk}
+use Rattle.lrc_node_laws.proofs.Turning.{Brings}
+use Rattle.lrc_node_laws.proofs.Turning.{Later, moves, puts, cleans, mends, Played, begun, goes_on, played-walk}
 use Rattle.lrc_reading_laws.proofs.Fitting.Copies.{Wrote, FitsTime, Fit, Facts, Stored}
 use Rattle.lrc_reading_laws.proofs.Fitting.First.{closed_in, Shuts}
 use Rattle.lrc_reading_laws.proofs.Fitting.Later.{at_view, stored-before, later-fit}
 use Rattle.lrc_reading_laws.proofs.Fitting.Turns.{first-fit}
 
 -- ---- what a turn leaves as it is
-
-first-size : (came : Came) (v after : View) → First came v after → after.size ≡ v.size
-first-size came v _ rests = refl
-first-size came v _ (manages before manager e many) = refl
-first-size came v _ (closes wait e s) = refl
-first-size came v _ (learns time intervals o n b) = refl
-first-size came v _ (begins time intervals e c n b) = refl
-first-size came v _ (discards collection e) = refl
-first-size came v _ (misses page e lt b n) = refl
-first-size came v _ (gets_changes from m r) = refl
-first-size came v _ (gets_page from m is s) = refl
 
 later-size : (v after : View) → Later v after → after.size ≡ v.size
 later-size v _ (moves course e) = refl

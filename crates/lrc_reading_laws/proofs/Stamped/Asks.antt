@@ -207,9 +207,6 @@ module _ (s : Site) where
       ⊎_elim (λ old. inl old) (λ new. none_some (Successor s came k w) w new.1) (set-waiter s.locks.held lock (Held None) k w e)
   taken-waiter came lock k w false e = inl e
 
-  learned-waiter : (came : Came) (k : ℕ) (w : Waiter) → waiter_in (lock_at s.locks.held k) ≡ Some w → Successor s came k w
-  learned-waiter came k w e = inl e
-
   idle : (w : Wait) → s.wait ≡ w → is_granting w ≡ false → is_granting s.wait ≡ false
   idle w e g = ap is_granting e ∙ g
 

@@ -47,9 +47,6 @@ head_scan index word true k found deed deeds = refl
 head_scan index word false k found deed deeds = let e : k + 0 ≡ k = omega arith in ap (λ k. scan index word k found deeds) e
 
 module _ (node index word : ℕ) where
-  found_in : List Act → Option ℕ → ℕ × Act → Option ℕ
-  found_in acts found at = newer found (write_in acts node index word at)
-
   interval_here : (before : List Act) (a : Act) (acts : List Act) → interval_at (before ++ a ∷ acts) node (length before) ≡ 1 + count_of closes node before
   interval_here before a acts = ap (λ xs. 1 + count_of closes node xs) (take-append_seam before (a ∷ acts))
 

@@ -131,8 +131,3 @@ found_on size page (write ∷ writes) some =
             last = λ before. found.last (newer before (if write.0 == found.word then Some write.1 else None));
           }
     ]
-
--- the values stay as many
-pub puts-length : (size : Size) (writes : List (ℕ × ℕ)) (values : List ℕ) → length (fold (put size) values writes) ≡ length values
-puts-length size [] values = refl
-puts-length size (write ∷ writes) values = puts-length size writes (put size values write) ∙ length-set values (offset_of write.0 size) write.1

@@ -4,7 +4,7 @@ use Rattle.std.specs.declared.alloc.Global.{Global}
 use Rattle.std.proofs.lemmas.List.{take_all}
 use Rattle.std.proofs.lemmas.Option.{same_Some, slice_get-get_or}
 use Rattle.lrc_why.specs.Spread.{OfEach}
-use Rattle.lrc_why.proofs.Lists.{each-none, each-push}
+use Rattle.lrc_why.proofs.Lists.{each-push}
 use Rattle.lrc_why_text.specs.declared.asked.Asked.{Asked}
 use Rattle.lrc_why_run.specs.Answers.{Tells}
 use Rattle.lrc_why_run.proofs.run.told_each.Goals as goal
