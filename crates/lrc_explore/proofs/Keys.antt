@@ -20,7 +20,7 @@ use Rattle.lrc_orders.proofs.Searching.{copy_same, copy_state}
 use Rattle.lrc_orders.proofs.Standing.{step_within}
 use Rattle.lrc_orders.proofs.Stores.{added_all, before, full_more}
 use Rattle.lrc_orders.proofs.Ways.{IsNotedCopy}
-use Rattle.lrc_orders_table.proofs.RowLaws.{row_copy, row_grown, row_store, row_within, rows_again, rows_not}
+use Rattle.lrc_orders_table.proofs.RowLaws.{row_copy, row_grown, row_store, row_within, rows_again}
 use Rattle.lrc_orders_laws.specs.Steps.{beginning}
 use Rattle.lrc_orders_laws.proofs.Rounds.{one_settling}
 use Rattle.lrc_orders_settling.specs.declared.step.Step.{Step}
@@ -327,9 +327,6 @@ expanded_at task all place last reached le all_together each key at =
 
 pub more_again : {a b c : Found} → IsMore a b → IsMore b c → IsMore a c
 more_again v w = record { rows = rows_again v.rows w.rows; origins = grows_again v.origins w.origins }
-
-pub more_same : (found : Found) → IsMore found found
-more_same found = record { rows = rows_not found.table.rows; origins = grows_not found.origins.items found.origins.items refl }
 
 pub after_at_grown : (task : Task) (old new : Rows) (place : ℕ) (step : Step) → WidensRows old new → IsRowPlace old place → HasAfterAt task old place step
     → HasAfterAt task new place step

@@ -3,17 +3,16 @@ use Rattle.std.proofs.Common.{◌≡◌, ◌≤◌, List, refl, sym, ap, ◌∙�
 use Rattle.std.specs.Prelude.{All, Some, slice_get}
 use Rattle.lrc_exec.specs.declared.spot.Flat.{Flat}
 use Rattle.lrc_exec.specs.declared.spot.Spot.{Spot}
-use Rattle.lrc_exec.specs.Spots.{IsFlat}
-use Rattle.lrc_orders_live.specs.Live.{AreLive, forgot}
+use Rattle.lrc_orders_live.specs.Live.{forgot}
 use Rattle.lrc_orders_table.specs.Rows.{AreRowsDistinct}
 use Rattle.lrc_orders_table.specs.Nexts.{SettlesSo, next_in}
 use Rattle.lrc_orders_table.specs.declared.known.Means.{Means}
 use Rattle.lrc_orders_table.specs.declared.table.After.{After}
 use Rattle.lrc_orders_table.specs.declared.table.Asked.{Asked}
 use Rattle.lrc_orders_table.specs.declared.table.Table.{Table}
-use Rattle.lrc_orders_table.specs.Tables.{AreMeans, IsAfter, IsTable}
+use Rattle.lrc_orders_table.specs.Tables.{IsAfter, IsTable}
 use Rattle.lrc_explore.specs.declared.task.Task.{Task}
-use Rattle.lrc_explore.specs.Reached.{IsMeansOf, IsTableOf, IsTask}
+use Rattle.lrc_explore.specs.Reached.{IsMeansOf, IsTableOf}
 
 abbrev pub means_of : Task → Means
 means_of task =
@@ -24,12 +23,6 @@ means_are task = record { flat = refl; live = refl; looked = refl; noting = refl
 
 pub table_distinct : (task : Task) (table : Table) → IsTableOf task table → AreRowsDistinct table.rows
 table_distinct task table is = (is (means_of task) (means_are task)).distinct
-
-pub are_means : (task : Task) (means : Means) → IsTask task → IsMeansOf task means → AreMeans means
-are_means task means t is = record {
-  flat = subst IsFlat (sym is.flat) t.flat;
-  live = subst (λ (f : Flat). AreLive f.code.now means.live.now) (sym is.flat) (subst (AreLive task.flat.code.now) (sym is.live) t.live);
-}
 
 -- what is known does not depend on how much is looked at
 module _ (a b : Means) (flat : a.flat ≡ b.flat) (live : a.live.now ≡ b.live.now) where

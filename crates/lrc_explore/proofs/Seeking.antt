@@ -1,6 +1,6 @@
 -- A search that goes through what was found.
-use Rattle.std.proofs.Common.{◌≡◌, ℕ, ◌+◌, ◌<◌, ◌≤◌, List, [], true, inl, inr, refl, sym, ap, ◌∙◌, subst, arith}
-use Rattle.std.specs.Prelude.{◌↔◌, All, Option, Some, None, slice_get}
+use Rattle.std.proofs.Common.{◌≡◌, ℕ, ◌+◌, ◌<◌, ◌≤◌, List, [], true, inl, inr, refl, sym, ◌∙◌, subst, arith}
+use Rattle.std.specs.Prelude.{◌↔◌, All, Option, Some, None}
 use Rattle.std.specs.Option.{option_or}
 use Rattle.std.proofs.lemmas.Bool.{cases_eq}
 use Rattle.lrc_trace.specs.declared.act.Act.{Act}
@@ -36,7 +36,7 @@ use Rattle.lrc_explore.specs.Answers.{AddsOnly, AreGathered, AreSound, HasMoreSe
 use Rattle.lrc_orders_live.specs.Live.{forgot}
 use Rattle.lrc_orders_live.proofs.Like.{like_back, rest_like}
 use Rattle.lrc_orders_table.proofs.Forgotten.{threads_of_row}
-use Rattle.lrc_explore.proofs.Keys.{expanded_copy, expanded_grown, more_again, more_same}
+use Rattle.lrc_explore.proofs.Keys.{expanded_copy, expanded_grown, more_again}
 use Rattle.lrc_explore.proofs.MeansOf.{means_are, means_of}
 use Rattle.lrc_explore.proofs.Reaching.{all_reached, fine_key}
 
@@ -62,15 +62,6 @@ pub record Seeking (task : Task) (first now : Found) (place : ℕ) (stuck : Opti
   pub calm : AreCalm task now.table.rows place
   pub expanded : AreExpanded task now.table.rows place
   pub halted : IsStuckSoFar task now.table.rows place stuck
-
-pub seeking_first : (task : Task) (found : Found) → AreFound task found → Seeking task found found 0 None
-seeking_first task found f = record {
-  found = f;
-  more = more_same found;
-  calm = λ k key lt at. absurd (omega (arith, lt));
-  expanded = λ k lt. absurd (omega (arith, lt));
-  halted = λ k key lt at. absurd (omega (arith, lt));
-}
 
 module _ (task : Task) (first old new : Found) (place : ℕ) (stuck : Option ℕ) (s : Seeking task first old place stuck) (f : AreFound task new)
     (m : IsMore old new) (within : place < row_count old.table.rows) where
@@ -154,20 +145,6 @@ pub record Gathering (task : Task) (first now : Found) (outcomes : List Outcome)
   pub more : IsMore first now
   pub sound : AreSound task outcomes
   pub done : AreGathered task now.table.rows outcomes place
-
-abbrev nothing : List Outcome
-nothing = []
-
-none_in : (k : ℕ) (outcome : Outcome) → slice_get nothing k ≡ Some outcome → ⊥
-none_in k outcome e = cc
-
-pub gathering_first : (task : Task) (found : Found) (outcomes : List Outcome) → AreFound task found → outcomes ≡ [] → Gathering task found found outcomes 0
-gathering_first task found outcomes f none = record {
-  found = f;
-  more = more_same found;
-  sound = λ k outcome at. absurd (none_in k outcome (ap (λ l. slice_get l k) (sym none) ∙ at));
-  done = λ k lt. absurd (omega (arith, lt));
-}
 
 gathered_grown : (task : Task) (old new : Rows) (some more : List Outcome) (key : Noted) → WidensRows old new → Grows some more
     → IsGathered task old some key → IsGathered task new more key

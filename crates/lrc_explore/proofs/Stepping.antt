@@ -4,7 +4,6 @@ use Rattle.std.specs.Prelude.{Option, Some, None, MatchOption, Result, Ok, Err, 
 use Rattle.lrc_exec.specs.States.{plain_at, IsStateOf}
 use Rattle.lrc_orders.specs.declared.noted.Noted.{Noted}
 use Rattle.lrc_orders.specs.declared.search.ExploreFault.{ExploreFault}
-use Rattle.lrc_orders.proofs.Keeping.{grows_not}
 use Rattle.lrc_orders.proofs.Searching.{copy_same}
 use Rattle.lrc_orders.proofs.Stores.{before}
 use Rattle.lrc_orders.proofs.Ways.{IsNotedCopy}
@@ -21,7 +20,7 @@ use Rattle.lrc_orders_table.specs.Tables.{CannotTakeFrom, IsKnown, IsLongFault a
 use Rattle.lrc_explore.specs.declared.task.Task.{Task}
 use Rattle.lrc_explore.specs.declared.task.Found.{Found}
 use Rattle.lrc_explore.specs.Answers.{IsFault}
-use Rattle.lrc_explore.specs.Reached.{AreFound, CannotTakeAt, IsFound, IsMeansOf, IsMore, IsReached, LeadsTo}
+use Rattle.lrc_explore.specs.Reached.{AreFound, CannotTakeAt, IsFound, IsMeansOf, IsReached, LeadsTo}
 use Rattle.lrc_explore.proofs.Keys.{from_grown, next_reached}
 use Rattle.lrc_explore.proofs.MeansOf.{means_are, means_of, table_of}
 use Rattle.lrc_explore.proofs.Reaching.{settled_key}
@@ -97,9 +96,6 @@ module _ (task : Task) (means : Means) (old new : Found) (is : IsMeansOf task me
     first = λ key at. f.first key (was_at 0 key at);
   }
 
-  pub more_kept : IsMore old new
-  more_kept = record { rows = keeps.widens; origins = grows_not old.origins.items new.origins.items same }
-
 -- ---- a step from a row
 
 module _ (task : Task) (means : Means) (old : Found) (new : Table) (place : ℕ) (row : Row) (step : Step) (is : IsMeansOf task means) (f : AreFound task old)
@@ -140,11 +136,6 @@ module _ (task : Task) (means : Means) (old : Found) (new : Table) (place : ℕ)
       → OnOk r (AreFound task (record { table = new; origins = old.origins }))
   found_on (Ok o) known keeps = let later : Found = record { table = new; origins = old.origins } in found_kept task means old later is f keeps known refl
   found_on (Err fault) known keeps = tt
-
-  pub more_on : (r : Result (Option Row) ExploreFault) → OnOk r (IsTable means new) → OnOk r (KeepsRows old.table new)
-      → OnOk r (IsMore old (record { table = new; origins = old.origins }))
-  more_on (Ok o) known keeps = let later : Found = record { table = new; origins = old.origins } in more_kept task means old later is f keeps known refl
-  more_on (Err fault) known keeps = tt
 
   pub faults_on : (r : Result (Option Row) ExploreFault)
       → IfErr r (λ fault. (x : Noted) → IsTakenFrom means old.table row x → IsLongRowFault means x fault) → IfErr r (IsFault task)

@@ -253,10 +253,6 @@ module _ (Related : Thread → Thread → Type 0) where
     threads = λ node. back_both (thread_in other node) (thread_in machine node) (a.threads node);
   }
 
-some_of : {A : Type 0} (o : Option A) → (o ≡ None → ⊥) → (x : A) × (o ≡ Some x)
-some_of (Some x) some = (x, refl)
-some_of _ some = absurd (some refl)
-
 module _ (Related : Thread → Thread → Type 0) (go : GoOnAlike Related) (machine other : Plain) (a : StandAlike Related machine other) where
   -- what is at rest here is there: else its step would be one here
   pub rests : IsAtRest machine → IsAtRest other

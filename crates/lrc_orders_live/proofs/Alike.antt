@@ -30,12 +30,6 @@ use Rattle.lrc_orders_settling.specs.declared.step.Step.{Step}
 use Rattle.lrc_orders_settling.specs.declared.step.Step.TheVariants.{Alone, Together}
 use Rattle.lrc_orders_settling.specs.Taking.{count_of, IsCounted, Takes, alone, together}
 
-pub alike_on : {a b c : Plain} → AreAlike a b → AreAlike b c → AreAlike a c
-alike_on x y = record { memory = x.memory ∙ y.memory; holders = x.holders ∙ y.holders; threads = x.threads ∙ y.threads }
-
-pub alike_same : {a b c : Plain} → AreAlike a b → b ≡ c → AreAlike a c
-alike_same {a = a} x e = subst (AreAlike a) e x
-
 -- ---- a state whose nodes have arrived once where they wait, and else never
 
 some_spot : (xs : List Spot) (k : ℕ) → k < length xs → Spot

@@ -1,10 +1,10 @@
 -- Tables of names, and what matters in front of statements.
-use Rattle.std.proofs.Common.{◌≡◌, ℕ, zero, suc, ◌+◌, ◌<◌, ◌≤◌, ◌||◌, ◌&&◌, ◌++◌, List, [], ◌∷◌, Bool, true, false, inl, inr, length, refl, sym, ap, ◌∙◌, arith}
-use Rattle.std.specs.Prelude.{All, Some, not, nat_eq, replicate, slice_get, slice_index_or, slice_set}
+use Rattle.std.proofs.Common.{◌≡◌, ℕ, zero, suc, ◌+◌, ◌<◌, ◌≤◌, ◌||◌, ◌&&◌, ◌++◌, List, [], ◌∷◌, Bool, false, inl, inr, length, refl, sym, ap, ◌∙◌, arith}
+use Rattle.std.specs.Prelude.{All, Some, not, nat_eq, replicate, slice_get, slice_index_or}
 use Rattle.std.proofs.Math.ListN.{get_or-append}
 use Rattle.std.proofs.Math.Seq.{get_or-append_seam}
-use Rattle.std.proofs.lemmas.Bool.{cases_eq, cases_lt, eq-eqb}
-use Rattle.std.proofs.lemmas.List.{get_or-set_same, get_or-set_other, get_or_default, get_or_past, length-set, length_push}
+use Rattle.std.proofs.lemmas.Bool.{cases_lt}
+use Rattle.std.proofs.lemmas.List.{get_or_default, length_push}
 use Rattle.lrc_lang.specs.declared.program.Expression.{Expression}
 use Rattle.lrc_lang.specs.declared.program.Statement.{Statement, Row_of-Statement, end_of-Statement, more_of-Statement}
 use Rattle.lrc_lang.specs.declared.program.Statement.TheBlock.{hidden-the_row-Statement-0}
@@ -62,43 +62,6 @@ pub while_among : (e : Expression) (a : _) (f : ℕ → Bool) (name : ℕ)
 while_among e a f name = ap (λ x. uses e name || (f name || x)) (block_among a no_name name)
 
 -- ---- a name that is set, or not
-
-same_name : (a b : ℕ) → a ≡ b → nat_eq a b ≡ true
-same_name a b e = eq-eqb a b e
-
-and_false : (b : Bool) → (b && false) ≡ false
-and_false true = refl
-and_false false = refl
-
-and_true : (b : Bool) → (b && true) ≡ b
-and_true true = refl
-and_true false = refl
-
-other_name : (a b : ℕ) → (a ≡ b → ⊥) → nat_eq a b ≡ false
-other_name a b apart = grind arith
-
-pub without : (names : List Bool) (own name : ℕ) → has (slice_set names own false) name ≡ (has names name && not (nat_eq own name))
-without names own name = elim (cases_eq own name) [
-  | inl same ↦
-      (elim (cases_lt own (length names)) [
-        | inl lt ↦ ap (λ n. has (slice_set names own false) n) (sym same) ∙ get_or-set_same names own false false lt
-        | inr le ↦
-            get_or_past (slice_set names own false) name false (omega (arith, le, same, length-set names own false))
-      ]) ∙ sym (ap (λ b. has names name && not b) (same_name own name same) ∙ and_false (has names name))
-  | inr apart ↦
-      get_or-set_other names own name false false (λ e. apart (sym e))
-      ∙ sym (ap (λ b. has names name && not b) (other_name own name apart) ∙ and_true (has names name))
-]
-
-pub with_name : (names : List Bool) (own name : ℕ) → own < length names → has (slice_set names own true) name ≡ (nat_eq own name || has names name)
-with_name names own name lt = elim (cases_eq own name) [
-  | inl same ↦
-      ap (λ n. has (slice_set names own true) n) (sym same) ∙ get_or-set_same names own true false lt
-      ∙ sym (ap (λ b. b || has names name) (same_name own name same))
-  | inr apart ↦
-      get_or-set_other names own name true false (λ e. apart (sym e))
-      ∙ sym (ap (λ b. b || has names name) (other_name own name apart))
-]
 
 pub has_none : (count name : ℕ) → has (replicate count false) name ≡ false
 has_none zero name = refl

@@ -5,7 +5,7 @@ use Rattle.std.proofs.lemmas.Bool.{true≢false}
 use Rattle.lrc_trace.specs.declared.act.Deed.TheVariants as deeds
 use Rattle.lrc_exec.specs.declared.spot.Flat.{Flat}
 use Rattle.lrc_exec.specs.declared.spot.Spot.{Spot}
-use Rattle.lrc_exec.specs.Ask.{ask_of, deed_asked, done, answered, TakesAnswer}
+use Rattle.lrc_exec.specs.Ask.{ask_of, deed_asked, done, answered}
 use Rattle.lrc_exec.specs.Meaning.{Thread, Next, quiet, prints, reads, writes, acquires, releases, arrives, departs, traps, ends, next_of}
 use Rattle.lrc_exec.specs.Spots.{thread_at, spot_thread}
 use Rattle.lrc_exec.proofs.NextLaws.{IsFine, next_of-fine}
@@ -38,18 +38,6 @@ goes_last (acquires lock after) e = absurd (true≢false (sym e))
 goes_last (releases lock after) e = absurd (true≢false (sym e))
 goes_last (arrives after) e = absurd (true≢false (sym e))
 goes_last (departs after) e = absurd (true≢false (sym e))
-
-pub takes_more : (next : Next) → is_last_ask (ask_of next) ≡ false → TakesAnswer (ask_of next)
-takes_more (traps cause) e = absurd (true≢false e)
-takes_more ends e = absurd (true≢false e)
-takes_more (quiet after) e = tt
-takes_more (prints value after) e = tt
-takes_more (reads word after) e = tt
-takes_more (writes word value after) e = tt
-takes_more (acquires lock after) e = tt
-takes_more (releases lock after) e = tt
-takes_more (arrives after) e = tt
-takes_more (departs after) e = tt
 
 -- a thread with this flag is itself where that is its own
 flagged : (after : Thread) (flag : Bool) → after.arrived ≡ flag → after ≡ record after { arrived = flag }

@@ -24,15 +24,6 @@ pub record SoFar (flat : Flat) (start : Option Thread) (spot : Spot) (deeds : Li
   pub frees : (count : ℕ) → MakesFree count (spot_thread flat spot) → MakesFree (steps + count) start
   pub no_turns : stops ≡ true → ¬ TurnsIn (spot_thread flat spot)
 
-pub at_first : (flat : Flat) (spot : Spot) (deeds : List Deed) → spot.place ≤ length flat.code.now → deeds ≡ []
-    → SoFar flat (spot_thread flat spot) spot deeds false 0
-at_first flat spot deeds within empty = record {
-  within = within;
-  settles = λ more there s. subst (λ d. ThreadSettles (spot_thread flat spot) (d ++ more) there) (sym empty) s;
-  frees = λ count m. let e : count ≡ 0 + count = omega arith in subst (λ n. MakesFree n (spot_thread flat spot)) e m;
-  no_turns = λ e. absurd (true≢false (sym e));
-}
-
 -- a thread at a barrier, or none, is settled
 out_settled : (thread : Thread) (gone arrived : Bool) → (gone || arrived) ≡ true
     → let there : Option Thread = if gone then None else Some (record thread { arrived = arrived }) in

@@ -1,6 +1,6 @@
 -- Steps that were taken.
 use Rattle.std.proofs.Common.{◌≡◌, ℕ, ◌+◌, ◌-◌, ◌^◌, ◌<◌, ◌≤◌, List, [], ◌∷◌, ◌++◌, ◌⊎◌, inl, inr, Bool, true, false, length, get_or, map, refl, sym, subst, ◌∙◌, ap, arith, append_assoc}
-use Rattle.std.specs.Prelude.{Option, Some, None, slice_index, if◌then◌else◌}
+use Rattle.std.specs.Prelude.{Option, Some, slice_index, if◌then◌else◌}
 use Rattle.std.specs.List.{range_with_len}
 use Rattle.std.proofs.lemmas.Bool.{cases_lt}
 use Rattle.std.proofs.lemmas.List.{get_or-map, length-map, get_or_past}
@@ -11,7 +11,6 @@ use Rattle.lrc_exec.specs.declared.spot.Flat.{Flat}
 use Rattle.lrc_exec.specs.declared.spot.Spot.{Spot}
 use Rattle.lrc_exec.specs.Meaning.{Thread}
 use Rattle.lrc_exec.specs.Plain.{Plain, thread_in, plain_step}
-use Rattle.lrc_exec.specs.Spots.{spot_thread}
 use Rattle.lrc_consistency_laws.proofs.Plainly.{one_more}
 use Rattle.lrc_exec.specs.declared.state.State.{State}
 use Rattle.lrc_exec.specs.States.{plain_at}
@@ -19,7 +18,6 @@ use Rattle.lrc_orders_laws.specs.Free.{is_contended, is_free_in, TurnsIn}
 use Rattle.lrc_orders_laws.specs.Settling.{IsSettled, IsSettledAt}
 use Rattle.lrc_orders_laws.specs.Steps.{AllWait}
 use Rattle.lrc_orders_laws.proofs.Parts.{stepped}
-use Rattle.lrc_orders_laws.proofs.Diamond.{true_is_false}
 use Rattle.lrc_orders_settling.specs.Settling.{MakesFree}
 use Rattle.lrc_orders_settling.specs.declared.step.Step.TheVariants.{Alone, Together}
 use Rattle.lrc_orders_settling.specs.Gone.{HasSettled}
@@ -52,17 +50,6 @@ others_settled machine mid node deed is step k apart =
       | inl lt ↦ λ e. absurd (omega (arith, lt, e))
       | inr le ↦ λ e. absurd (omega (arith, le, e))
     ]))) (is.each k)
-
--- there are no others
-pub past_settled : (flat : Flat) (state : State) (last : ℕ) → last ≡ length state.spots.items → (k : ℕ) → (k < 0) ⊎ (last ≤ k)
-    → IsSettledAt (plain_at flat state) k
-past_settled flat state last is k apart = elim apart [
-  | inl lt ↦ absurd (omega (arith, lt))
-  | inr le ↦
-      let none : thread_in (plain_at flat state) k ≡ None =
-      get_or_past (plain_at flat state).threads k None (omega (arith, le, is, length-map state.spots.items (spot_thread flat))) in
-      subst (λ (o : Option Thread). is_free_in o ≡ true → TurnsIn o) (sym none) (λ e. true_is_false true refl (sym e))
-]
 
 module _ (flat : Flat) (old mid new : State) (before between after : List Act) where
   pub taken_alone : (node : ℕ) (deed : Deed) → is_contended deed ≡ true → plain_step (plain_at flat old) node ≡ Some (deed, plain_at flat mid)

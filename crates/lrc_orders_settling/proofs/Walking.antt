@@ -4,7 +4,7 @@ use Rattle.std.specs.Prelude.{Option, Some, None, IsSome, option_and_then}
 use Rattle.std.proofs.lemmas.Bool.{true≢false}
 use Rattle.lrc_exec.specs.declared.spot.Flat.{Flat}
 use Rattle.lrc_exec.specs.declared.spot.Spot.{Spot}
-use Rattle.lrc_exec.specs.Ask.{ask_of, done, answered, TakesAnswer}
+use Rattle.lrc_exec.specs.Ask.{ask_of, done, answered}
 use Rattle.lrc_exec.specs.Meaning.{Thread, Next, quiet, prints, reads, writes, acquires, releases, arrives, departs, traps, ends, next_of}
 use Rattle.lrc_exec.specs.Spots.{thread_at}
 use Rattle.lrc_orders_settling.specs.Turning.{is_quiet_ask}
@@ -23,18 +23,6 @@ quiet_next thread (arrives after) e = absurd (true≢false (sym e))
 quiet_next thread (departs after) e = absurd (true≢false (sym e))
 quiet_next thread (traps cause) e = absurd (true≢false (sym e))
 quiet_next thread ends e = absurd (true≢false (sym e))
-
-pub takes_quiet : (next : Next) → is_quiet_ask (ask_of next) ≡ true → TakesAnswer (ask_of next)
-takes_quiet (quiet after) e = tt
-takes_quiet (prints value after) e = tt
-takes_quiet (reads word after) e = tt
-takes_quiet (writes word value after) e = tt
-takes_quiet (acquires lock after) e = tt
-takes_quiet (releases lock after) e = tt
-takes_quiet (arrives after) e = tt
-takes_quiet (departs after) e = tt
-takes_quiet (traps cause) e = absurd (true≢false (sym e))
-takes_quiet ends e = absurd (true≢false (sym e))
 
 other_next : (next : Next) → is_quiet_ask (ask_of next) ≡ false → after_quiet next ≡ None
 other_next (quiet after) e = absurd (true≢false e)
@@ -56,9 +44,6 @@ pub record Walked (flat : Flat) (spot earlier walker : Spot) (steps : ℕ) : Typ
   pub to_walker : after_quiets since (thread_at flat earlier) ≡ Some (thread_at flat walker)
   pub sum : first + since ≡ steps
   pub within : walker.place ≤ length flat.code.now
-
-pub walked_at_first : (flat : Flat) (spot : Spot) → spot.place ≤ length flat.code.now → Walked flat spot spot spot 0
-walked_at_first flat spot within = record { first = 0; since = 0; to_earlier = refl; to_walker = refl; sum = omega arith; within = within }
 
 module _ (flat : Flat) (spot earlier walker : Spot) (steps : ℕ) (w : Walked flat spot earlier walker steps) where
   pub whole : after_quiets steps (thread_at flat spot) ≡ Some (thread_at flat walker)

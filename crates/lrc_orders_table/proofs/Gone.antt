@@ -9,7 +9,6 @@ use Rattle.lrc_trace.specs.declared.act.Act.{Act}
 use Rattle.lrc_trace.specs.declared.act.Deed.{Deed}
 use Rattle.lrc_exec.specs.declared.spot.Flat.{Flat}
 use Rattle.lrc_exec.specs.declared.spot.Spot.{Spot}
-use Rattle.lrc_exec.specs.declared.state.State.{State}
 use Rattle.lrc_exec.specs.Ask.{answered}
 use Rattle.lrc_exec.specs.Meaning.{Setting, Thread}
 use Rattle.lrc_exec.specs.Spots.{spot_stopped, thread_at}
@@ -133,14 +132,6 @@ module _ (means : Means) (table : Table) (row : Row) (key : Noted) (node value n
     (acts : List Act) (n : AreNotesAt table.rows.notes.keys notes acts) where
   abbrev kept : Spot
   kept = forgot means.live.now settled.spot
-
-  abbrev new_state : State
-  new_state = record {
-    memory = s.shared.memory;
-    holders = s.shared.holders;
-    arrivals = with_item key.state.arrivals node (count_of (forgot means.live.now settled.spot));
-    spots = with_item key.state.spots node (forgot means.live.now settled.spot);
-  }
 
   abbrev pub new_key : Noted
   new_key = record {

@@ -1,9 +1,9 @@
 -- Tables to which more is known.
 use Rattle.std.proofs.Common.{◌≡◌, ℕ, zero, suc, ◌≤◌, List, [], ◌∷◌, ◌++◌, inl, inr, length, map, refl, sym, ◌∙◌, ap, subst, arith}
-use Rattle.std.specs.Prelude.{All, Option, Some, get_or, slice_get, slice_index_or, take}
+use Rattle.std.specs.Prelude.{All, Option, Some, get_or, slice_get, slice_index_or}
 use Rattle.std.specs.List.{IsDistinct}
 use Rattle.std.proofs.lemmas.Bool.{cases_lt}
-use Rattle.std.proofs.lemmas.List.{length-map, length_push}
+use Rattle.std.proofs.lemmas.List.{length_push}
 use Rattle.std.proofs.lemmas.Option.{get_or_from_slice_get, same_Some, slice_get-get_or, slice_get_within}
 use Rattle.lrc_trace.proofs.Positions.{slice_get-front, slice_get-seam}
 use Rattle.lrc_exec.specs.declared.spot.Flat.{Flat}
@@ -18,7 +18,6 @@ use Rattle.lrc_orders_table.specs.declared.rows.Row.{Row}
 use Rattle.lrc_orders_table.specs.Rows.{AddsThreads, AreNotesDistinct, AreRowsDistinct, AreSharedDistinct, IsSharedAt, WidensRows}
 use Rattle.lrc_orders_table.specs.contracts.rows.RowPartialEq.TheImpl.{eq-value as row_eq}
 use Rattle.lrc_orders_table.proofs.RowLaws.{rows_again, rows_not, stands_grown}
-use Rattle.lrc_orders_table.specs.declared.next.Next.{Next}
 use Rattle.lrc_orders_table.specs.declared.next.Next.TheVariants.{Stopped}
 use Rattle.lrc_orders_table.specs.Nexts.{next_in}
 use Rattle.lrc_orders_table.specs.declared.known.Means.{Means}
@@ -92,17 +91,6 @@ threads_one P spot is (suc k) d lt = absurd (omega (arith, lt))
 -- all threads are of places of the code
 abbrev pub IsPlaced : Flat → Spot → Type 0
 IsPlaced flat spot = spot.place ≤ length flat.code.now
-
-take_front : (xs ys : List Spot) → take (length xs) (xs ++ ys) ≡ xs
-take_front [] ys = refl
-take_front (x ∷ xs) ys = ap (λ l. x ∷ l) (take_front xs ys)
-
--- what is known of the threads that there were is the beginning of what is to be known
-pub nexts_before : (flat : Flat) (old new : List Spot) (nexts : List Next) → Grows old new → nexts ≡ map (next_in flat) old
-    → nexts ≡ map (next_in flat) (take (length nexts) new)
-nexts_before flat old new nexts g is =
-    let long : length nexts ≡ length old = ap (λ l. length l) is ∙ length-map old (next_in flat) in
-    is ∙ ap (map (next_in flat)) (sym (ap (λ n. take n new) long ∙ ap (take (length old)) g.is ∙ take_front old g.more))
 
 -- a table of more threads, of which it is known what they do next
 module _ (means : Means) (old new : Table) (known : IsTable means old) (w : WidensRows old.rows new.rows) (distinct : AreRowsDistinct new.rows)

@@ -1,7 +1,7 @@
 -- What a table knows of the nodes of a row.
-use Rattle.std.proofs.Common.{◌≡◌, ℕ, ◌<◌, length, map, ◌∙◌, ap, arith}
+use Rattle.std.proofs.Common.{◌≡◌, ℕ, ◌<◌, map, ◌∙◌, ap, arith}
 use Rattle.std.specs.Prelude.{Some, slice_get, slice_index, slice_index_or}
-use Rattle.std.proofs.lemmas.List.{get_or-map, length-map}
+use Rattle.std.proofs.lemmas.List.{get_or-map}
 use Rattle.std.proofs.lemmas.Option.{get_or_from_slice_get, slice_get_within}
 use Rattle.lrc_exec.specs.declared.spot.Flat.{Flat}
 use Rattle.lrc_exec.specs.declared.spot.Spot.{Spot}
@@ -13,7 +13,7 @@ use Rattle.lrc_orders_table.specs.declared.next.Next.TheVariants.{Stopped}
 use Rattle.lrc_orders_table.specs.Nexts.{next_in}
 use Rattle.lrc_orders_table.specs.declared.known.Means.{Means}
 use Rattle.lrc_orders_table.specs.declared.table.Table.{Table}
-use Rattle.lrc_orders_table.specs.Tables.{IsKnown, IsRowOf, IsTable, next_at, next_of}
+use Rattle.lrc_orders_table.specs.Tables.{IsRowOf, IsTable, next_at, next_of}
 
 -- the thread of a node
 pub record NodeAt (table : Table) (row : Row) (key : Noted) (node : ℕ) : Type 0 where
@@ -51,20 +51,3 @@ pub next_here : (means : Means) (table : Table) (row : Row) (key : Noted) (node 
     → slice_get key.state.spots.items node ≡ Some spot → next_at table row node ≡ next_in means.flat spot
 next_here means table row key node spot known of here =
     next_there means table (slice_index row.threads node) spot known (node_there table row key node spot of.stands here)
-
--- it is known of each thread
-pub nexts_long : (means : Means) (table : Table) → IsTable means table → length table.nexts.items ≡ length table.rows.threads.keys
-nexts_long means table known = ap (λ l. length l) known.nexts ∙ length-map table.rows.threads.keys (next_in means.flat)
-
-pub next_within : (table : Table) (row : Row) (node : ℕ) → IsKnown table row → node < table.rows.nodes → slice_index row.threads node < length table.nexts.items
-next_within table row node k lt =
-    let at = node_at table row k.key node k.of.stands lt in
-    let within = slice_get_within table.rows.threads.keys (slice_index row.threads node) at.spot at.there in
-    omega (arith, within, nexts_long k.means table k.known)
-
-pub node_within : (table : Table) (row : Row) (node : ℕ) → IsKnown table row → node < table.rows.nodes → node < 16
-node_within table row node k lt = let few = k.of.stands.few in omega (arith, lt, few)
-
-pub shared_within : (table : Table) (row : Row) → IsKnown table row → row.shared < length table.rows.shared.keys
-shared_within table row k =
-    let s = k.of.stands.shared in slice_get_within table.rows.shared.keys row.shared s.shared s.there
