@@ -1,6 +1,6 @@
 -- How many blanks a line begins with, counted one by one.
 use Rattle.std.proofs.Common.{◌≡◌, ◌∙◌, ◌+◌, ◌<◌, ◌≤◌, ℕ, zero, suc, List, [], ◌∷◌, ap, arith, drop, get_or, length, refl, sym, add-one}
-use Rattle.std.specs.Prelude.{◌==◌, Bool, true, false, cond}
+use Rattle.std.specs.Prelude.{Bool, cond}
 use Rattle.std.proofs.Common.{◌≢◌, eq-eqb, ne_eqb}
 use Rattle.lrc_chart_svg.specs.Source.{blanks}
 

@@ -18,11 +18,10 @@ use Rattle.lrc_chart_model.specs.declared.picture.Race.{Race}
 use Rattle.lrc_chart_model.specs.declared.picture.Row.{Row}
 use Rattle.lrc_chart_model.specs.declared.picture.SourceLine.{SourceLine}
 use Rattle.lrc_chart_svg.specs.declared.flow.Flow.{Flow}
-use Rattle.lrc_chart_svg.specs.declared.frames.Frame.{Frame}
 use Rattle.lrc_chart_svg.specs.declared.style.Anchor.{Anchor}
 use Rattle.lrc_chart_svg.specs.declared.style.Anchor.TheVariants.{Start, End}
 use Rattle.lrc_chart_svg.specs.Attributes.{anchor_word}
-use Rattle.lrc_chart_svg.specs.Flow.{before, begun, done_flow, kinds_flow, labels_flow, letters, line_of, timed_flow, wide, words_flow}
+use Rattle.lrc_chart_svg.specs.Flow.{before, begun, done_flow, kinds_flow, letters, line_of, timed_flow, wide}
 use Rattle.lrc_chart_svg.specs.Frames.{frame_at}
 use Rattle.lrc_chart_svg.specs.Heights.{band_high, band_top, columns_foot, columns_top, height, line_foot, line_height, middle, picture_high, word_foot}
 use Rattle.lrc_chart_svg.specs.Marks.{Mark, begins, box, ends, hint, path, stroke, word}

@@ -1,5 +1,6 @@
 -- The words of hints.
 use Rattle.std.specs.Prelude.{◌≡◌, ℕ, List, [], ◌++◌, codes, decimal, Option, Some, None}
+use Rattle.std.specs.Option.{option_map}
 use Rattle.lrc_lang.specs.declared.token.Sign.{Sign}
 use Rattle.lrc_lang.specs.declared.token.Sign.TheVariants as signs
 use Rattle.lrc_lint_fault.specs.declared.hint.Hint.{Hint}
@@ -10,6 +11,25 @@ abbrev pub opened_by : Sign → List ℕ
 opened_by signs.OpenBrace = codes "the `{`"
 opened_by signs.OpenBracket = codes "the `[`"
 opened_by _ = codes "the `(`"
+
+-- the words of the hints that tell of tokens of the text
+
+-- of a statement such as `x += 1`
+abbrev pub compound_words : (name operator : List ℕ) → List ℕ
+compound_words name operator = codes "write `" ++ name ++ codes " = " ++ name ++ codes " " ++ operator ++ codes " E;`"
+
+abbrev pub no_keyword_words : (name : List ℕ) → List ℕ
+no_keyword_words name =
+    name ++ codes " is no keyword: the statements are `x = E;`, `x = [E];`, `[E] = E;`, acquire, release, barrier, print, if and while"
+
+abbrev pub keyword_words : (keyword : List ℕ) → List ℕ
+keyword_words keyword = keyword ++ codes " is a keyword and no name"
+
+abbrev pub open_words : Sign → (line : ℕ) → List ℕ
+open_words sign line = opened_by sign ++ codes " of line " ++ decimal line ++ codes " is open"
+
+abbrev pub missing_words : (token : List ℕ) → (line : ℕ) → List ℕ
+missing_words token line = codes "is a `;` missing behind `" ++ token ++ codes "` in line " ++ decimal line ++ codes "?"
 
 -- the words of a hint
 abbrev pub hint_words : Hint → List ℕ
@@ -42,13 +62,11 @@ hint_words hints.Comparisons = codes "the comparisons are `==`, `!=`, `<`, `<=`,
 hint_words hints.OneComparison = codes "an expression has one comparison, brackets aside: `(a < b) * (b < c)` holds where both do"
 hint_words hints.Negative = codes "a number has no sign: for `-1` write `0 - 1`"
 hint_words hints.Calls = codes "there are no calls"
-hint_words (hints.Compound name operator) =
-    codes "write `" ++ name.now ++ codes " = " ++ name.now ++ codes " " ++ operator.now ++ codes " E;`"
-hint_words (hints.NoKeyword name) = name.now
-    ++ codes " is no keyword: the statements are `x = E;`, `x = [E];`, `[E] = E;`, acquire, release, barrier, print, if and while"
-hint_words (hints.Keyword keyword) = keyword.now ++ codes " is a keyword and no name"
-hint_words (hints.Open sign line) = opened_by sign ++ codes " of line " ++ decimal line ++ codes " is open"
-hint_words (hints.Missing token line) = codes "is a `;` missing behind `" ++ token.now ++ codes "` in line " ++ decimal line ++ codes "?"
+hint_words (hints.Compound name operator) = compound_words name.now operator.now
+hint_words (hints.NoKeyword name) = no_keyword_words name.now
+hint_words (hints.Keyword keyword) = keyword_words keyword.now
+hint_words (hints.Open sign line) = open_words sign line
+hint_words (hints.Missing token line) = missing_words token.now line
 
 -- These are the words of a hint that tells nothing of the text.
 abbrev pub TellsWords : Hint → List ℕ → Type 0
@@ -62,7 +80,11 @@ TellsWords hint words = words ≡ hint_words hint
 abbrev pub hint_line : Hint → List ℕ
 hint_line hint = codes "  " ++ hint_words hint ++ codes "\n"
 
--- the line of a hint, if there is one
-abbrev pub hint_text : Option Hint → List ℕ
-hint_text None = []
-hint_text (Some hint) = hint_line hint
+-- the words of a hint, if there is one
+abbrev pub words_of : Option Hint → Option (List ℕ)
+words_of hint = option_map hint_words hint
+
+-- the line of these words, if there are any
+abbrev pub words_line : Option (List ℕ) → List ℕ
+words_line None = []
+words_line (Some words) = codes "  " ++ words ++ codes "\n"

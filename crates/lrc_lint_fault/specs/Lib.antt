@@ -1,2 +1,4 @@
 pub mod Hint
+pub mod HintTable
+pub mod Spelled
 pub mod Told

@@ -1,39 +1,20 @@
 -- What is told of the first fault of a text.
-use Rattle.std.specs.Prelude.{◌≡◌, ◌<◌, ◌≤◌, ◌⊎◌, ℕ, ◌-◌, ◌&&◌, nat_le, Bool, List, [], ◌∷◌, ◌++◌, if◌then◌else◌, drop, get_or, length, Option}
+use Rattle.std.specs.Prelude.{◌≡◌, ◌<◌, ◌≤◌, ◌⊎◌, ℕ, ◌-◌, List, [], ◌++◌, get_or, length, Option}
 use Rattle.lrc_lang.specs.declared.fault.FaultKind.{FaultKind}
 use Rattle.lrc_lang.specs.declared.fault.FaultKind.TheVariants.{TooLong, Unexpected}
 use Rattle.lrc_lang.specs.declared.kind.Kind.{Kind}
 use Rattle.lrc_lang.specs.FirstFault.{IsFirstFaultOf}
-use Rattle.lrc_lang.specs.Lexemes.{keyword_text, sign_text}
 use Rattle.lrc_lang.specs.Positions.{Located, HasLocated}
-use Rattle.lrc_lang.specs.Token.{number, name, keyword, sign, finish, Lexeme, token, bad_byte, bad_number}
+use Rattle.lrc_lang.specs.Token.{finish, Lexeme, token}
 use Rattle.lrc_labels.specs.declared.cut.Divider.TheVariants.{LineFeed}
 use Rattle.lrc_labels.specs.Cut.{cut, divides}
 use Rattle.lrc_lint_lines.specs.Excerpt.{excerpt_text, without_return}
 use Rattle.lrc_lint_lines.specs.Expected.{expected_text}
 use Rattle.lrc_lint_lines.specs.Head.{fault_text, place_text, unexpected_end_text, unexpected_text}
-use Rattle.lrc_lint_fault.specs.declared.hint.Hint.{Hint}
 use Rattle.lrc_lint_fault.specs.declared.hint.Hint.TheVariants as hints
-use Rattle.lrc_lint_fault.specs.Hint.{hint_line, hint_text}
-
--- `0` to `9`
-abbrev pub is_digit : ℕ → Bool
-is_digit byte = nat_le 48 byte && nat_le byte 57
-
--- the digits at the front of a text
-abbrev pub digits_of : List ℕ → List ℕ
-digits_of [] = []
-digits_of (byte ∷ rest) = if is_digit byte then byte ∷ digits_of rest else []
-
--- how a token that stands behind so many bytes of a text is spelled
-abbrev pub spelled : List ℕ → ℕ → Lexeme → List ℕ
-spelled text offset (token (number n)) = digits_of (drop offset text)
-spelled text offset (token (name bytes)) = bytes
-spelled text offset (token (keyword which)) = keyword_text which
-spelled text offset (token (sign mark)) = sign_text mark
-spelled text offset (token finish) = []
-spelled text offset bad_byte = []
-spelled text offset bad_number = []
+use Rattle.lrc_lint_fault.specs.Hint.{hint_line, words_line}
+use Rattle.lrc_lint_fault.specs.HintTable.{hint_of, seen}
+use Rattle.lrc_lint_fault.specs.Spelled.{spelled}
 
 abbrev pub unexpected_of : List ℕ → ℕ → Lexeme → List ℕ
 unexpected_of text offset (token finish) = unexpected_end_text
@@ -54,12 +35,13 @@ abbrev pub line_of : List ℕ → ℕ → List ℕ
 line_of text row = without_return (get_or (cut (divides LineFeed) text) (row - 1) [])
 
 -- all that is told of a fault
-abbrev pub fault_lines : List ℕ → List ℕ → Located → FaultKind → List Kind → Option Hint → List ℕ
+abbrev pub fault_lines : List ℕ → List ℕ → Located → FaultKind → List Kind → (hint : Option (List ℕ)) → List ℕ
 fault_lines file text found kind may_stand hint =
-    place_text file found.line found.column ++ kind_of kind text found ++ excerpt_text (line_of text found.line) found.column ++ hint_text hint
+    place_text file found.line found.column ++ kind_of kind text found ++ excerpt_text (line_of text found.line) found.column ++ words_line hint
     ++ expected_of kind may_stand
 
--- This is told of the first fault of a text: where it is, what it is, its line, a hint or none, and exactly what may stand there.
+-- This is told of the first fault of a text: where it is, what it is, its line, the first hint of the table that applies, if one does, and
+-- exactly what may stand there.
 pub record TellsFault (file text printed : List ℕ) : Type 0 where
   pub all : List Located
   pub are : HasLocated text all
@@ -67,8 +49,7 @@ pub record TellsFault (file text printed : List ℕ) : Type 0 where
   pub kind : FaultKind
   pub may_stand : List Kind
   pub first : IsFirstFaultOf all index kind may_stand
-  pub hint : Option Hint
-  pub is : printed ≡ fault_lines file text first.has.found kind may_stand hint
+  pub is : printed ≡ fault_lines file text first.has.found kind may_stand (hint_of kind (seen text first.has.front first.has.found may_stand))
 
 -- what is told of a text that is too long
 abbrev pub too_long_lines : List ℕ → List ℕ

@@ -2,7 +2,8 @@
 
 ghost use Rattle.std.specs.Prelude.{◌≡◌, ◌++◌, OnOk};
 ghost use Rattle.lrc_lint_fault.specs.declared.hint.Hint.TheVariants.{Compound, Keyword as KeywordHint, Missing, NoKeyword, Open};
-ghost use Rattle.lrc_lint_fault.specs.Hint.{TellsWords, hint_line, hint_words, opened_by};
+ghost use Rattle.lrc_lint_fault.specs.Hint.{TellsWords, hint_line, hint_words, opened_by, words_of};
+ghost use Rattle.lrc_lint_fault.specs.HintTable.{row_if};
 
 use lrc_lang::token::Sign;
 use lrc_text::push_number;
@@ -68,6 +69,15 @@ pub enum Hint<'t> {
     /// A number has no sign.
     Negative,
     Calls,
+}
+
+impl<'t> Hint<'t> {
+    /// Returns this hint, if it applies.
+    pub fn only_if(self, applies: bool) -> Option<Hint<'t>>
+        ensures { words_of result ≡ row_if applies (hint_words self.entry) }
+    {
+        if applies { Some(self) } else { None }
+    }
 }
 
 /// Adds the line of a hint.

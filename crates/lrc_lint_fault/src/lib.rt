@@ -3,6 +3,7 @@
 #![tactic(auto)]
 
 mod bad_byte;
+mod brackets;
 mod fault;
 mod hint;
 mod hints;

@@ -1,6 +1,6 @@
 // What is printed of a text.
 
-ghost use Rattle.std.specs.Prelude.{◌≡◌, ◌++◌, ◌<◌, ◌≤◌, ◌⊎◌, [], ℕ, List, length, map, slice_index_or, IfOk, MatchOption, OnOk, Option};
+ghost use Rattle.std.specs.Prelude.{◌≡◌, ◌++◌, ◌-◌, ◌<◌, ◌≤◌, ◌⊎◌, [], ℕ, List, length, map, slice_get, slice_index_or, take, IfOk, MatchOption, OnOk};
 ghost use Rattle.lrc_lang.specs.declared.fault.FaultKind.{FaultKind as FaultKindSeen};
 ghost use Rattle.lrc_lang.specs.Faults.{HasFirstFault};
 ghost use Rattle.lrc_lang.specs.FirstFault.{IsFirstFaultOf};
@@ -8,8 +8,8 @@ ghost use Rattle.lrc_lang.specs.Parser.Located.{located_of};
 ghost use Rattle.lrc_lang.specs.Parser.View.{lexeme_of};
 ghost use Rattle.lrc_lang.specs.Positions.{HasLocated};
 ghost use Rattle.lrc_text.specs.Parts.{whole_text};
-ghost use Rattle.lrc_lint_fault.specs.declared.hint.Hint.{Hint as HintSeen};
-ghost use Rattle.lrc_lint_fault.specs.Hint.{hint_text};
+ghost use Rattle.lrc_lint_fault.specs.Hint.{words_line, words_of};
+ghost use Rattle.lrc_lint_fault.specs.HintTable.{hint_of, seen_of};
 ghost use Rattle.lrc_lint_fault.specs.Told.{TellsFault, TellsNoProgram, expected_of, fault_lines, kind_of, too_long_lines, unexpected_of};
 
 use crate::fault::Fault;
@@ -121,13 +121,18 @@ fn push_first(
 fn fault_of<'t>(text: &'t [u8], all: &'t [Located<'t>], first: &'t FirstFault) -> Fault<'t>
     requires { first.now.index < length all.now }
     ensures text { result.text.now ≡ text.entry.now }
+    ensures before { result.before.now ≡ take first.entry.now.index all.entry.now }
+    ensures previous { result.previous ≡ slice_get (take first.entry.now.index all.entry.now)
+        (length (take first.entry.now.index all.entry.now) - 1) }
     ensures found { result.found ≡ slice_index_or all.entry.now first.entry.now.index result.found }
     ensures kind { result.kind ≡ first.entry.now.kind }
     ensures may_stand { result.may_stand.now ≡ first.entry.now.may_stand.items }
 {
+    let before = &all[..first.index];
     Fault {
         text,
-        before: &all[..first.index],
+        before,
+        previous: before.last().copied(),
         found: all[first.index],
         kind: first.kind,
         may_stand: &first.may_stand,
@@ -140,9 +145,10 @@ fn push_told(
     file: &[u8],
     fault: &Fault<'_>,
 ) -> Result<(), AllocError>
-    ensures { OnOk result ((hint : Option HintSeen) × (out.new.items ≡ out.old.items
+    ensures { OnOk result (out.new.items ≡ out.old.items
         ++ fault_lines file.now fault.now.text.now
-        (located_of fault.now.found) fault.now.kind fault.now.may_stand.now hint)) }
+        (located_of fault.now.found) fault.now.kind fault.now.may_stand.now
+        (hint_of fault.now.kind (seen_of fault.now))) }
 {
     let found = fault.found;
     push_place(out, file, u64::from(found.line), u64::from(found.column))?;
@@ -159,7 +165,7 @@ fn push_told(
 }
 
 fn push_hint_if_any(out: &mut Vec<u8>, hint: Option<Hint<'_>>) -> Result<(), AllocError>
-    ensures { OnOk result (out.new.items ≡ out.old.items ++ hint_text hint.entry) }
+    ensures { OnOk result (out.new.items ≡ out.old.items ++ words_line (words_of hint.entry)) }
 {
     match hint {
         Some(hint) => push_hint(out, hint),

@@ -1,5 +1,5 @@
 use Rattle.std.proofs.Common.{◌≡◌, ◌++◌, take, drop}
-use Rattle.lrc_lint_fault.specs.Told.{digits_of}
+use Rattle.lrc_lint_fault.specs.Spelled.{digits_of}
 use Rattle.lrc_lint_fault.proofs.fault.digits_of.Given as goal
 
 abbrev pub invariant-loop-place : goal.invariant-loop-place
