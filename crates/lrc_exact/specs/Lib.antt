@@ -1,0 +1,4 @@
+pub mod LocalRule
+pub mod Memory
+pub mod Rule
+pub mod Laws

@@ -1,0 +1,5 @@
+pub mod Lists
+pub mod Deeds
+pub mod Holders
+pub mod Threads
+pub mod Deciding

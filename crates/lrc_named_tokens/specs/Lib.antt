@@ -1,0 +1,4 @@
+pub mod Lexemes
+pub mod Lexer
+pub mod Token
+pub mod View

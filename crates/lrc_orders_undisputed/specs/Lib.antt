@@ -1,0 +1,4 @@
+pub mod Undisputed
+pub mod Findings
+pub mod Rounds
+pub mod Searched

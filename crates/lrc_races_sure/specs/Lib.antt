@@ -1,0 +1,3 @@
+pub mod Leading
+pub mod Sure
+pub mod Reordering
