@@ -7,7 +7,6 @@ use crate::shell::{ON_ONE_NODE, done};
 use lrc_cli_args::choice::{Choice, Nodes, Part, RunChoice, RunOptions, Shape, Way};
 use lrc_envelope::Picker;
 use lrc_step::{CLOSING, OPENING};
-use std::alloc::{AllocError, Global};
 use std::sync::Wait;
 use std::thread::Threads;
 
@@ -158,14 +157,22 @@ const OF_MARKUP: &[&[u8]] = &[
     b"\n",
 ];
 
-/// The document with these lines.
-fn document(alloc: Global, lines: &[&[u8]]) -> Result<Vec<u8>, AllocError> {
-    let mut document = Vec::from_slice(alloc, OPENING)?;
-    for line in lines {
-        document.extend_from_slice(line)?;
+/// What is left of a text behind a piece that it begins with.
+fn rest_behind<'t>(text: &'t [u8], piece: &[u8]) -> Option<&'t [u8]> {
+    if text.starts_with(piece) {
+        text.get(piece.len()..)
+    } else {
+        None
     }
-    document.extend_from_slice(CLOSING)?;
-    Ok(document)
+}
+
+/// What is left of a document behind the frame's opening and these pieces of its lines.
+fn rest_behind_lines<'t>(document: &'t [u8], lines: &[&[u8]]) -> Option<&'t [u8]> {
+    let mut rest = rest_behind(document, OPENING)?;
+    for line in lines {
+        rest = rest_behind(rest, line)?;
+    }
+    Some(rest)
 }
 
 /// Whether the document of a run of this text has just these lines in the frame.
@@ -178,9 +185,10 @@ fn has_lines<R: Threads + Wait + Sync + AllocGlobal>(
 ) -> bool
     requires { false ≡ names_events choice.now }
 {
-    match document(rt.alloc(), lines) {
-        Ok(document) => done(rt, choice, text, None).is(&document, b"", status),
-        Err(_) => false,
+    let run = done(rt, choice, text, None);
+    match rest_behind_lines(&run.out, lines) {
+        Some(rest) => rest == CLOSING && run.err.is_empty() && run.status == status,
+        None => false,
     }
 }
 

@@ -199,70 +199,25 @@ fn is_run<R: Threads + Wait + Sync>(
     }
 }
 
-fn is_met<R: Threads + Wait + Sync>(rt: &R, alloc: Global, row: &Row) -> bool {
+fn holds<R: Threads + Wait + Sync>(rt: &R, alloc: Global, program: &Program, row: &Row) -> bool {
     let gate = Holding::new(row.together, row.holds);
-    let is = match parse(alloc, row.text) {
-        Ok(program) => is_run(rt, alloc, &program, row, &gate),
-        Err(_) => false,
-    };
-    is && is_held(&gate, row)
+    is_run(rt, alloc, program, row, &gate) && is_held(&gate, row)
 }
 
-fn first_wrong<R: Threads + Wait + Sync>(
-    rt: &R,
-    alloc: Global,
-    rows: &[Row],
-) -> Option<&'static str> {
-    for row in rows {
+fn is_met<R: Threads + Wait + Sync>(rt: &R, alloc: Global, row: &Row) -> bool {
+    match parse(alloc, row.text) {
+        Ok(program) => holds(rt, alloc, &program, row),
+        Err(_) => false,
+    }
+}
+
+fn first_wrong<R: Threads + Wait + Sync>(rt: &R, alloc: Global) -> Option<&'static str> {
+    for row in ROWS {
         if !is_met(rt, alloc, row) {
             return Some(row.name);
         }
     }
     None
-}
-
-const TOGETHER: &[Row] = &[
-    Row {
-        name: "four nodes make each turn together",
-        nodes: 4,
-        text: b"words 1; locks 0; while x < 100 { x = x + 1; }",
-        order: Picker::Oldest,
-        together: true,
-        holds: &[],
-        turns: Some([202; 4]),
-        prints: [9, 9],
-        takes: 1,
-    },
-    Row {
-        name: "two nodes depart together",
-        nodes: 2,
-        text: b"words 1; locks 0; barrier;",
-        order: Picker::Oldest,
-        // Turn 3 of node 0 is paired with turn 1 of node 1.
-        together: false,
-        holds: &[
-            Hold {
-                node: 0,
-                turn: 3,
-                other: 1,
-                turns: 2,
-            },
-            Hold {
-                node: 1,
-                turn: 1,
-                other: 0,
-                turns: 4,
-            },
-        ],
-        turns: Some([5, 3, 0, 0]),
-        prints: [9, 9],
-        takes: 1,
-    },
-];
-
-#[test]
-fn nodes_make_turns_together(rt: HostRuntime) {
-    passes(&rt, first_wrong(&rt, rt.alloc(), TOGETHER));
 }
 
 /// Node 2 asks for lock 1 once node 1 is about to ask for lock 0, and node 1 answers after it did. Node 3 asks for lock 2 once node 2
@@ -303,7 +258,43 @@ if me % 3 > 0 { acquire 0; x = [0]; [0] = x * 10 + me; print x; release 0; }
     takes: 1,
 };
 
-const ORDERS: &[Row] = &[
+const ROWS: &[Row] = &[
+    Row {
+        name: "four nodes make each turn together",
+        nodes: 4,
+        text: b"words 1; locks 0; while x < 100 { x = x + 1; }",
+        order: Picker::Oldest,
+        together: true,
+        holds: &[],
+        turns: Some([202; 4]),
+        prints: [9, 9],
+        takes: 1,
+    },
+    Row {
+        name: "two nodes depart together",
+        nodes: 2,
+        text: b"words 1; locks 0; barrier;",
+        order: Picker::Oldest,
+        // Turn 3 of node 0 is paired with turn 1 of node 1.
+        together: false,
+        holds: &[
+            Hold {
+                node: 0,
+                turn: 3,
+                other: 1,
+                turns: 2,
+            },
+            Hold {
+                node: 1,
+                turn: 1,
+                other: 0,
+                turns: 4,
+            },
+        ],
+        turns: Some([5, 3, 0, 0]),
+        prints: [9, 9],
+        takes: 1,
+    },
     TWO_REQUESTS,
     Row {
         name: "the newest request is served first",
@@ -320,6 +311,6 @@ const ORDERS: &[Row] = &[
 ];
 
 #[test]
-fn the_order_says_which_request_is_served_first(rt: HostRuntime) {
-    passes(&rt, first_wrong(&rt, rt.alloc(), ORDERS));
+fn nodes_make_turns_together_and_the_order_says_which_request_is_served_first(rt: HostRuntime) {
+    passes(&rt, first_wrong(&rt, rt.alloc()));
 }

@@ -1,12 +1,11 @@
 // What the nodes of a run left of which one wore out.
 
 use crate::checks::passes;
+use crate::shell::setting_of;
 use lrc_envelope::Picker;
 use lrc_lang::parse;
 use lrc_lang::program::Program;
-use lrc_page::Size;
 use lrc_run::{Halt, OpenGate, Stop, WornOut, run_on_threads};
-use lrc_setting::setting::{Nodes, Setting, Steps};
 use lrc_world::keep::Keep;
 use std::alloc::Global;
 use std::sync::Wait;
@@ -48,18 +47,8 @@ fn is_left_so(worn: &WornOut, row: &Row) -> bool {
 }
 
 fn halts_so<R: Threads + Wait + Sync>(rt: &R, alloc: Global, program: &Program, row: &Row) -> bool {
-    let Some(nodes) = Nodes::new(2) else {
+    let Some(setting) = setting_of(2, u32::MAX) else {
         return false;
-    };
-    let Some(steps) = Steps::new(1_000_000) else {
-        return false;
-    };
-    let setting = Setting {
-        nodes,
-        steps,
-        collect: 0,
-        size: Size::Words64,
-        first: u32::MAX,
     };
     match run_on_threads(
         rt,

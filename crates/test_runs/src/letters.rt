@@ -7,6 +7,7 @@ use crate::shell::options;
 use bytes::Bytes;
 use lrc_exec::code::Code;
 use lrc_lang::parse;
+use lrc_lang::program::Program;
 use lrc_node::{Logged, Node};
 use lrc_post::{Parcel, PostFault};
 use lrc_run::{Gate, Mail, Stop, work};
@@ -72,11 +73,32 @@ fn worked<R: Wait>(rt: &R, alloc: Global, mail: &mut Letters, text: &[u8]) -> Re
     ensures over { OnOk result (mail.new.come.items ≡ []) }
     ensures shut { IfErr result (λ stop. stop ≡ Stop.Closed → mail.new.closed ≡ true) }
 {
-    let Ok(program) = parse(alloc, text) else {
-        return Err(Stop::NoMemory);
-    };
-    let code = Code::new(alloc, &program)?;
-    let node = Node::new(alloc, &code, 1, 2, &options(0))?;
+    match parse(alloc, text) {
+        Ok(program) => worked_by(rt, alloc, mail, &program),
+        Err(_) => Err(Stop::NoMemory),
+    }
+}
+
+// The same of a program.
+fn worked_by<R: Wait>(
+    rt: &R,
+    alloc: Global,
+    mail: &mut Letters,
+    program: &Program,
+) -> Result<(), Stop>
+    ensures over { OnOk result (mail.new.come.items ≡ []) }
+    ensures shut { IfErr result (λ stop. stop ≡ Stop.Closed → mail.new.closed ≡ true) }
+{
+    let code = Code::new(alloc, program)?;
+    worked_in(rt, alloc, mail, &code)
+}
+
+// The same of flat code.
+fn worked_in<R: Wait>(rt: &R, alloc: Global, mail: &mut Letters, code: &Code) -> Result<(), Stop>
+    ensures over { OnOk result (mail.new.come.items ≡ []) }
+    ensures shut { IfErr result (λ stop. stop ≡ Stop.Closed → mail.new.closed ≡ true) }
+{
+    let node = Node::new(alloc, code, 1, 2, &options(0))?;
     let mut logged = Logged::new(alloc, node);
     work(rt, alloc, &OpenGate, mail, &mut logged, 1)
 }

@@ -1,12 +1,12 @@
 // Where the acts of runs come from: their turns, their statements and their times.
 
 use crate::checks::passes;
+use crate::shell::setting_of;
 use lrc_envelope::Picker;
 use lrc_lang::parse;
 use lrc_lang::program::Program;
-use lrc_page::Size;
-use lrc_run::{OpenGate, ThreadedRun, run_on_threads};
-use lrc_setting::setting::{Nodes, Setting, Steps};
+use lrc_run::{OpenGate, run_on_threads};
+use lrc_setting::setting::Setting;
 use lrc_trace::act::Act;
 use lrc_world::keep::Keep;
 use lrc_world::run::{Order, Run, run_in};
@@ -14,61 +14,110 @@ use std::alloc::Global;
 use std::sync::Wait;
 use std::thread::Threads;
 
-/// A program for one node. For each of its acts, the number of its statement, and the node's own entry of its time just
-/// after it; and how many times are kept.
+/// How a run goes on.
+#[derive(Clone, Copy)]
+enum Way {
+    Rounds(Picker),
+    /// At random, from this seed.
+    Random(u64),
+    /// With each node on its own thread.
+    Threads,
+}
+
+/// What is asked of a run.
+#[derive(Clone, Copy)]
+enum Wanted {
+    /// For each act, the number of its statement, and the own entry of node 0 in its time just after it; how many times
+    /// are kept; and that each act is the one that its turn made.
+    Statements(&'static [u32], &'static [u32], usize),
+    /// That each act is the one that its turn made.
+    Turns,
+    /// The same, and that the logs have all turns.
+    AllTurns,
+    /// That some turns are kept, and nothing else.
+    TurnsAlone,
+    /// That nothing is kept but turns, as many as a run in rounds has of which all is kept.
+    AllTurnsAlone,
+}
+
+/// A program for so many nodes, how it is run, what is kept of its run, and what is asked of that.
 struct Row {
     name: &'static str,
     text: &'static [u8],
-    statements: &'static [u32],
-    entries: &'static [u32],
-    kept: usize,
+    nodes: u32,
+    way: Way,
+    keep: Keep,
+    wanted: Wanted,
 }
 
+const OLDEST: Way = Way::Rounds(Picker::Oldest);
+
+/// A program of one node.
+const ALONE: Row = Row {
+    name: "one statement after another, and a barrier",
+    text: b"words 1; locks 0; x = 1; [0] = x; barrier; print x;",
+    nodes: 1,
+    way: OLDEST,
+    keep: Keep::All,
+    wanted: Wanted::Statements(&[0, 1, 2, 2, 3, 4], &[0, 0, 1, 1, 1, 1], 2),
+};
+
+/// A program for two nodes, in which each acquires the lock and both wait for each other.
+const BOTH: Row = Row {
+    name: "turns in rounds",
+    text: b"words 1; locks 1; acquire 0; x = [0]; [0] = x + 1; release 0; barrier; y = [0]; print y;",
+    nodes: 2,
+    way: Way::Rounds(Picker::Newest),
+    wanted: Wanted::Turns,
+    ..ALONE
+};
+
 const ROWS: &[Row] = &[
-    Row {
-        name: "one statement after another, and a barrier",
-        text: b"words 1; locks 0; x = 1; [0] = x; barrier; print x;",
-        statements: &[0, 1, 2, 2, 3, 4],
-        entries: &[0, 0, 1, 1, 1, 1],
-        kept: 2,
-    },
+    ALONE,
     Row {
         name: "statements in blocks",
         text: b"words 2; locks 0; x = 0;
             while x < 2 { if x == 0 { [0] = 7; } else { [1] = 8; } x = x + 1; } print x;",
-        statements: &[0, 1, 2, 3, 5, 1, 2, 4, 5, 1, 6, 7],
-        entries: &[0, 0, 0, 0, 0, 0, 0, 0, 0, 0, 0, 0],
-        kept: 1,
+        wanted: Wanted::Statements(
+            &[0, 1, 2, 3, 5, 1, 2, 4, 5, 1, 6, 7],
+            &[0, 0, 0, 0, 0, 0, 0, 0, 0, 0, 0, 0],
+            1,
+        ),
+        ..ALONE
     },
     Row {
         name: "a lock",
         text: b"words 1; locks 1; acquire 0; [0] = 1; release 0;",
-        statements: &[0, 1, 2, 3],
-        entries: &[1, 1, 2, 2],
-        kept: 2,
+        wanted: Wanted::Statements(&[0, 1, 2, 3], &[1, 1, 2, 2], 2),
+        ..ALONE
+    },
+    BOTH,
+    Row {
+        name: "turns at random",
+        way: Way::Random(7),
+        ..BOTH
+    },
+    Row {
+        name: "turns alone are kept",
+        way: OLDEST,
+        keep: Keep::Turns,
+        wanted: Wanted::AllTurnsAlone,
+        ..BOTH
+    },
+    Row {
+        name: "turns of threads",
+        way: Way::Threads,
+        wanted: Wanted::AllTurns,
+        ..BOTH
+    },
+    Row {
+        name: "the newest turns of threads are kept",
+        way: Way::Threads,
+        keep: Keep::Newest,
+        wanted: Wanted::TurnsAlone,
+        ..BOTH
     },
 ];
-
-/// A program for two nodes, in which each acquires the lock and both wait for each other.
-const BOTH: &[u8] =
-    b"words 1; locks 1; acquire 0; x = [0]; [0] = x + 1; release 0; barrier; y = [0]; print y;";
-
-fn setting_of(nodes: u32) -> Option<Setting> {
-    let setting = Setting {
-        nodes: Nodes::new(nodes)?,
-        steps: Steps::new(1_000_000)?,
-        collect: 0,
-        size: Size::Words64,
-        first: 0,
-    };
-    Some(setting)
-}
-
-fn run_of(alloc: Global, text: &[u8], nodes: u32, order: Order<'_>, keep: Keep) -> Option<Run> {
-    let program = parse(alloc, text).ok()?;
-    let setting = setting_of(nodes)?;
-    run_in(alloc, &program, &setting, order, keep).ok()
-}
 
 /// The own entry of node 0 just after the act at a position.
 fn entry_at(run: &Run, position: usize) -> Option<u32> {
@@ -86,32 +135,11 @@ fn has_entries(run: &Run, entries: &[u32]) -> bool {
     run.origins.times.len() == entries.len()
 }
 
-fn is_row(run: &Run, row: &Row) -> bool {
-    run.origins.statements.as_slice() == row.statements
-        && has_entries(run, row.entries)
-        && run.origins.times.kept() == row.kept
+fn has_statements(run: &Run, statements: &[u32], entries: &[u32], kept: usize) -> bool {
+    run.origins.statements.as_slice() == statements
+        && has_entries(run, entries)
+        && run.origins.times.kept() == kept
         && tells_turns(run)
-}
-
-fn is_met(alloc: Global, row: &Row) -> bool {
-    match run_of(alloc, row.text, 1, Order::Rounds(Picker::Oldest), Keep::All) {
-        Some(run) => is_row(&run, row),
-        None => false,
-    }
-}
-
-fn first_wrong(alloc: Global) -> Option<&'static str> {
-    for row in ROWS {
-        if !is_met(alloc, row) {
-            return Some(row.name);
-        }
-    }
-    None
-}
-
-#[test]
-fn acts_come_from_their_statements(rt: HostRuntime) {
-    passes(&rt, first_wrong(rt.alloc()));
 }
 
 /// How many of the first turns of a run are of the node.
@@ -138,22 +166,6 @@ fn tells_turns(run: &Run) -> bool {
     run.origins.turns.len() == run.report.acts.len()
 }
 
-fn is_told(alloc: Global, order: Order<'_>) -> bool {
-    match run_of(alloc, BOTH, 2, order, Keep::All) {
-        Some(run) => tells_turns(&run),
-        None => false,
-    }
-}
-
-#[test]
-fn acts_come_from_their_turns(rt: HostRuntime) {
-    let alloc = rt.alloc();
-    let rounds = is_told(alloc, Order::Rounds(Picker::Newest));
-    let random = is_told(alloc, Order::Random(7));
-    passes(&rt, if rounds { None } else { Some("rounds") });
-    passes(&rt, if random { None } else { Some("random") });
-}
-
 /// Whether nothing is kept but turns.
 fn has_none(run: &Run) -> bool {
     run.turned.is_empty()
@@ -170,61 +182,102 @@ fn turns_of(run: &Run) -> usize {
     turns
 }
 
-fn keeps_turns_alone(alloc: Global) -> bool {
+/// How many turns a run in rounds has, of which all is kept.
+fn all_turns(alloc: Global, program: &Program, setting: &Setting) -> Option<usize> {
     let order = Order::Rounds(Picker::Oldest);
-    let Some(whole) = run_of(alloc, BOTH, 2, order, Keep::All) else {
-        return false;
-    };
-    let Some(run) = run_of(alloc, BOTH, 2, order, Keep::Turns) else {
-        return false;
-    };
-    has_none(&run) && turns_of(&run) == whole.turned.len()
+    match run_in(alloc, program, setting, order, Keep::All) {
+        Ok(run) => Some(run.turned.len()),
+        Err(_) => None,
+    }
 }
 
-#[test]
-fn turns_alone_are_kept(rt: HostRuntime) {
-    let met = keeps_turns_alone(rt.alloc());
-    passes(&rt, if met { None } else { Some("turns") });
+fn is_as_wanted(
+    alloc: Global,
+    program: &Program,
+    setting: &Setting,
+    run: &Run,
+    wanted: Wanted,
+) -> bool {
+    match wanted {
+        Wanted::Statements(statements, entries, kept) => {
+            has_statements(run, statements, entries, kept)
+        }
+        Wanted::Turns => tells_turns(run),
+        Wanted::AllTurns => tells_turns(run) && turns_of(run) == run.turned.len(),
+        Wanted::TurnsAlone => has_none(run) && turns_of(run) > 0,
+        Wanted::AllTurnsAlone => {
+            has_none(run) && all_turns(alloc, program, setting) == Some(turns_of(run))
+        }
+    }
 }
 
-fn threaded<R: Threads + Wait + Sync>(
+fn is_run_so(
+    alloc: Global,
+    program: &Program,
+    setting: &Setting,
+    order: Order<'_>,
+    row: &Row,
+) -> bool {
+    match run_in(alloc, program, setting, order, row.keep) {
+        Ok(run) => is_as_wanted(alloc, program, setting, &run, row.wanted),
+        Err(_) => false,
+    }
+}
+
+fn is_threaded_so<R: Threads + Wait + Sync>(
     rt: &R,
     alloc: Global,
     program: &Program,
-    keep: Keep,
-) -> Option<ThreadedRun> {
-    let setting = setting_of(2)?;
-    run_on_threads(
+    setting: &Setting,
+    row: &Row,
+) -> bool {
+    match run_on_threads(
         rt,
         alloc,
         program,
-        &setting,
+        setting,
         Picker::Oldest,
-        keep,
+        row.keep,
         &OpenGate,
-    )
-    .ok()
+    ) {
+        Ok(run) => is_as_wanted(alloc, program, setting, &run.made, row.wanted),
+        Err(_) => false,
+    }
 }
 
-/// Whether a run on threads keeps where its acts come from, if all is kept, and otherwise its turns alone.
-fn is_threaded_so<R: Threads + Wait + Sync>(rt: &R, alloc: Global) -> bool {
-    let Ok(program) = parse(alloc, BOTH) else {
+fn is_made_so<R: Threads + Wait + Sync>(
+    rt: &R,
+    alloc: Global,
+    program: &Program,
+    row: &Row,
+) -> bool {
+    let Some(setting) = setting_of(row.nodes, 0) else {
         return false;
     };
-    let Some(whole) = threaded(rt, alloc, &program, Keep::All) else {
-        return false;
-    };
-    let Some(brief) = threaded(rt, alloc, &program, Keep::Newest) else {
-        return false;
-    };
-    tells_turns(&whole.made)
-        && turns_of(&whole.made) == whole.made.turned.len()
-        && has_none(&brief.made)
-        && turns_of(&brief.made) > 0
+    match row.way {
+        Way::Rounds(picker) => is_run_so(alloc, program, &setting, Order::Rounds(picker), row),
+        Way::Random(seed) => is_run_so(alloc, program, &setting, Order::Random(seed), row),
+        Way::Threads => is_threaded_so(rt, alloc, program, &setting, row),
+    }
+}
+
+fn is_met<R: Threads + Wait + Sync>(rt: &R, alloc: Global, row: &Row) -> bool {
+    match parse(alloc, row.text) {
+        Ok(program) => is_made_so(rt, alloc, &program, row),
+        Err(_) => false,
+    }
+}
+
+fn first_wrong<R: Threads + Wait + Sync>(rt: &R, alloc: Global) -> Option<&'static str> {
+    for row in ROWS {
+        if !is_met(rt, alloc, row) {
+            return Some(row.name);
+        }
+    }
+    None
 }
 
 #[test]
-fn acts_of_threads_come_from_their_turns(rt: HostRuntime) {
-    let met = is_threaded_so(&rt, rt.alloc());
-    passes(&rt, if met { None } else { Some("threads") });
+fn acts_come_from_their_turns_and_statements(rt: HostRuntime) {
+    passes(&rt, first_wrong(&rt, rt.alloc()));
 }

@@ -63,12 +63,8 @@ fn is_met<R: Threads + Wait + Sync>(rt: &R, alloc: Global, row: &Row) -> bool {
     }
 }
 
-fn first_wrong<R: Threads + Wait + Sync>(
-    rt: &R,
-    alloc: Global,
-    rows: &[Row],
-) -> Option<&'static str> {
-    for row in rows {
+fn first_wrong<R: Threads + Wait + Sync>(rt: &R, alloc: Global) -> Option<&'static str> {
+    for row in ROWS {
         if !is_met(rt, alloc, row) {
             return Some(row.name);
         }
@@ -93,7 +89,29 @@ const SIXTEEN: Row = Row {
     ..NO_NODE
 };
 
-const NUMBERS: &[Row] = &[
+const ARRIVALS: Row = Row {
+    name: "node 0 wears out as it takes the last arrival",
+    text: b"words 1; locks 0; if me == 0 { [0] = 7; } barrier; x = [0]; print x;",
+    nodes: 2,
+    steps: 1_000_000,
+    first: u32::MAX,
+    fault: Some(RunFault::Worn),
+};
+
+const SECOND_LOCK: Row = Row {
+    name: "the other node wears out as it goes on to its second lock",
+    text: b"words 1; locks 3; if me == 1 { acquire 0; release 0; acquire 2; release 2; }",
+    ..ARRIVALS
+};
+
+const BOTH: Row = Row {
+    name: "both wear out",
+    text: b"words 1; locks 4; acquire 0; release 0; acquire 1; release 1; acquire 2; release 2; acquire 3; release 3;",
+    ..ARRIVALS
+};
+
+// Numbers that are out of range or just within it, and message numbers that are used up or just not.
+const ROWS: &[Row] = &[
     NO_NODE,
     Row {
         name: "seventeen nodes",
@@ -126,35 +144,6 @@ const NUMBERS: &[Row] = &[
         ..NO_NODE
     },
     SIXTEEN,
-];
-
-#[test]
-fn numbers_out_of_range_are_refused(rt: HostRuntime) {
-    passes(&rt, first_wrong(&rt, rt.alloc(), NUMBERS));
-}
-
-const ARRIVALS: Row = Row {
-    name: "node 0 wears out as it takes the last arrival",
-    text: b"words 1; locks 0; if me == 0 { [0] = 7; } barrier; x = [0]; print x;",
-    nodes: 2,
-    steps: 1_000_000,
-    first: u32::MAX,
-    fault: Some(RunFault::Worn),
-};
-
-const SECOND_LOCK: Row = Row {
-    name: "the other node wears out as it goes on to its second lock",
-    text: b"words 1; locks 3; if me == 1 { acquire 0; release 0; acquire 2; release 2; }",
-    ..ARRIVALS
-};
-
-const BOTH: Row = Row {
-    name: "both wear out",
-    text: b"words 1; locks 4; acquire 0; release 0; acquire 1; release 1; acquire 2; release 2; acquire 3; release 3;",
-    ..ARRIVALS
-};
-
-const WORN: &[Row] = &[
     ARRIVALS,
     Row {
         name: "an arrival with numbers left",
@@ -179,6 +168,6 @@ const WORN: &[Row] = &[
 ];
 
 #[test]
-fn runs_that_use_up_the_message_numbers_wear_out(rt: HostRuntime) {
-    passes(&rt, first_wrong(&rt, rt.alloc(), WORN));
+fn numbers_out_of_range_are_refused_and_message_numbers_wear_out(rt: HostRuntime) {
+    passes(&rt, first_wrong(&rt, rt.alloc()));
 }

@@ -163,8 +163,17 @@ const TWENTY_TIMES: Row = Row {
     times: 20,
 };
 
-// Programs in which every two conflicting accesses are ordered.
-const ORDERED: &[Row] = &[
+/// A race for word 0 in the first intervals of nodes 0 and 1.
+const RACE_OF_TWO: Race = Race {
+    word: 0,
+    node_a: 0,
+    node_b: 1,
+    interval_a: 1,
+    interval_b: 1,
+};
+
+// Programs in which every two conflicting accesses are ordered, and behind them programs with races.
+const PROGRAMS: &[Row] = &[
     TWENTY_TIMES,
     Row {
         name: "a write before a barrier",
@@ -208,11 +217,41 @@ const ORDERED: &[Row] = &[
         times: 1,
         ..TWENTY_TIMES
     },
+    Row {
+        name: "a read that races",
+        nodes: 2,
+        text: b"words 1; locks 0; if me == 0 { [0] = 5; } else { x = [0]; print x; }",
+        prints: &[0],
+        races: &[RACE_OF_TWO],
+        first_race: Some(3),
+        times: 1,
+        ..TWENTY_TIMES
+    },
+    Row {
+        name: "three writes that race",
+        text: b"words 1; locks 0; [0] = me; [0] = me;",
+        prints: &[],
+        races: &[
+            RACE_OF_TWO,
+            Race {
+                node_b: 2,
+                ..RACE_OF_TWO
+            },
+            Race {
+                node_a: 1,
+                node_b: 2,
+                ..RACE_OF_TWO
+            },
+        ],
+        first_race: Some(1),
+        times: 1,
+        ..TWENTY_TIMES
+    },
 ];
 
 #[test]
-fn ordered_programs_print_the_same_twenty_times(rt: HostRuntime) {
-    passes(&rt, first_wrong(&rt, rt.alloc(), ORDERED));
+fn ordered_programs_print_the_same_twenty_times_and_races_are_named(rt: HostRuntime) {
+    passes(&rt, first_wrong(&rt, rt.alloc(), PROGRAMS));
 }
 
 const COUNTED: Row = Row {
@@ -338,51 +377,4 @@ const UP_TO_SIXTEEN: &[Row] = &[
 #[test]
 fn a_counter_counts_each_of_up_to_sixteen_nodes(rt: HostRuntime) {
     passes(&rt, first_wrong(&rt, rt.alloc(), UP_TO_SIXTEEN));
-}
-
-/// A race for word 0 in the first intervals of nodes 0 and 1.
-const RACE_OF_TWO: Race = Race {
-    word: 0,
-    node_a: 0,
-    node_b: 1,
-    interval_a: 1,
-    interval_b: 1,
-};
-
-const RACING: &[Row] = &[
-    Row {
-        name: "a read that races",
-        nodes: 2,
-        text: b"words 1; locks 0; if me == 0 { [0] = 5; } else { x = [0]; print x; }",
-        prints: &[0],
-        races: &[RACE_OF_TWO],
-        first_race: Some(3),
-        times: 1,
-        ..TWENTY_TIMES
-    },
-    Row {
-        name: "three writes that race",
-        text: b"words 1; locks 0; [0] = me; [0] = me;",
-        prints: &[],
-        races: &[
-            RACE_OF_TWO,
-            Race {
-                node_b: 2,
-                ..RACE_OF_TWO
-            },
-            Race {
-                node_a: 1,
-                node_b: 2,
-                ..RACE_OF_TWO
-            },
-        ],
-        first_race: Some(1),
-        times: 1,
-        ..TWENTY_TIMES
-    },
-];
-
-#[test]
-fn races_are_named(rt: HostRuntime) {
-    passes(&rt, first_wrong(&rt, rt.alloc(), RACING));
 }

@@ -6,6 +6,7 @@ use lrc_node::Options;
 use lrc_page::Size;
 use lrc_post::Wires;
 use lrc_run::{RunFault, run};
+use lrc_setting::setting::{Nodes, Setting, Steps};
 use lrc_world::report::Report;
 use std::alloc::Global;
 use std::sync::Wait;
@@ -22,6 +23,18 @@ pub fn options(collect: u32) -> Options {
         first: 0,
         size: Size::Words64,
     }
+}
+
+/// So many nodes with as many steps as a node may be given, whose messages to each other are numbered from this number on.
+pub fn setting_of(nodes: u32, first: u32) -> Option<Setting> {
+    let setting = Setting {
+        nodes: Nodes::new(nodes)?,
+        steps: Steps::new(1_000_000)?,
+        collect: 0,
+        size: Size::Words64,
+        first,
+    };
+    Some(setting)
 }
 
 /// The run of a program whose nodes are on threads.

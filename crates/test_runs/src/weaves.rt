@@ -8,7 +8,8 @@ use lrc_lang::program::Program;
 use lrc_node::{Entry, Input};
 use lrc_post::{Mailbox, Post};
 use lrc_protocol::Event;
-use lrc_weave::{WeaveFault, WovenRun, events_with, weave, weave_run};
+use lrc_trace::act::Act;
+use lrc_weave::{WeaveFault, events_with, weave, weave_run};
 use lrc_wire::encode;
 use lrc_world::report::Report;
 use lrc_world::simulate::simulate;
@@ -37,17 +38,15 @@ fn differ(alloc: Global, logs: &[Vec<Entry>], wires: &[Mailbox]) -> bool {
     }
 }
 
-/// The run of logs and mailboxes, one for each of the three nodes.
-fn woven_run(alloc: Global, logs: &[Vec<Entry>], wires: &[Mailbox]) -> Option<WovenRun> {
+/// Whether logs and mailboxes, one for each of the three nodes, tell of these acts in their order, and of no message that is still in flight.
+fn are_told(alloc: Global, logs: &[Vec<Entry>], wires: &[Mailbox], acts: &[Act]) -> bool {
     if logs.len() != 3 || wires.len() != 3 {
-        return None;
+        return false;
     }
-    weave_run(alloc, logs, wires).ok()
-}
-
-/// The report of these events.
-fn simulated(alloc: Global, program: &Program, events: &[Event]) -> Option<Report> {
-    simulate(alloc, program, 3, &options(0), events).ok()
+    match weave_run(alloc, logs, wires) {
+        Ok(run) => run.acts.as_slice() == acts && run.in_flight == 0,
+        Err(_) => false,
+    }
 }
 
 /// Whether a message is written as these bytes.
@@ -117,19 +116,11 @@ fn is_same_report(alloc: Global, report: &Report, other: &Report) -> bool {
         && are_same_logs(alloc, &report.logs, &other.logs)
 }
 
-/// Whether the logs of a report tell of its acts in its order, and of no message that is still in flight.
-fn is_told(alloc: Global, report: &Report, wires: &[Mailbox]) -> bool {
-    match woven_run(alloc, &report.logs, wires) {
-        Some(run) => run.acts.as_slice() == report.acts.as_slice() && run.in_flight == 0,
-        None => false,
-    }
-}
-
 /// Whether the run of these events has the report's acts, ends and logs.
 fn is_made_by(alloc: Global, program: &Program, report: &Report, events: &[Event]) -> bool {
-    match simulated(alloc, program, events) {
-        Some(again) => is_same_report(alloc, report, &again),
-        None => false,
+    match simulate(alloc, program, 3, &options(0), events) {
+        Ok(again) => is_same_report(alloc, report, &again),
+        Err(_) => false,
     }
 }
 
@@ -230,7 +221,7 @@ fn is_so(
 ) -> bool {
     match question {
         Question::Woven => {
-            is_told(alloc, report, wires)
+            are_told(alloc, &report.logs, wires, report.acts.as_slice())
                 && is_replayed(alloc, program, report, wires)
                 && is_unmatched(alloc, report, order)
         }
@@ -283,12 +274,8 @@ fn is_met<R: Threads + Wait + Sync>(
 /// An order of messages, and what is asked of a run.
 type Row = (&'static str, Picker, Question);
 
-fn first_wrong<R: Threads + Wait + Sync>(
-    rt: &R,
-    alloc: Global,
-    rows: &[Row],
-) -> Option<&'static str> {
-    for (name, order, question) in rows {
+fn first_wrong<R: Threads + Wait + Sync>(rt: &R, alloc: Global) -> Option<&'static str> {
+    for (name, order, question) in ROWS {
         if !is_met(rt, alloc, *order, *question) {
             return Some(name);
         }
@@ -296,23 +283,23 @@ fn first_wrong<R: Threads + Wait + Sync>(
     None
 }
 
-const BY_MAILBOXES: &[Row] = &[
+const ROWS: &[Row] = &[
     ("oldest", Picker::Oldest, Question::Woven),
     ("newest", Picker::Newest, Question::Woven),
     ("twice", Picker::Twice, Question::Woven),
+    (
+        "oldest, the last turn behind the others",
+        Picker::Oldest,
+        Question::LastBehind,
+    ),
+    (
+        "newest, the last turn behind the others",
+        Picker::Newest,
+        Question::LastBehind,
+    ),
 ];
 
 #[test]
 fn turns_are_woven_by_their_mailboxes(rt: HostRuntime) {
-    passes(&rt, first_wrong(&rt, rt.alloc(), BY_MAILBOXES));
-}
-
-const LAST: &[Row] = &[
-    ("oldest", Picker::Oldest, Question::LastBehind),
-    ("newest", Picker::Newest, Question::LastBehind),
-];
-
-#[test]
-fn the_last_turn_is_woven_behind_the_others(rt: HostRuntime) {
-    passes(&rt, first_wrong(&rt, rt.alloc(), LAST));
+    passes(&rt, first_wrong(&rt, rt.alloc()));
 }
