@@ -1,7 +1,9 @@
-// Texts of events that are too large for a file.
+// Texts of events that are too large for a file, and thousands of races.
 
 use crate::checks::passes;
-use crate::shell::{ON_ONE_NODE, played};
+use crate::shell::{ON_ONE_NODE, Outcome, done, played};
+use lrc_cli_args::choice::{Choice, Nodes, RunChoice, RunOptions, Shape, Way};
+use lrc_envelope::Picker;
 use std::alloc::{AllocError, Global};
 use std::sync::Wait;
 use std::thread::Threads;
@@ -85,4 +87,41 @@ fn first_wrong<R: Threads + Wait + Sync + AllocGlobal>(rt: &R) -> Option<&'stati
 #[test]
 fn large_texts_of_events_are_played(rt: HostRuntime) {
     passes(&rt, first_wrong(&rt));
+}
+
+/// How many lines of a text name a race.
+fn races_in(out: &[u8]) -> usize {
+    let mut lines: usize = 0;
+    for line in out.split(|byte| *byte == b'\n') {
+        if line.starts_with(b"race word ") {
+            lines = lines.saturating_add(1);
+        }
+    }
+    lines
+}
+
+const CONFLICTING: &[u8] = b"words 4096; locks 0; while x < 64 { [x * 64] = me; x = x + 1; }";
+
+const OF_SIXTEEN: Choice<'static> = Choice::Show(
+    RunChoice {
+        options: RunOptions {
+            nodes: Nodes { count: 16 },
+            ..ON_ONE_NODE
+        },
+        way: Way::Rounds(Picker::Oldest),
+    },
+    Shape::Report,
+);
+
+/// Whether so many races are named, and these lines are the last.
+fn names_races(run: &Outcome, races: usize, last: &[u8]) -> bool {
+    races_in(&run.out) == races && run.out.ends_with(last) && run.status == 3
+}
+
+// Each of sixteen nodes writes 64 words: a race for each word and each two nodes.
+#[test]
+fn thousands_of_races_are_named(rt: HostRuntime) {
+    let run = done(&rt, &OF_SIXTEEN, CONFLICTING, None);
+    let last = b"node 15 interval 1\nfirst race at act 17\n";
+    assert!(rt; names_races(&run, 7_680, last));
 }

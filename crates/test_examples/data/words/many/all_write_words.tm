@@ -1,1 +1,0 @@
-words 4096; locks 0; while x < 64 { [x * 64] = me; x = x + 1; }
