@@ -41,7 +41,8 @@ module _ (program : Program) (nodes : ℕ) (finding : Finding) (states : List (L
             held_along (nodes_of_acts past) (plain_start program nodes) machine past (held_at_start program nodes) (enough.led past machine among) in
             let d = drop (x ∷ order) x machine machine final acts held (round_of round) led in
             let lt = d.fewer (inl refl) in
-            by_order most past machine among d.new_order d.new_acts d.there d.run (omega (arith, lt, short)) (drop_shows x machine final (x ∷ order) acts past finding d shows)
+            by_order most past machine among d.new_order d.new_acts d.there d.run (omega (arith, lt, short))
+            (drop_shows x machine final (x ∷ order) acts past finding d shows)
         | inr stood ↦
             let now : Comes (past ++ act_of x s.deed ∷ []) s.after most finding = record {
               order = order;

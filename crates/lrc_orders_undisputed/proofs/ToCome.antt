@@ -84,7 +84,8 @@ against trapping word b c e other e' one = cc
 against ending word b c e other e' one = cc
 
 -- the thread that makes an access
-accessor : (o : Option Thread) (access : ℕ × Bool) → next_access_in o ≡ Some access → (thread : Thread) × (o ≡ Some thread) × (access_of (next_of thread) ≡ Some access)
+accessor : (o : Option Thread) (access : ℕ × Bool) → next_access_in o ≡ Some access
+    → (thread : Thread) × (o ≡ Some thread) × (access_of (next_of thread) ≡ Some access)
 accessor None access e = cc
 accessor (Some thread) access e = (thread, refl, e)
 

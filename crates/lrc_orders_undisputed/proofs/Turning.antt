@@ -244,10 +244,14 @@ alone_ends {node} (goes machine mid final deed acts u more) can = can_end_before
 pub drop_shows : (node : ℕ) (home final : Plain) (order : List ℕ) (acts past : List Act) (finding : Finding)
     → (d : Dropped node home order acts final) → Shows finding (past ++ acts) final → Shows finding (past ++ d.new_acts) d.there
 drop_shows node home final order acts past meeting d (p, q, meet) = (p, q, alone_meets d.round.back p q (meet_on d.round.step p q meet))
-drop_shows node home final order acts past stuck d (still, some) = absurd (cannot_rest final d.round.next node d.round.deed d.round.step.step still)
-drop_shows node home final order acts past (trap n cause) d made = made_join (act_of n (Trap cause)) past acts d.new_acts (d.kept n cause) made
-drop_shows node home final order acts past no_end d never = λ can. never (can_end_before final d.round.next node d.round.deed d.round.step.step (alone_ends d.round.back can))
-drop_shows node home final order acts past (outcome nodes notes) d (still, are) = absurd (cannot_rest final d.round.next node d.round.deed d.round.step.step still)
+drop_shows node home final order acts past stuck d (still, some) =
+    absurd (cannot_rest final d.round.next node d.round.deed d.round.step.step still)
+drop_shows node home final order acts past (trap n cause) d made =
+    made_join (act_of n (Trap cause)) past acts d.new_acts (d.kept n cause) made
+drop_shows node home final order acts past no_end d never =
+    λ can. never (can_end_before final d.round.next node d.round.deed d.round.step.step (alone_ends d.round.back can))
+drop_shows node home final order acts past (outcome nodes notes) d (still, are) =
+    absurd (cannot_rest final d.round.next node d.round.deed d.round.step.step still)
 
 pub round_of : {machine : Plain} {node : ℕ} → ComesRound machine node → OnRound node machine machine
 round_of {machine} c =
