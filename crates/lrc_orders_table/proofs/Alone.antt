@@ -41,7 +41,7 @@ use Rattle.lrc_orders_live.proofs.Like.{like_alike, like_back, like_on, like_sam
 use Rattle.lrc_orders_table.specs.declared.next.Next.TheVariants.{Stopped, Waits}
 use Rattle.lrc_orders_table.specs.Nexts.{next_by, next_in, notes_on, thread_then}
 use Rattle.lrc_orders_table.proofs.Contended.{acted, deed_of_spot, step_alone, step_made, thread_acted}
-use Rattle.lrc_orders_table.proofs.Seen.{notes_seen}
+use Rattle.lrc_orders_table.proofs.SeenNext.{notes_seen}
 use Rattle.lrc_orders_table.specs.declared.known.Means.{Means}
 use Rattle.lrc_orders_table.specs.declared.table.Table.{Table}
 use Rattle.lrc_orders_table.specs.Going.{GoesOn, HasGone}

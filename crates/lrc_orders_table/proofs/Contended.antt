@@ -31,7 +31,7 @@ use Rattle.lrc_orders_settling.specs.Taking.{TakesTo}
 use Rattle.lrc_orders_settling.proofs.Parts.{kept_thread}
 use Rattle.lrc_orders_table.specs.declared.next.Settled.{Settled}
 use Rattle.lrc_orders_table.specs.Nexts.{SettlesSo, thread_then}
-use Rattle.lrc_orders_table.proofs.Seen.{freed_seen}
+use Rattle.lrc_orders_table.proofs.SeenNext.{freed_seen}
 use Rattle.lrc_orders_table.proofs.Stepping.{one_settles}
 
 -- ---- the act itself

@@ -2,7 +2,7 @@ pub mod Numbering
 pub mod RowLaws
 pub mod RowsApart
 pub mod Stepping
-pub mod Seen
+pub mod SeenNext
 pub mod Contended
 pub mod Acting
 pub mod Alone

@@ -37,7 +37,7 @@ use Rattle.lrc_orders_table.specs.declared.next.Next.{Next}
 use Rattle.lrc_orders_table.specs.declared.next.Next.TheVariants.{Waits}
 use Rattle.lrc_orders_table.specs.All.{acts_of_all, gone_all}
 use Rattle.lrc_orders_table.specs.Nexts.{next_in, notes_on, thread_then}
-use Rattle.lrc_orders_table.proofs.Seen.{freed_seen, notes_seen}
+use Rattle.lrc_orders_table.proofs.SeenNext.{freed_seen, notes_seen}
 use Rattle.lrc_orders_table.proofs.Stepping.{all_settle}
 use Rattle.lrc_orders_table.specs.declared.known.Means.{Means}
 use Rattle.lrc_orders_table.specs.declared.table.Table.{Table}
