@@ -1,10 +1,10 @@
 -- Every run of these nodes has one list of states by a local rule, a prefix has its beginning, and one more act adds one.
-use Rattle.std.proofs.Common.{◌≡◌, ℕ, zero, suc, ◌+◌, ◌<◌, ◌≤◌, ◌&&◌, ◌⊎◌, Bool, true, false, cond, List, [], ◌∷◌, ◌++◌, length, get_or, take}
-use Rattle.std.proofs.Common.{take_all, ext_get_or, inl, inr, refl, sym, subst, ap, ◌∙◌, arith, add-one}
+use Rattle.std.proofs.Common.{◌≡◌, ℕ, zero, suc, ◌+◌, ◌<◌, ◌≤◌, ◌&&◌, ◌⊎◌, Bool, true, cond, List, [], ◌∷◌, ◌++◌, length, get_or, take}
+use Rattle.std.proofs.Common.{take_all, inl, inr, refl, sym, subst, ap, ◌∙◌, arith, add-one}
 use Rattle.std.specs.Prelude.{◌==◌, Option, Some, None, slice_get, unwrap_or}
 use Rattle.std.proofs.lemmas.Bool.{cases_Bool, cases_eq, both_ways, cond-true, cond-false}
 use Rattle.std.proofs.lemmas.List.{take_more, length_push}
-use Rattle.std.proofs.lemmas.Option.{slice_get-get_or, same_Some}
+use Rattle.std.proofs.lemmas.Option.{same_Some}
 use Rattle.lrc_trace.specs.declared.act.Act.{Act}
 use Rattle.lrc_trace.specs.declared.act.Deed.{Deed}
 use Rattle.lrc_trace.specs.declared.act.Deed.TheVariants.{Acquire, Depart}
@@ -140,7 +140,8 @@ module _ {S : Type 0} (run more : List Act) (states later : List S) (stated : le
   }
 
 -- one act more
-module _ {S : Type 0} (rule : LocalRule S) (nodes : ℕ) (run : List Act) (states : List S) (act : Act) (state : S) (keeps : KeepsStates rule nodes run states) where
+module _ {S : Type 0} (rule : LocalRule S) (nodes : ℕ) (run : List Act) (states : List S) (act : Act) (state : S)
+    (keeps : KeepsStates rule nodes run states) where
   abbrev next : S
   next = state_after rule run states (length run) act.node act.deed
 
@@ -210,7 +211,8 @@ module _ {S : Type 0} (rule : LocalRule S) (nodes : ℕ) (run : List Act) (in_ra
       (states, subst (λ xs. KeepsStates rule nodes xs states) (take_all (length run) run (omega arith)) keeps)
 
 -- two lists of states of one run are one
-module _ {S : Type 0} (rule : LocalRule S) (nodes : ℕ) (run : List Act) (ss ts : List S) (a : KeepsStates rule nodes run ss) (b : KeepsStates rule nodes run ts) where
+module _ {S : Type 0} (rule : LocalRule S) (nodes : ℕ) (run : List Act) (ss ts : List S)
+    (a : KeepsStates rule nodes run ss) (b : KeepsStates rule nodes run ts) where
   same_here : (j : ℕ) → j < length run → ((k : ℕ) → k < j → slice_get ss k ≡ slice_get ts k) → slice_get ss j ≡ slice_get ts j
   same_here j within earlier =
       let (act, does) = act_at run j within in

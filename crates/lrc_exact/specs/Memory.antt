@@ -1,5 +1,5 @@
 -- What a node has of the shared memory: of each word a value and a mark.
-use Rattle.std.specs.Prelude.{◌≡◌, ℕ, ◌+◌, ◌<◌, ◌==◌, ◌&&◌, ◌||◌, Bool, true, Option, Some, None, nat_lt}
+use Rattle.std.specs.Prelude.{ℕ, ◌==◌, ◌&&◌, ◌||◌, Bool, true, Option, Some, None, nat_lt}
 
 -- The rank of an interval: its weight and its node. Ranks are ordered by weight first.
 pub record Rank : Type 0 where

@@ -1,6 +1,7 @@
 -- Of two runs that read by one local rule, and in which nodes acquire each lock in one order, each node makes the same acts and has the
 -- same states.
-use Rattle.std.proofs.Common.{◌≡◌, ℕ, zero, suc, ◌+◌, ◌<◌, ◌≤◌, Bool, true, List, [], ◌∷◌, ◌++◌, length, take, drop, inl, inr, refl, sym, subst, ap, ◌∙◌, arith, add-one}
+use Rattle.std.proofs.Common.{◌≡◌, ℕ, zero, suc, ◌+◌, ◌<◌, ◌≤◌, Bool, true, List, [], ◌∷◌, ◌++◌, length, take, drop, inl, inr, refl, sym, subst, ap}
+use Rattle.std.proofs.Common.{◌∙◌, arith, add-one}
 use Rattle.std.specs.Prelude.{Some, slice_get, unwrap_or, count_by}
 use Rattle.std.proofs.lemmas.Bool.{cases_eq, cases_lt, and_parts, and_from}
 use Rattle.std.proofs.lemmas.List.{take_all, nil_from_length, take-append-drop}
@@ -123,7 +124,8 @@ module _ {S : Type 0} (run run' : List Act) (states states' : List S) where
         let in_run' = Does-within there in
         elim (cases_lt (acts_before run node q) (acts_before run' node q')) [
           | inl less ↦
-              let (x, least, most, (f, does, any, number)) = counted_in any_deed run' node 0 q' (acts_before run node q) (omega arith) (omega arith) (omega arith) less in
+              let (x, least, most, (f, does, any, number)) = counted_in any_deed run' node 0 q' (acts_before run node q) (omega arith)
+              (omega arith) (omega arith) less in
               let deed = ((earlier q lt).same node x d f here does (sym number)).0 in
               let passes : kind f ≡ true = ap kind (sym deed) ∙ is in
               let same = same_count kind node q x (omega arith) (omega arith) (omega arith) (sym number) in
@@ -133,7 +135,8 @@ module _ {S : Type 0} (run run' : List Act) (states states' : List S) where
           | inr most ↦
               elim (cases_lt (acts_before run' node q') (acts_before run node q)) [
                 | inl less ↦
-                    let (x, least, below, (f, does, any, number)) = counted_in any_deed run node 0 q (acts_before run' node q') (omega arith) (omega arith) (omega arith) less in
+                    let (x, least, below, (f, does, any, number)) = counted_in any_deed run node 0 q (acts_before run' node q') (omega arith)
+                    (omega arith) (omega arith) less in
                     let deed = ((earlier x (omega arith)).same node q' f e does there number).0 in
                     let passes : kind f ≡ true = ap kind deed ∙ is' in
                     let same = same_count kind node x q' (omega arith) (omega arith) (omega arith) number in
@@ -166,7 +169,8 @@ module _ {S : Type 0} (run run' : List Act) (states states' : List S) where
               (λ k f after before does' is'. last k after before (acts_at-true run k node f does')) in
               elim (last-cases (acts_at run' node) states' i) [
                 | inl (none', never') ↦
-                    let zero_there = idle any_deed run' node 0 i (omega arith) within' (λ k f least most does' is'. never' k most (acts_at-true run' k node f does')) in
+                    let zero_there = idle any_deed run' node 0 i (omega arith) within'
+                    (λ k f least most does' is'. never' k most (acts_at-true run' k node f does')) in
                     absurd (omega arith)
                 | inr (q', lt', passes', last', is') ↦
                     let (d', does') = acts_at-act run' q' node passes' in

@@ -1,5 +1,6 @@
 -- The deeds of a node and the acquirers of a lock, from one position of a run to the next.
-use Rattle.std.proofs.Common.{◌≡◌, ℕ, zero, suc, ◌+◌, ◌-◌, ◌<◌, ◌≤◌, Bool, true, false, cond, List, [], ◌∷◌, ◌++◌, length, get_or, take, drop, map, inl, inr, refl, sym, subst, ap, ◌∙◌, arith, append_assoc, add-zero}
+use Rattle.std.proofs.Common.{◌≡◌, ℕ, zero, suc, ◌+◌, ◌-◌, ◌<◌, ◌≤◌, Bool, true, false, cond, List, [], ◌∷◌, ◌++◌, length, get_or, take, drop, map}
+use Rattle.std.proofs.Common.{inl, inr, refl, sym, subst, ap, ◌∙◌, arith, append_assoc, add-zero}
 use Rattle.std.specs.Prelude.{◌==◌, ◌&&◌, filter, count_by}
 use Rattle.std.proofs.lemmas.Bool.{cases_Bool, cases_lt, eq-eqb, ne_eqb, cond-true, cond-false}
 use Rattle.std.proofs.lemmas.List.{take_more, take-append-drop, map-append}
@@ -148,7 +149,8 @@ count-acquirers l node (a ∷ acts) =
     not_here false = refl
 
     go : (b : Bool)
-        → count_by (is_number node) (map (λ (x : Act). x.node) (cond b (a ∷ filter (λ (x : Act). is_acquire l x.deed) acts) (filter (λ (x : Act). is_acquire l x.deed) acts)))
+        → count_by (is_number node) (map (λ (x : Act). x.node)
+        (cond b (a ∷ filter (λ (x : Act). is_acquire l x.deed) acts) (filter (λ (x : Act). is_acquire l x.deed) acts)))
         ≡ one_if (a.node == node && b) + count_by (is_number node) (acquirers l acts)
     go true = let more = count-cons (is_number node) a.node (acquirers l acts) in let same = here (a.node == node) in omega arith
     go false = let same = not_here (a.node == node) in omega arith

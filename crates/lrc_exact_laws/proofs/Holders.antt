@@ -1,5 +1,6 @@
 -- Where a lock is free, each node has released it as often as it has acquired it, and who released it last acquired it last.
-use Rattle.std.proofs.Common.{◌≡◌, ℕ, zero, suc, ◌+◌, ◌<◌, ◌≤◌, Bool, true, false, List, [], ◌∷◌, ◌++◌, length, take, inl, inr, refl, sym, subst, ap, ◌∙◌, arith, add-one}
+use Rattle.std.proofs.Common.{◌≡◌, ℕ, zero, suc, ◌+◌, ◌<◌, ◌≤◌, Bool, true, false, List, [], ◌∷◌, ◌++◌, length, take, inl, inr, refl, sym, subst, ap}
+use Rattle.std.proofs.Common.{◌∙◌, arith, add-one}
 use Rattle.std.specs.Prelude.{◌==◌}
 use Rattle.std.proofs.lemmas.Bool.{cases_Bool, cases_eq, cases_lt, eq-eqb, eqb-true, both_ways, false≢true}
 use Rattle.lrc_trace.specs.declared.act.Act.{Act}
@@ -53,7 +54,8 @@ module _ (nodes : ℕ) (run : List Act) (sync : IsWellSynchronized nodes run) (l
                 | inr (still, _) ↦ let e = before.held still in omega arith
               ];
           free = λ none.
-              let e = before.free (λ h. none (Holds-kept run n node deed does m l (λ own is. no_release (sym own) (ap (is_release l) is ∙ is_release-own l)) h)) in
+              let e = before.free (λ h. none (Holds-kept run n node deed does m l (λ own is.
+              no_release (sym own) (ap (is_release l) is ∙ is_release-own l)) h)) in
               omega arith;
         }
 

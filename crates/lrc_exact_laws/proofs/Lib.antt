@@ -3,3 +3,4 @@ pub mod Deeds
 pub mod Holders
 pub mod Threads
 pub mod Deciding
+pub mod Ordered

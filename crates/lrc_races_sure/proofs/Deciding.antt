@@ -1,5 +1,5 @@
 -- Of the events of a trace it is decided whether one happens before another, and whether one leads to another.
-use Rattle.std.proofs.Common.{◌≡◌, ℕ, zero, suc, ◌+◌, ◌<◌, ◌≤◌, ◌⊎◌, List, inl, inr, refl, sym, subst, ◌∙◌, ap, arith}
+use Rattle.std.proofs.Common.{◌≡◌, ℕ, zero, suc, ◌<◌, ◌≤◌, ◌⊎◌, List, inl, inr, refl, sym, subst, ap, arith}
 use Rattle.std.specs.Prelude.{Option, Some, None, slice_get}
 use Rattle.std.proofs.lemmas.Bool.{cases_eq, cases_lt}
 use Rattle.lrc_races_trace.specs.declared.event.Event.{Event}
@@ -12,7 +12,7 @@ use Rattle.lrc_races_trace.specs.Order.{Precedes, program, lock, fork, join, for
 use Rattle.lrc_races_trace.proofs.Positions.{At-one}
 use Rattle.lrc_races_trace.proofs.HappensBefore.{Precedes-forward, forward, Reaches-last}
 use Rattle.lrc_races_sure.specs.Leading.{IsLastWrite, LeadsOn, ordered, read, LeadsTo, one, more, Leads, IsByWay}
-use Rattle.lrc_races_sure.proofs.Leading.{on-forward, to-forward}
+use Rattle.lrc_races_sure.proofs.Leading.{on-forward}
 
 abbrev pub Decided : Type 0 → Type 0
 Decided P = P ⊎ (P → ⊥)

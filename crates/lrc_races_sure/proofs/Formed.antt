@@ -1,25 +1,26 @@
 -- The reordering of a well formed trace is well formed.
-use Rattle.std.proofs.Common.{◌≡◌, ◌≢◌, ℕ, zero, suc, ◌+◌, ◌<◌, ◌≤◌, ◌⊎◌, List, length, get_or, inl, inr, refl, sym, subst, ◌∙◌, ap, arith}
-use Rattle.std.specs.Prelude.{Option, Some, None}
+use Rattle.std.proofs.Common.{◌≡◌, ℕ, zero, suc, ◌+◌, ◌<◌, ◌≤◌, List, length, get_or, inl, inr, refl, sym, subst, ◌∙◌, ap, arith}
 use Rattle.std.proofs.lemmas.Bool.{cases_eq, cases_lt}
 use Rattle.std.proofs.lemmas.Option.{slice_get-get_or}
 use Rattle.lrc_races_trace.specs.declared.event.Event.{Event}
 use Rattle.lrc_races_trace.specs.declared.event.Operation.{Operation}
-use Rattle.lrc_races_trace.specs.declared.event.Operation.TheVariants.{Read, Write, Acquire, Release, Fork, Join, Arrive, Depart}
+use Rattle.lrc_races_trace.specs.declared.event.Operation.TheVariants.{Read, Write, Acquire, Release, Fork, Join}
 use Rattle.lrc_races_trace.specs.declared.fault.Reason.{Reason}
 use Rattle.lrc_races_trace.specs.declared.fault.Reason.TheVariants.{Joined, Waits, NotArrived, Held, NotHeld, Known}
 use Rattle.lrc_races_trace.specs.Trace.{At, Accesses}
-use Rattle.lrc_races_trace.specs.Order.{base, program, join, fork}
-use Rattle.lrc_races_trace.specs.Formed.{IsFirstBefore, IsLastBefore, IsAtBarrier, WaitsAt, holder_before, held_after_operation, IsHeldBy, Knows, IsFirstKnown, Holds, IsWellFormed}
+use Rattle.lrc_races_trace.specs.Order.{base, program, join}
+use Rattle.lrc_races_trace.specs.Formed.{IsFirstBefore, IsLastBefore, IsAtBarrier, holder_before, held_after_operation}
+use Rattle.lrc_races_trace.specs.Formed.{IsHeldBy, Knows, IsFirstKnown, Holds, IsWellFormed}
 use Rattle.lrc_races_trace.proofs.Positions.{At-one, At-within}
 use Rattle.lrc_races_trace.proofs.Holders.{holder_before-none, holder_before-next}
 use Rattle.lrc_races_sure.specs.Sure.{IsSureRace}
 use Rattle.lrc_races_sure.specs.Reordering.{Stands}
 use Rattle.lrc_races_sure.proofs.Leading.{to-ordered}
-use Rattle.lrc_races_sure.proofs.Deciding.{Decided, decided_either, same_operation, first_before, at_cases}
-use Rattle.lrc_races_sure.proofs.Choosing.{rank, rank-in, rank-out}
+use Rattle.lrc_races_sure.proofs.Deciding.{decided_either, same_operation, first_before, at_cases}
+use Rattle.lrc_races_sure.proofs.Choosing.{rank-in, rank-out}
 use Rattle.lrc_races_sure.proofs.Holding.{Touches, held-untouched, touched_before}
-use Rattle.lrc_races_sure.proofs.Taking.{Taken, decide_taken, place, list, positions, taken_led, stands_front, list_at, list_back, behind, own_behind, ahead, front_behind, taken_place}
+use Rattle.lrc_races_sure.proofs.Taking.{Taken, decide_taken, place, list, positions, taken_led, stands_front}
+use Rattle.lrc_races_sure.proofs.Taking.{list_at, list_back, behind, own_behind, ahead, front_behind, taken_place}
 
 -- what is no access is none of the two
 access-other : (a b : Event) (v : ℕ) (o : Operation) → Accesses a v → b.operation ≡ o → ((w : ℕ) → o ≡ Read w → ⊥) → ((w : ℕ) → o ≡ Write w → ⊥) → a ≡ b → ⊥

@@ -1,7 +1,7 @@
 -- In a well formed trace, of two events that acquire or release a lock the earlier happens before the later.
-use Rattle.std.proofs.Common.{◌≡◌, ◌≢◌, ℕ, zero, suc, ◌+◌, ◌-◌, ◌<◌, ◌≤◌, ◌⊎◌, List, length, get_or, inl, inr, refl, sym, subst, ◌∙◌, ap, arith, add-one}
-use Rattle.std.specs.Prelude.{Option, Some, None, true, false, ◌==◌, cond, slice_get}
-use Rattle.std.proofs.lemmas.Bool.{cases_eq, eq-eqb, ne_eqb}
+use Rattle.std.proofs.Common.{◌≡◌, ◌≢◌, ℕ, zero, suc, ◌+◌, ◌-◌, ◌<◌, ◌≤◌, ◌⊎◌, List, length, get_or, inl, inr, refl, sym, subst, ◌∙◌, ap, arith}
+use Rattle.std.specs.Prelude.{Option, Some, None, true, false, ◌==◌, cond}
+use Rattle.std.proofs.lemmas.Bool.{cases_eq, ne_eqb}
 use Rattle.std.proofs.lemmas.Option.{slice_get-get_or}
 use Rattle.lrc_races_trace.specs.declared.event.Event.{Event}
 use Rattle.lrc_races_trace.specs.declared.event.Operation.{Operation}
@@ -62,7 +62,11 @@ release_other e x apart = let test : (x.thread == e.thread) ≡ false = ne_eqb x
 release_kept : (e : Event) (x : Holder) (u : ℕ) → IsHeldBy (after_release e (Some x)) u → x.thread ≡ u
 release_kept e x u =
     elim (x.thread == e.thread) as (λ b. IsHeldBy (cond b (cond (x.depth == 1) None (Some (record x { depth = x.depth - 1 }))) (Some x)) u → x.thread ≡ u) [
-      | true ↦ elim (x.depth == 1) as (λ b. IsHeldBy (cond b None (Some (record x { depth = x.depth - 1 }))) u → x.thread ≡ u) [ true ↦ λ is. absurd is | false ↦ λ is. is ]
+      | true ↦
+          elim (x.depth == 1) as (λ b. IsHeldBy (cond b None (Some (record x { depth = x.depth - 1 }))) u → x.thread ≡ u) [
+            | true ↦ λ is. absurd is
+            | false ↦ λ is. is
+          ]
       | false ↦ λ is. is
     ]
 

@@ -1,8 +1,8 @@
 -- What leads to an event.
-use Rattle.std.proofs.Common.{◌≡◌, ℕ, ◌<◌, List, inl, inr, refl, subst, sym, arith}
+use Rattle.std.proofs.Common.{ℕ, ◌<◌, List, inl, inr, refl, subst, sym, arith}
 use Rattle.lrc_races_trace.specs.declared.event.Event.{Event}
-use Rattle.lrc_races_trace.specs.Order.{Precedes, HappensBefore, base, further}
-use Rattle.lrc_races_trace.proofs.HappensBefore.{Precedes-forward, forward, transitive}
+use Rattle.lrc_races_trace.specs.Order.{HappensBefore, base, further}
+use Rattle.lrc_races_trace.proofs.HappensBefore.{Precedes-forward, forward}
 use Rattle.lrc_races_sure.specs.Leading.{LeadsOn, ordered, read, LeadsTo, one, more, Leads, IsByWay}
 
 pub on-forward : {events : List Event} {i j : ℕ} → LeadsOn events i j → i < j

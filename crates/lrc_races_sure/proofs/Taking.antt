@@ -1,21 +1,22 @@
 -- The reordering that shows a sure race: all events by way of which the two were reached, then the two.
-use Rattle.std.proofs.Common.{◌≡◌, ◌≢◌, ℕ, zero, suc, ◌+◌, ◌<◌, ◌≤◌, ◌⊎◌, List, [], ◌∷◌, ◌++◌, length, map, get_or, inl, inr, refl, sym, subst, ◌∙◌, ap, arith, length-append}
-use Rattle.std.specs.Prelude.{◌↔◌, Option, Some, None, slice_get, option_map, AllPairs, Contains}
+use Rattle.std.proofs.Common.{◌≡◌, ◌≢◌, ℕ, ◌+◌, ◌<◌, ◌≤◌, ◌⊎◌, List, [], ◌∷◌, ◌++◌}
+use Rattle.std.proofs.Common.{length, map, get_or, inl, inr, refl, sym, subst, ◌∙◌, ap, arith, length-append}
+use Rattle.std.specs.Prelude.{◌↔◌, Option, Some, None, slice_get, option_map}
 use Rattle.std.proofs.lemmas.Bool.{cases_eq, cases_lt}
 use Rattle.std.proofs.lemmas.List.{length-map}
 use Rattle.std.proofs.lemmas.Option.{slice_get_within, same_Some, slice_get-map, slice_get-get_or, get_or_from_slice_get}
 use Rattle.lrc_races_trace.specs.declared.event.Event.{Event}
-use Rattle.lrc_races_trace.specs.declared.event.Operation.TheVariants.{Read, Fork, Join, Arrive, Depart}
-use Rattle.lrc_races_trace.specs.Trace.{At, Accesses, Writes, given, got}
+use Rattle.lrc_races_trace.specs.declared.event.Operation.TheVariants.{Read, Fork, Join, Arrive}
+use Rattle.lrc_races_trace.specs.Trace.{At, Accesses, given}
 use Rattle.lrc_races_trace.specs.Order.{Precedes, HappensBefore, base, program, Reaches}
 use Rattle.lrc_races_trace.proofs.Positions.{At-one, At-within}
 use Rattle.lrc_races_trace.proofs.HappensBefore.{forward, Reaches-last}
-use Rattle.lrc_races_sure.specs.Leading.{IsLastWrite, LeadsOn, read, LeadsTo, one, IsByWay, Leads}
+use Rattle.lrc_races_sure.specs.Leading.{IsLastWrite, read, LeadsTo, one, IsByWay}
 use Rattle.lrc_races_sure.specs.Sure.{IsSureRace}
-use Rattle.lrc_races_sure.specs.Reordering.{Stands, StandsBefore, AreTaken, Awaits, IsFirstOfForked, IsReordering, AreOnTheWay}
+use Rattle.lrc_races_sure.specs.Reordering.{Stands, StandsBefore, IsReordering, AreOnTheWay}
 use Rattle.lrc_races_sure.proofs.Leading.{to-forward, to-ordered, way-forward, way-ordered, way-led}
 use Rattle.lrc_races_sure.proofs.Deciding.{Decided, decided_either, decide_way, last_write, last_write-one, precede_cases, Cases}
-use Rattle.lrc_races_sure.proofs.Choosing.{get-front, get-back, select, rank, rank-le, rank-lt, rank-back, chosen, chosen_back}
+use Rattle.lrc_races_sure.proofs.Choosing.{get-front, get-back, select, rank, rank-lt, rank-back, chosen, chosen_back}
 
 -- an access orders nothing but its thread
 access-given : (a : Event) (v l : ℕ) → Accesses a v → given a.operation ≡ Some l → ⊥

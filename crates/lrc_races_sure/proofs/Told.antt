@@ -83,7 +83,10 @@ module _ (events : List Event) (pairs : List Pair) (told : AreSureTold events pa
       none_sure e k l sure
 
   pub none_told : ((i j : ℕ) → Races events i j → ⊥) → pairs ≡ []
-  none_told none = empty pairs (λ p has. let is = (told.exact p).0 has in none p.earlier.position p.later.position (sure-race events p.earlier.position p.later.position is.sure))
+  none_told none =
+      empty pairs (λ p has.
+      let is = (told.exact p).0 has in
+      none p.earlier.position p.later.position (sure-race events p.earlier.position p.later.position is.sure))
     where
       empty : (ps : List Pair) → ((p : Pair) → Contains ps p → ⊥) → ps ≡ []
       empty [] f = refl

@@ -1,0 +1,5 @@
+pub mod States
+pub mod KeepingTime
+pub mod Made
+pub mod Highest
+pub mod Kept

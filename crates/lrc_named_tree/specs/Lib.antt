@@ -1,0 +1,4 @@
+pub mod Ends
+pub mod Grammar
+pub mod Tree
+pub mod View
