@@ -17,7 +17,7 @@ use Rattle.lrc_exec.specs.Plain.{start_of}
 use Rattle.lrc_clock.specs.Times.{is_release, acts_at, releases_at, arrives_at}
 use Rattle.lrc_clock.proofs.Passing.{acts_at-true, acts_at-act, releases_at-true, releases_at-act, arrives_at-true, arrives_at-act}
 use Rattle.lrc_consistency_laws.specs.Follows.{FollowsText, Makes, deeds_of}
-use Rattle.lrc_exact.specs.LocalRule.{LocalRule, KeepsStates, last_state, state_before, released_state, arrived_state, arrives_there, state_after}
+use Rattle.lrc_exact.specs.LocalRule.{LocalRule, KeepsStates, state_before, released_state, arrived_state, arrives_there, state_after}
 use Rattle.lrc_exact.proofs.LocalRules.{same_function, last-cases}
 use Rattle.lrc_exact_laws.specs.Order.{is_acquire, acquirers, Begins, OneBeginsOther}
 use Rattle.lrc_exact_laws.proofs.Lists.{same_last, same_place_begun, none_at_all, is_number}

@@ -10,7 +10,7 @@ use Rattle.lrc_trace.specs.declared.act.Act.{Act}
 use Rattle.lrc_trace.specs.declared.act.Deed.{Deed}
 use Rattle.lrc_trace.specs.declared.act.Deed.TheVariants.{Read}
 use Rattle.lrc_trace.specs.Run.{Does, act_of, is_arrive, is_depart, count_of}
-use Rattle.lrc_trace.proofs.Positions.{slice_get-front, Does-node, Does-deed, Does-within}
+use Rattle.lrc_trace.proofs.Positions.{slice_get-front, Does-node, Does-deed}
 use Rattle.lrc_trace.proofs.Intervals.{act_at}
 use Rattle.lrc_exec.specs.Plain.{start_of}
 use Rattle.lrc_consistency_laws.specs.Follows.{Makes, deeds_of, nodes_of_acts}
