@@ -61,7 +61,7 @@ module _ (events : List Event) (n : ℕ) where
   thread_precedes k b here (lt, (a, at, inl same)) = program lt at here same
   thread_precedes k b here (lt, (a, at, inr forks)) = fork lt at here forks
 
-  handed_by : (k : ℕ) (b : Event) → At events n b → (o : Operation) → b.operation ≡ o → Handed events n b.thread o k → Precedes events k n
+  pub handed_by : (k : ℕ) (b : Event) → At events n b → (o : Operation) → b.operation ≡ o → Handed events n b.thread o k → Precedes events k n
   handed_by k b here (Acquire l) e (lt, (a, at, gives)) = lock lt at here gives (ap got e)
   handed_by k b here (Wait l) e (lt, (a, at, gives)) = lock lt at here gives (ap got e)
   handed_by k b here (Join u) e (lt, (a, at, inl same)) = join lt at here (e ∙ ap Join (sym same))
@@ -77,10 +77,10 @@ module _ (events : List Event) (n : ℕ) where
 
   -- ---- the row that is handed
 
-  known_open : (kept : Option Barrier) (t c : ℕ) → c ≡ current_of kept → known_by kept t (Some c) ≡ open_of kept
+  pub known_open : (kept : Option Barrier) (t c : ℕ) → c ≡ current_of kept → known_by kept t (Some c) ≡ open_of kept
   known_open kept t c same = grind (arith, same)
 
-  known_closed : (kept : Option Barrier) (t c : ℕ) → c ≢ current_of kept → known_by kept t (Some c) ≡ closed_of kept t
+  pub known_closed : (kept : Option Barrier) (t c : ℕ) → c ≢ current_of kept → known_by kept t (Some c) ≡ closed_of kept t
   known_closed kept t c other = grind (arith, other)
 
   cycle_gathers : (x t c : ℕ) (kept : Option Barrier) → IsBarrier events n x kept → cycle_of kept t ≡ Some c

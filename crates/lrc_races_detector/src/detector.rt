@@ -29,8 +29,9 @@ pub struct Detector {
     pub variables: Variables,
 }
 
-// The thread of an event comes to know what the event gets.
-fn receive(
+/// Adds to what the thread of an event knows what the event learns from a lock, a barrier or a thread that it joins. It
+/// fails if memory runs out.
+pub fn receive(
     threads: &mut Clocks,
     locks: &Clocks,
     barriers: &Barriers,
@@ -107,8 +108,9 @@ fn give_barrier(barriers: &mut Barriers, known: &[u64], event: Event) -> Result<
     }
 }
 
-// Tells the pairs of an access, and notes it.
-fn access(
+/// Adds to `told` the pairs of an access, if `known` is what its thread knows, and records the access. It fails if
+/// memory runs out.
+pub fn access(
     variables: &mut Variables,
     variable: usize,
     known: &[u64],

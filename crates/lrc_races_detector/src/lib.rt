@@ -10,14 +10,14 @@
 //! `waits` the threads that wait at a barrier, and `threads` those that were joined and those that are known.
 #![tactic(auto)]
 
-mod barriers;
-mod clocks;
+pub mod barriers;
+pub mod clocks;
 pub mod detector;
 pub mod fault_finder;
 pub mod groups;
 mod held;
 mod threads;
 pub mod trace;
-mod variables;
+pub mod variables;
 mod vectors;
 mod waits;

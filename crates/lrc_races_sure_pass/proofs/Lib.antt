@@ -1,0 +1,6 @@
+mod Gathering
+mod Handing
+mod Giving
+mod Writing
+mod Telling
+mod Collecting
