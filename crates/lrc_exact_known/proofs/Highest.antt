@@ -1,9 +1,9 @@
 -- Of the changes of a word that come at once, the one of the highest rank stays.
-use Rattle.std.proofs.Common.{◌≡◌, ℕ, zero, suc, ◌+◌, ◌<◌, ◌≤◌, ◌&&◌, ◌||◌, ◌⊎◌, Bool, true, false, List, inl, inr, refl, sym, subst, ap, ◌∙◌, arith}
+use Rattle.std.proofs.Common.{◌≡◌, ℕ, zero, suc, ◌<◌, ◌≤◌, ◌&&◌, ◌||◌, ◌⊎◌, Bool, true, false, List, inl, inr, refl, sym, subst, ap, ◌∙◌, arith}
 use Rattle.std.specs.Prelude.{◌==◌, Option, Some, None, nat_lt, nat_le, if◌then◌else◌}
-use Rattle.std.proofs.lemmas.Bool.{cases_Bool, cases_lt, eqb-true, eq-eqb, ltb-true, lt-ltb, leb-true, le-leb, and_parts, and_from, both_ways}
+use Rattle.std.proofs.lemmas.Bool.{cases_lt, eqb-true, eq-eqb, ltb-true, lt-ltb, leb-true, le-leb, and_parts, and_from, both_ways}
 use Rattle.lrc_time.specs.Time.{entry}
-use Rattle.lrc_exact.specs.Memory.{Rank, Word, Interval, is_lower, replaces}
+use Rattle.lrc_exact.specs.Memory.{Rank, Word, is_lower, replaces}
 use Rattle.lrc_exact.specs.Rule.{Knowledge, with_change, with_changes_of, with_news}
 use Rattle.lrc_exact_known.specs.Learned.{IsChangeOf, IsNews, TakesHighest, unchanged, taken}
 

@@ -1,5 +1,5 @@
 -- The states know what the vector times of the run cover.
-use Rattle.std.proofs.Common.{◌≡◌, ℕ, zero, suc, ◌+◌, ◌<◌, ◌≤◌, Bool, true, false, cond, List, [], ◌∷◌, length, inl, inr, refl, sym, subst, ap, ◌∙◌}
+use Rattle.std.proofs.Common.{◌≡◌, ℕ, zero, suc, ◌+◌, ◌<◌, ◌≤◌, Bool, true, false, List, [], ◌∷◌, length, inl, inr, refl, sym, subst, ap, ◌∙◌}
 use Rattle.std.proofs.Common.{arith, length-set}
 use Rattle.std.specs.Prelude.{Option, Some, None, slice_get, unwrap_or, if◌then◌else◌}
 use Rattle.std.proofs.lemmas.Bool.{cases_Bool, cases_lt, cond-true, cond-false, and_parts, and_from}
@@ -13,13 +13,13 @@ use Rattle.lrc_trace.proofs.Intervals.{act_at, count_of-more, count_of-rises}
 use Rattle.lrc_time.specs.Time.{zeros, entry, Covers, joined}
 use Rattle.lrc_time.proofs.Times.{length-zeros, length-joined_same, covers-zeros, covers-trans, covers-antisym, joined-covers}
 use Rattle.lrc_time.proofs.Times.{covers-refl, covers-joined_first, covers-joined_second, covers-joined_least}
-use Rattle.lrc_clock.specs.Times.{time_at, raised, last_time, acts_at, releases_at, arrives_at, time_before, stamp_at, released_time, arrived_time}
+use Rattle.lrc_clock.specs.Times.{time_at, raised, last_time, acts_at, releases_at, arrives_at, time_before, stamp_at, arrived_time}
 use Rattle.lrc_clock.specs.Keeping.{KeepsTime, leaves_time}
 use Rattle.lrc_clock.proofs.Lasting.{join-length, join-covers, join-least}
-use Rattle.lrc_clock.proofs.Passing.{acts_at-true, acts_at-act, releases_at-act, arrives_at-true, arrives_at-act}
+use Rattle.lrc_clock.proofs.Passing.{acts_at-true, acts_at-act, arrives_at-true, arrives_at-act}
 use Rattle.lrc_exact.specs.LocalRule.{last_state, state_before, released_state, arrived_state, arrives_there, state_after}
 use Rattle.lrc_exact.specs.Rule.{Shape, Knowledge, State, exact_rule, KeepsExact, closed, with_learned, acquired, with_arrived, known_by_all}
-use Rattle.lrc_exact.specs.Rule.{collects, collected, departed, done_alone}
+use Rattle.lrc_exact.specs.Rule.{collects, collected, departed}
 use Rattle.lrc_exact_known.specs.Known.{times_of}
 use Rattle.lrc_exact.proofs.LocalRules.{last-cases}
 use Rattle.lrc_exact_known.proofs.States.{AreMadeOf, of_each, of_each_made}

@@ -1,5 +1,5 @@
 -- What a state keeps of a word is its value just before the first write of the open interval.
-use Rattle.std.proofs.Common.{◌≡◌, ◌≢◌, ℕ, zero, suc, ◌+◌, ◌<◌, ◌≤◌, Bool, true, false, cond, List, length, inl, inr, refl, sym, subst, ap, ◌∙◌}
+use Rattle.std.proofs.Common.{◌≡◌, ℕ, zero, suc, ◌+◌, ◌≤◌, Bool, true, false, List, length, inl, inr, refl, sym, subst, ap, ◌∙◌}
 use Rattle.std.proofs.Common.{arith, add-one}
 use Rattle.std.specs.Prelude.{◌==◌, Option, Some, None, slice_get, unwrap_or, if◌then◌else◌}
 use Rattle.std.proofs.lemmas.Bool.{cases_Bool, cases_eq, eqb-true, eq-eqb, both_ways, cond-true, cond-false, false≢true}
@@ -9,15 +9,14 @@ use Rattle.lrc_trace.specs.declared.act.Deed.{Deed}
 use Rattle.lrc_trace.specs.declared.act.Deed.TheVariants.{Quiet, Print, Read, Write, Acquire, Release, Arrive, Depart, Trap, End}
 use Rattle.lrc_trace.specs.Run.{Does, departs_before}
 use Rattle.lrc_trace.specs.Interval.{closes, interval_at}
-use Rattle.lrc_trace.proofs.Positions.{Does-node, Does-deed, Does-one_node, Does-one_deed, Does-within}
+use Rattle.lrc_trace.proofs.Positions.{Does-node, Does-deed, Does-one_node, Does-one_deed}
 use Rattle.lrc_trace.proofs.Intervals.{act_at, count_of-same, count_of-more, never_fall}
 use Rattle.lrc_clock.specs.Times.{acts_at}
 use Rattle.lrc_clock.proofs.Passing.{acts_at-true, acts_at-act}
 use Rattle.lrc_exact.specs.LocalRule.{last_state, state_before, released_state, arrived_state, state_after}
-use Rattle.lrc_exact.specs.Memory.{Word}
-use Rattle.lrc_exact.specs.Rule.{Shape, State, exact_rule, exact_value, KeepsExact, page_of, accessed, with_write, acquired, known_by_all, with_learned}
-use Rattle.lrc_exact.specs.Rule.{collects, collected, departed}
-use Rattle.lrc_exact_known.specs.Learned.{IsFirstWrite, IsBefore}
+use Rattle.lrc_exact.specs.Rule.{Shape, State, exact_rule, exact_value, KeepsExact, page_of, accessed, acquired, known_by_all, with_learned}
+use Rattle.lrc_exact.specs.Rule.{collects, collected}
+use Rattle.lrc_exact_known.specs.Learned.{IsBefore}
 
 module _ (shape : Shape) (run : List Act) (states : List State) (keeps : KeepsExact shape run states) where
   abbrev state_at : ℕ → ℕ → State

@@ -1,7 +1,7 @@
 -- What a state knows of an interval is what the interval did when it was closed.
-use Rattle.std.proofs.Common.{◌≡◌, ◌≢◌, ℕ, zero, suc, ◌+◌, ◌<◌, ◌≤◌, ◌&&◌, Bool, true, false, List, length, inl, inr, refl, sym, subst, ap, ◌∙◌, arith}
+use Rattle.std.proofs.Common.{◌≡◌, ℕ, zero, suc, ◌+◌, ◌<◌, ◌≤◌, ◌&&◌, Bool, true, false, List, inl, inr, refl, sym, subst, ap, ◌∙◌, arith}
 use Rattle.std.specs.Prelude.{◌==◌, Option, Some, None, slice_get, nat_le, if◌then◌else◌}
-use Rattle.std.proofs.lemmas.Bool.{cases_Bool, cases_eq, cases_lt, eqb-true, eq-eqb, leb-true, le-leb, and_parts, and_from, both_ways}
+use Rattle.std.proofs.lemmas.Bool.{cases_eq, cases_lt, eqb-true, eq-eqb, leb-true, le-leb, and_parts, and_from, both_ways}
 use Rattle.lrc_trace.specs.declared.act.Act.{Act}
 use Rattle.lrc_trace.specs.declared.act.Deed.{Deed}
 use Rattle.lrc_trace.specs.declared.act.Deed.TheVariants.{Acquire, Release, Arrive, Depart}
@@ -9,14 +9,14 @@ use Rattle.lrc_trace.specs.Run.{Does, departs_before}
 use Rattle.lrc_trace.specs.Interval.{closes, interval_at}
 use Rattle.lrc_trace.proofs.Positions.{Does-within}
 use Rattle.lrc_trace.proofs.Intervals.{count_of-more, count_of-rises}
-use Rattle.lrc_time.specs.Time.{entry, joined}
+use Rattle.lrc_time.specs.Time.{entry}
 use Rattle.lrc_time.proofs.Times.{entry-zeros, entry-set_same, entry-set_other, entry-joined}
 use Rattle.lrc_clock.specs.Times.{raised}
 use Rattle.lrc_clock.specs.Cover.{ClosesAt}
 use Rattle.lrc_clock.proofs.Counting.{own_entry_before}
 use Rattle.lrc_exact.specs.LocalRule.{state_before, released_state, arrived_state, state_after}
 use Rattle.lrc_exact.specs.Memory.{Interval}
-use Rattle.lrc_exact.specs.Rule.{Shape, Knowledge, State, exact_rule, KeepsExact, open_interval, with_interval, closed, known_together, acquired}
+use Rattle.lrc_exact.specs.Rule.{Shape, Knowledge, State, exact_rule, KeepsExact, open_interval, closed, known_together, acquired}
 use Rattle.lrc_exact.specs.Rule.{with_learned, with_arrived, known_by_all, collects, collected, departed}
 use Rattle.lrc_exact_known.proofs.States.{AreMadeOf, of_each}
 use Rattle.lrc_exact_known.proofs.KeepingTime.{before-time, made_long, times-kept}

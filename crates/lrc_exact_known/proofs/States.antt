@@ -1,10 +1,10 @@
 -- What holds of the state in which nodes begin, and stays by each act, holds of every state.
-use Rattle.std.proofs.Common.{◌≡◌, ℕ, zero, suc, ◌+◌, ◌<◌, ◌≤◌, Bool, true, List, length, inl, inr, refl, sym, subst, ap, ◌∙◌, arith}
+use Rattle.std.proofs.Common.{◌≡◌, ℕ, zero, suc, ◌+◌, ◌<◌, Bool, List, inl, inr, refl, sym, subst, ◌∙◌, arith}
 use Rattle.std.specs.Prelude.{Option, Some, None, slice_get, unwrap_or}
 use Rattle.std.proofs.lemmas.Option.{same_Some, slice_get_within}
 use Rattle.lrc_trace.specs.declared.act.Act.{Act}
 use Rattle.lrc_trace.specs.declared.act.Deed.{Deed}
-use Rattle.lrc_trace.specs.Run.{Does, departs_before}
+use Rattle.lrc_trace.specs.Run.{Does}
 use Rattle.lrc_trace.proofs.Intervals.{act_at}
 use Rattle.lrc_clock.specs.Times.{acts_at, releases_at}
 use Rattle.lrc_exact.specs.LocalRule.{LocalRule, KeepsStates, last_state, state_before, released_state, arrived_state, arrives_there, state_after}

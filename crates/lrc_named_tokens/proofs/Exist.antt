@@ -1,8 +1,7 @@
 -- Every text has lexemes: something stands at the front of what is left of it, and the rest is shorter.
-use Rattle.std.proofs.Common.{◌≡◌, ◌≢◌, ◌⊎◌, ℕ, zero, suc, ◌+◌, ◌-◌, ◌<◌, ◌≤◌, List, [], ◌∷◌, length, refl, sym, ap, ◌∙◌, arith, inl, inr, subst}
-use Rattle.std.proofs.Common.{length-append}
+use Rattle.std.proofs.Common.{◌≡◌, ◌≢◌, ◌⊎◌, ℕ, zero, suc, ◌+◌, ◌-◌, ◌<◌, ◌≤◌, List, [], ◌∷◌, length, refl, sym, ap, ◌∙◌, arith, inl, inr}
 use native.Mathlib.Decide.{dec_le, ℕ_discrete}
-use Rattle.lrc_lang.specs.Lexemes.{IsBlank, IsDigit, IsLetter, IsLetterOrDigit, IsWithinLine, BeginsWith, value_of}
+use Rattle.lrc_lang.specs.Lexemes.{IsDigit, IsLetter, IsLetterOrDigit, IsWithinLine, BeginsWith, value_of}
 use Rattle.lrc_lang.specs.Lexer.{IsReady}
 use Rattle.lrc_lang.proofs.LexemesExist.{dec_either, dec_not, dec_digit, dec_letter, dec_blank, dec_begins, dec_same, split_of}
 use Rattle.lrc_lang.proofs.LexemesSpans.{span_takes, span_keeps}

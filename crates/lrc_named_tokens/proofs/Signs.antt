@@ -4,7 +4,7 @@ use Rattle.lrc_lang.specs.Lexemes.{IsDigit, IsLetter, HasFront}
 use Rattle.lrc_lang.specs.Lexer.{IsReady}
 use Rattle.lrc_named_tokens.specs.declared.token.Sign.{Sign}
 use Rattle.lrc_named_tokens.specs.declared.token.Sign.TheVariants as signs
-use Rattle.lrc_named_tokens.specs.Token.{sign, token, bad_byte, Place}
+use Rattle.lrc_named_tokens.specs.Token.{sign, token, bad_byte}
 use Rattle.lrc_named_tokens.specs.Lexemes.{sign_text, IsSign, BeginsNothing, along, Lexes, takes_sign, stops_at_byte}
 use Rattle.lrc_named_tokens.specs.Lexer.{Takes, HasNoLong, IsLong}
 

@@ -1,7 +1,7 @@
 -- What stands in a text, and where: its tokens, in order, up to the end of the text or up to the first fault. Blanks,
 -- comments, numbers and words are those of the core.
-use Rattle.std.specs.Prelude.{◌≡◌, ◌<◌, ◌≤◌, ◌⊎◌, ℕ, ◌+◌, List, [], ◌∷◌, ◌++◌, length, codes}
-use Rattle.lrc_lang.specs.Lexemes.{IsBlank, IsLineFeed, IsHash, IsDigit, IsLetter, IsLetterOrDigit, IsWithinLine, BeginsWith, HasFront, IsSpan, value_of}
+use Rattle.std.specs.Prelude.{◌≡◌, ◌≤◌, ℕ, ◌+◌, List, [], ◌∷◌, ◌++◌, length, codes}
+use Rattle.lrc_lang.specs.Lexemes.{IsBlank, IsLineFeed, IsHash, IsDigit, IsLetter, IsWithinLine, HasFront, IsSpan, value_of}
 use Rattle.lrc_lang.specs.Lexemes.{IsDigits, IsNumber, IsNoNumber, IsWord}
 use Rattle.lrc_named_tokens.specs.declared.token.Keyword.{Keyword}
 use Rattle.lrc_named_tokens.specs.declared.token.Keyword.TheVariants as keywords

@@ -1,5 +1,5 @@
 -- An expression and a statement begin with the first of their tokens.
-use Rattle.std.proofs.Common.{◌≡◌, ℕ, List, [], ◌∷◌, refl, sym, ap, ◌∙◌}
+use Rattle.std.proofs.Common.{◌≡◌, ℕ, List, [], ◌∷◌, refl, ◌∙◌}
 use Rattle.lrc_named_tree.specs.Tree.{Expression, Place, Statement}
 use Rattle.lrc_named_tree.specs.Grammar.{Numbered, IsFactor, a_number, me, nodes, an_element, a_call, parentheses}
 use Rattle.lrc_named_tree.specs.Grammar.{IsTerm, term, AreFactors, no_factor, one_factor, IsSum, sum, AreTerms, no_term, one_term}

@@ -1,5 +1,5 @@
 -- An expression ends with the last of its tokens, behind which the rest stands.
-use Rattle.std.proofs.Common.{◌≡◌, ℕ, List, [], ◌∷◌, ◌++◌, refl, sym, ap, ◌∙◌}
+use Rattle.std.proofs.Common.{◌≡◌, ℕ, List, [], ◌∷◌, ◌++◌, refl, ap}
 use Rattle.lrc_named_tree.specs.Tree.{Expression, Expressions}
 use Rattle.lrc_named_tree.specs.Grammar.{Numbered, IsFactor, a_number, me, nodes, an_element, a_call, parentheses}
 use Rattle.lrc_named_tree.specs.Grammar.{AreIndices, no_index, one_index, AreArguments, no_argument, some_arguments, AreSeparate, the_last, one_of}

@@ -1,7 +1,6 @@
-use Rattle.std.proofs.Common.{◌≤◌, sym, subst, ap}
+use Rattle.std.proofs.Common.{◌≤◌, sym, subst}
 use Rattle.lrc_time.specs.Time.{entry}
 use Rattle.lrc_clock.proofs.Covering.{complete, sound}
-use Rattle.lrc_exact_known.specs.Known.{times_of}
 use Rattle.lrc_exact_known.proofs.KeepingTime.{time-there, times-kept}
 use Rattle.lrc_exact_known.proofs.laws.what_is_known_happens_before.Goals as goal
 

@@ -1,5 +1,5 @@
 use Rattle.std.proofs.Common.{map, refl, ap}
-use Rattle.lrc_named_tokens.specs.View.{located_of, place_of}
+use Rattle.lrc_named_tokens.specs.View.{located_of}
 use Rattle.lrc_named_tokens.proofs.Cut.{none_cut, one_cut, all_cut, pushed}
 use Rattle.lrc_named_tokens.proofs.tokens.tokens_of.Goals as goal
 
