@@ -9,7 +9,7 @@ use Rattle.lrc_cli_args.specs.declared.choice.Charting.{Charting}
 use Rattle.lrc_cli_args.specs.declared.choice.RunChoice.{RunChoice}
 use Rattle.lrc_cli_args.specs.declared.choice.RunOptions.{RunOptions}
 use Rattle.lrc_cli_args.specs.declared.choice.Way.{Way}
-use Rattle.lrc_chart_title.specs.Word.{shell_word}
+use Rattle.lrc_chart_title.specs.Word.{behind_text, front_text, value_text}
 use Rattle.lrc_cli_args.specs.declared.choice.Way.TheVariants.{Events, Rounds, Random, Threads}
 
 -- an option and its number, left out where the number is the one that it has without words
@@ -25,10 +25,9 @@ abbrev pub page_size_text : Size → List ℕ
 page_size_text Words64 = []
 page_size_text Words256 = codes " --page 256"
 
--- the file, and the options that all runs of the nodes have in common
+-- the options that all runs of the nodes have in common
 abbrev pub options_text : RunOptions → List ℕ
-options_text options = shell_word options.file.now
-    ++ option_text (codes " --nodes ") 1 options.nodes.count
+options_text options = option_text (codes " --nodes ") 1 options.nodes.count
     ++ option_text (codes " --steps ") 1000000 options.steps.count
     ++ option_text (codes " --collect ") 0 options.collect.count
     ++ page_size_text options.size
@@ -40,7 +39,7 @@ picker_text Twice = codes " --order twice"
 
 -- the options that say how a run goes on
 abbrev pub way_text : Way → List ℕ
-way_text (Events path) = codes " --events " ++ shell_word path.now
+way_text (Events path) = value_text (codes " --events") path.now
 way_text (Rounds picker) = picker_text picker
 way_text (Random seed) = codes " --order random" ++ option_text (codes " --seed ") 0 seed
 way_text (Threads picker) = picker_text picker ++ codes " --threads"
@@ -52,9 +51,10 @@ charting_text charting = some_option_text (codes " --from ") charting.from ++ so
 
 -- The words by which a chart is had, without those that change nothing. A chart for a terminal has the title of the document.
 abbrev pub title_text : RunChoice → Charting → List ℕ
-title_text run charting = codes "treadmarks chart " ++ options_text run.options ++ way_text run.way ++ charting_text charting
+title_text run charting = codes "treadmarks chart" ++ front_text run.options.file.now ++ options_text run.options ++ way_text run.way
+    ++ charting_text charting ++ behind_text run.options.file.now
 
 -- the words by which a chart of acts from anywhere is had
 abbrev pub title_text_of_acts : ChartedActs → Charting → List ℕ
 title_text_of_acts acts charting =
-    codes "treadmarks chart --acts " ++ shell_word acts.file.now ++ some_option_text (codes " --nodes ") (option_map (λ nodes. nodes.count) acts.nodes) ++ charting_text charting
+    codes "treadmarks chart" ++ value_text (codes " --acts") acts.file.now ++ some_option_text (codes " --nodes ") (option_map (λ nodes. nodes.count) acts.nodes) ++ charting_text charting

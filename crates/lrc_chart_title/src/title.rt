@@ -4,7 +4,7 @@ ghost use Rattle.std.specs.Prelude.{◌≡◌, ◌++◌, [], IfOk, OnOk, codes, 
 ghost use Rattle.lrc_chart_title.specs.Title.{charting_text, option_text, options_text, page_size_text, picker_text, some_option_text};
 ghost use Rattle.lrc_chart_title.specs.Title.{title_text, title_text_of_acts, way_text};
 
-use crate::word::push_word;
+use crate::word::{push_front, push_last, push_value};
 use lrc_cli_args::choice::{ChartedActs, Charting, Nodes, RunChoice, RunOptions, Way};
 use lrc_envelope::Picker;
 use lrc_page::Size;
@@ -19,8 +19,8 @@ const DEFAULT_COLLECT: u64 = 0;
 
 const DEFAULT_SEED: u64 = 0;
 
-/// Returns the title for a chart of a run: a shell command line that makes it, if the file's name does not begin with
-/// `-`. A chart for a terminal has the same title as the SVG document.
+/// Returns the title for a chart of a run: a shell command line that makes it. A file whose name begins with `-` stands
+/// behind `--`. A chart for a terminal has the same title as the SVG document.
 pub fn title_of(
     alloc: Global,
     run: &RunChoice<'_>,
@@ -29,15 +29,17 @@ pub fn title_of(
     ensures { IfOk result (λ title. title.items ≡ title_text run.now charting.now) }
 {
     let mut title = Vec::new(alloc);
-    title.extend_from_slice(b"treadmarks chart ")?;
+    let file = run.options.file.as_bytes();
+    title.extend_from_slice(b"treadmarks chart")?;
+    push_front(&mut title, file)?;
     push_options(&mut title, &run.options)?;
     push_way(&mut title, &run.way)?;
     push_charting(&mut title, charting)?;
+    push_last(&mut title, file)?;
     Ok(title)
 }
 
-/// Returns the title for a chart of acts from a file: a shell command line that makes it, if the file's name does not
-/// begin with `-`.
+/// Returns the title for a chart of acts from a file: a shell command line that makes it.
 pub fn title_of_acts(
     alloc: Global,
     acts: &ChartedActs<'_>,
@@ -46,8 +48,8 @@ pub fn title_of_acts(
     ensures { IfOk result (λ title. title.items ≡ title_text_of_acts acts.now charting.now) }
 {
     let mut title = Vec::new(alloc);
-    title.extend_from_slice(b"treadmarks chart --acts ")?;
-    push_word(&mut title, acts.file.as_bytes())?;
+    title.extend_from_slice(b"treadmarks chart")?;
+    push_value(&mut title, b" --acts", acts.file.as_bytes())?;
     push_some_nodes(&mut title, acts.nodes)?;
     push_charting(&mut title, charting)?;
     Ok(title)
@@ -85,11 +87,10 @@ fn push_if(text: &mut Vec<u8>, option: &[u8], is_asked: bool) -> Result<(), Allo
     Ok(())
 }
 
-// Adds the file, and the options that all runs have in common.
+// Adds the options that all runs have in common.
 fn push_options(text: &mut Vec<u8>, options: &RunOptions<'_>) -> Result<(), AllocError>
     ensures { OnOk result (text.new.items ≡ text.old.items ++ options_text options.now) }
 {
-    push_word(text, options.file.as_bytes())?;
     push_unless(
         text,
         b" --nodes ",
@@ -125,10 +126,7 @@ fn push_way(text: &mut Vec<u8>, way: &Way<'_>) -> Result<(), AllocError>
     ensures { OnOk result (text.new.items ≡ text.old.items ++ way_text way.now) }
 {
     match *way {
-        Way::Events(path) => {
-            text.extend_from_slice(b" --events ")?;
-            push_word(text, path.as_bytes())
-        }
+        Way::Events(path) => push_value(text, b" --events", path.as_bytes()),
         Way::Rounds(picker) => push_order(text, picker),
         Way::Random(seed) => push_random(text, seed),
         Way::Threads(picker) => {

@@ -2,7 +2,7 @@
 
 ghost use Rattle.std.specs.Prelude.{◌≡◌, ◌++◌, OnOk};
 ghost use Rattle.std.specs.List.{flat_map, list_all};
-ghost use Rattle.lrc_chart_title.specs.Word.{is_plain, needs_no_quotes, quoted, quoted_byte, shell_word};
+ghost use Rattle.lrc_chart_title.specs.Word.{behind_text, front_text, is_dashed, is_plain, needs_no_quotes, quoted, quoted_byte, shell_word, value_text};
 
 use std::alloc::AllocError;
 
@@ -58,8 +58,18 @@ fn push_quoted(text: &mut Vec<u8>, word: &[u8]) -> Result<(), AllocError>
     text.extend_from_slice(b"'")
 }
 
-/// Adds a word, in single quotes if it needs them.
-pub(crate) fn push_word(text: &mut Vec<u8>, word: &[u8]) -> Result<(), AllocError>
+// Whether a word would be read as an option, if it stood where one may stand. `-` alone is a file.
+fn is_dashed(word: &[u8]) -> bool
+    ensures { result ≡ is_dashed word.now }
+{
+    match word {
+        [first, _second, ..] => *first == b'-',
+        _ => false,
+    }
+}
+
+// Adds a word, in single quotes if it needs them.
+fn push_word(text: &mut Vec<u8>, word: &[u8]) -> Result<(), AllocError>
     ensures { OnOk result (text.new.items ≡ text.old.items ++ shell_word word.now) }
 {
     if needs_no_quotes(word) {
@@ -67,4 +77,44 @@ pub(crate) fn push_word(text: &mut Vec<u8>, word: &[u8]) -> Result<(), AllocErro
     } else {
         push_quoted(text, word)
     }
+}
+
+// Adds what stands before a word, and the word.
+fn push_behind(text: &mut Vec<u8>, before: &[u8], word: &[u8]) -> Result<(), AllocError>
+    ensures { OnOk result (text.new.items ≡ text.old.items ++ (before.now ++ shell_word word.now)) }
+{
+    text.extend_from_slice(before)?;
+    push_word(text, word)
+}
+
+/// Adds an option and the word that is its value, with `=` between them if the word begins with `-`.
+pub(crate) fn push_value(text: &mut Vec<u8>, option: &[u8], word: &[u8]) -> Result<(), AllocError>
+    ensures { OnOk result (text.new.items ≡ text.old.items ++ value_text option.now word.now) }
+{
+    text.extend_from_slice(option)?;
+    if is_dashed(word) {
+        push_behind(text, b"=", word)
+    } else {
+        push_behind(text, b" ", word)
+    }
+}
+
+/// Adds the file that stands before all options, unless it begins with `-`.
+pub(crate) fn push_front(text: &mut Vec<u8>, file: &[u8]) -> Result<(), AllocError>
+    ensures { OnOk result (text.new.items ≡ text.old.items ++ front_text file.now) }
+{
+    if is_dashed(file) {
+        return Ok(());
+    }
+    push_behind(text, b" ", file)
+}
+
+/// Adds a file that begins with `-`, which stands behind all options.
+pub(crate) fn push_last(text: &mut Vec<u8>, file: &[u8]) -> Result<(), AllocError>
+    ensures { OnOk result (text.new.items ≡ text.old.items ++ behind_text file.now) }
+{
+    if is_dashed(file) {
+        return push_behind(text, b" -- ", file);
+    }
+    Ok(())
 }

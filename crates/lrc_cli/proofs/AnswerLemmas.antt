@@ -60,7 +60,7 @@ pub why_fault : (acts : ForeignActs) (asking : Asking) (text : List ℕ) (fault 
     → RefusesActs (foreign_nodes acts) (asked_of asking) text fault → IsWhyFault acts asking text (fault_of_why fault)
 why_fault acts asking text why_faults.TooLong h = h
 why_fault acts asking text (why_faults.BadAct line) h = h
-why_fault acts asking text (why_faults.NoAct position) h = h
+why_fault acts asking text (why_faults.NoAct position count) h = h
 why_fault acts asking text why_faults.NoMemory h = tt
 
 -- why there is no picture of acts, as it is told

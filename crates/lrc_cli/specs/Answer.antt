@@ -162,7 +162,7 @@ IsActsFault nodes text _ = ⊥
 abbrev pub IsWhyFault : ForeignActs → Asking → List ℕ → Fault → Type 0
 IsWhyFault acts asking text LongActs = RefusesActs (foreign_nodes acts) (asked_of asking) text why_faults.TooLong
 IsWhyFault acts asking text (Acts line) = RefusesActs (foreign_nodes acts) (asked_of asking) text (why_faults.BadAct line)
-IsWhyFault acts asking text (NoAct position) = RefusesActs (foreign_nodes acts) (asked_of asking) text (why_faults.NoAct position)
+IsWhyFault acts asking text (NoAct position count) = RefusesActs (foreign_nodes acts) (asked_of asking) text (why_faults.NoAct position count)
 IsWhyFault acts asking text NoMemory = Unit {0}
 IsWhyFault acts asking text _ = ⊥
 

@@ -38,7 +38,7 @@ fault_of_acts acts_faults.NoMemory = faults.NoMemory
 abbrev pub fault_of_why : WhyFault → Fault
 fault_of_why why_faults.TooLong = faults.LongActs
 fault_of_why (why_faults.BadAct line) = faults.Acts line
-fault_of_why (why_faults.NoAct position) = faults.NoAct position
+fault_of_why (why_faults.NoAct position acts) = faults.NoAct position acts
 fault_of_why why_faults.NoMemory = faults.NoMemory
 
 -- and that of a picture of a run, and of acts
@@ -68,7 +68,7 @@ fault_words (faults.Events line) = codes "events line " ++ decimal line ++ codes
 fault_words (faults.Acts line) = codes "acts line " ++ decimal line ++ codes ": bad act"
 fault_words (faults.TooManyStates most) = codes "more than " ++ decimal most ++ codes " states"
 fault_words faults.LongActs = codes "acts line 1: text too long"
-fault_words (faults.NoAct position) = codes "no act " ++ decimal position
+fault_words (faults.NoAct position acts) = codes "no act " ++ decimal position ++ codes ", of " ++ decimal acts ++ codes " acts"
 fault_words (faults.NoOutcome number) = codes "no outcome " ++ decimal number
 fault_words faults.Worn = codes "message numbers used up"
 fault_words faults.TooManyTurns = codes "more than 2000 turns"

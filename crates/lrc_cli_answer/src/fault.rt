@@ -27,8 +27,8 @@ pub enum Fault {
     Acts(u32),
     /// The text of acts is longer than it may be.
     LongActs,
-    /// There is no act at this position.
-    NoAct(usize),
+    /// There is no act at this position: there are only so many acts.
+    NoAct(usize, usize),
     /// The message numbers ran out.
     Worn,
     /// A search through every order met more states than this limit.
@@ -58,7 +58,7 @@ impl Display for Fault {
             Fault::Events(line) => write!(f, "events line {line}: bad event"),
             Fault::Acts(line) => write!(f, "acts line {line}: bad act"),
             Fault::LongActs => write!(f, "acts line 1: text too long"),
-            Fault::NoAct(position) => write!(f, "no act {position}"),
+            Fault::NoAct(position, acts) => write!(f, "no act {position}, of {acts} acts"),
             Fault::Worn => write!(f, "message numbers used up"),
             Fault::TooManyStates(most) => write!(f, "more than {most} states"),
             Fault::NoOutcome(number) => write!(f, "no outcome {number}"),
@@ -113,7 +113,7 @@ impl From<WhyFault> for Fault {
         match fault {
             WhyFault::TooLong => Fault::LongActs,
             WhyFault::BadAct(line) => Fault::Acts(line),
-            WhyFault::NoAct(position) => Fault::NoAct(position),
+            WhyFault::NoAct(position, acts) => Fault::NoAct(position, acts),
             WhyFault::NoMemory => Fault::NoMemory,
         }
     }

@@ -58,4 +58,4 @@ chart_unshown charting choice text program run course (NoOutcome number) known h
 chart_unshown charting choice text program run course TooManyTurns known h = h
 chart_unshown charting choice text program run course Mismatch known h = h
 chart_unshown charting choice text program run course LongActs known h = h
-chart_unshown charting choice text program run course (NoAct position) known h = h
+chart_unshown charting choice text program run course (NoAct position acts) known h = h

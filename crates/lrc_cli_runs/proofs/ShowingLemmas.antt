@@ -45,7 +45,7 @@ unshown_of choice shape text events_text program run (Err fault) is ran unshown 
 
 -- why it is not told of acts of a run, as it is told
 pub untold_fault : (asking : Asking) (count : ℕ) (fault : WhyFault) → RefusesWhy (asked_of asking) count fault → IsUntold asking count (fault_of_why fault)
-untold_fault asking count (why_faults.NoAct position) h = h
+untold_fault asking count (why_faults.NoAct position acts) h = h
 untold_fault asking count why_faults.NoMemory h = tt
 untold_fault asking count why_faults.TooLong h = absurd h
 untold_fault asking count (why_faults.BadAct line) h = absurd h

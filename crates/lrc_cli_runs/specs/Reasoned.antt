@@ -13,6 +13,6 @@ asked_of asking = record { act = asking.act; and = asking.other }
 
 -- why it is not told of so many acts of a run: there is none at a position
 abbrev pub IsUntold : Asking → (count : ℕ) → Fault → Type 0
-IsUntold asking count (NoAct position) = RefusesRun (asked_of asking) count (why_faults.NoAct position)
+IsUntold asking count (NoAct position acts) = RefusesRun (asked_of asking) count (why_faults.NoAct position acts)
 IsUntold asking count NoMemory = Unit {0}
 IsUntold asking count _ = ⊥

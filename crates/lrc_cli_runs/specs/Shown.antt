@@ -79,7 +79,7 @@ IsShowFault shape choice text program run NoMemory = Unit {0}
 IsShowFault (Chart charting) choice text program run TooLong = IsTooLong charting choice.options text program run
 IsShowFault (Trace form) choice text program run TooManyTurns = IsFormTooLong form text program choice.options run
 IsShowFault (Step part) choice text program run TooManyTurns = HasTooManyTurns part text program choice.options run
-IsShowFault (Why asking) choice text program run (NoAct position) = IsUntold asking (length run.report.acts.items) (NoAct position)
+IsShowFault (Why asking) choice text program run (NoAct position acts) = IsUntold asking (length run.report.acts.items) (NoAct position acts)
 IsShowFault shape choice text program run fault = ⊥
 
 -- What is kept of a run that is shown so. A report, one with reasons, and reasons of acts say nothing of turns; states are made again of the

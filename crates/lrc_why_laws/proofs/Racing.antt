@@ -7,6 +7,7 @@ use Rattle.lrc_trace.specs.declared.act.Deed.{Deed}
 use Rattle.lrc_trace.specs.declared.act.Deed.TheVariants.{Arrive, Read, Write}
 use Rattle.lrc_trace.specs.Conflict.{Accesses, Races}
 use Rattle.lrc_trace.specs.Interval.{interval_at}
+use Rattle.lrc_trace.specs.Order.{program, lock, base, further}
 use Rattle.lrc_trace.specs.Run.{Does, is_depart}
 use Rattle.lrc_trace.specs.Synchronization.{IsWellSynchronized, WaitsAtBarriers}
 use Rattle.lrc_trace.proofs.Positions.{Does-one_deed, Does-one_node}
@@ -50,6 +51,12 @@ module _ {nodes : ℕ} {run : List Act} (sync : IsWellSynchronized nodes run) (w
             ∙ behind_one sync waits i j p q a b raced.earlier (within i p a one) (within j q b two) one two (no_arrive conflict.first one)
             (no_depart conflict.first one) (no_depart conflict.second two) raced.unordered
             ∙ sym two_stands.departs;
+        handed = λ one_node other l release acquire (e, acts) (f, acts_too) low between high releases acquires.
+            let first_does : Does run i one_node e = let P : ℕ → Type 0 = λ n. Does run n one_node e in subst P is.earlier_is acts in
+            let second_does : Does run j other f = let P : ℕ → Type 0 = λ n. Does run n other f in subst P is.later_is acts_too in
+            let low : i < release = let P : ℕ → Type 0 = λ n. n < release in subst P is.earlier_is low in
+            let high : acquire < j = let P : ℕ → Type 0 = λ n. acquire < n in subst P is.later_is high in
+            raced.unordered (further (further (base (program low first_does releases)) (lock between releases acquires)) (program high acquires second_does));
         past = λ node known (e, acts) known_is.
             let there : Does run i node e = let P : ℕ → Type 0 = λ n. Does run n node e in subst P is.earlier_is acts in
             let last = known_at parting.known (is.known node (e, there)) known_is in

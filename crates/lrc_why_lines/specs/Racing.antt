@@ -53,7 +53,7 @@ after_text words node does position = words ++ decimal node ++ (does ++ decimal 
 unfoldable pub remedy_line : Shown → Parting → List ℕ
 remedy_line shown parting = codes "  to order them: one lock held at both, a barrier between, or a lock that"
     ++ after_text (codes " node ") (act_shown shown parting.earlier).node (codes " releases after act ") parting.earlier
-    ++ after_text (codes " and node ") (act_shown shown parting.later).node (codes " acquires before act ") parting.later ++ codes "\n"
+    ++ after_text (codes " and node ") (act_shown shown parting.later).node (codes " acquires after that and before act ") parting.later ++ codes "\n"
 
 -- how many more acts of the node race
 unfoldable pub more_text : (node more : ℕ) → List ℕ

@@ -174,7 +174,7 @@ pub(crate) fn push_remedy(
         text,
         b" and node ",
         node_at(shown, parting.later),
-        b" acquires before act ",
+        b" acquires after that and before act ",
         parting.later,
     )?;
     text.extend_from_slice(b"\n")

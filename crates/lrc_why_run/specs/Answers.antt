@@ -68,6 +68,6 @@ pub record AnswersRun (text : List ℕ) (program : Program) (nodes : ℕ) (page 
 
 -- why so many acts are not answered
 abbrev pub RefusesRun : Asked → (count : ℕ) → WhyFault → Type 0
-RefusesRun asked count (NoAct position) = IsMissing asked.act asked.and count position
+RefusesRun asked count (NoAct position acts) = IsMissing asked.act asked.and count position × (acts ≡ count)
 RefusesRun asked count NoMemory = Unit {0}
 RefusesRun asked count _ = ⊥

@@ -197,7 +197,7 @@ pub fn why_run(
     ensures err { IfErr result (RefusesRun asked (length acts.now)) }
 {
     if let Some(position) = missing(asked, acts.len()) {
-        return Err(WhyFault::NoAct(position));
+        return Err(WhyFault::NoAct(position, acts.len()));
     }
     let parts = told_alone(alloc, text, program, nodes, page, acts, asked)?;
     Ok(parts)

@@ -89,6 +89,6 @@ IsMissing act (Some other) count position =
 abbrev pub RefusesActs : Option ℕ → Asked → List ℕ → WhyFault → Type 0
 RefusesActs nodes asked text TooLong = ReadsActs nodes text (Err faults.TooLong)
 RefusesActs nodes asked text (BadAct line) = ReadsActs nodes text (Err (faults.BadAct line))
-RefusesActs nodes asked text (NoAct position) =
-    (lined : LinedActs) × ReadsActs nodes text (Ok lined) × IsMissing asked.act asked.and (length lined.acts.items) position
+RefusesActs nodes asked text (NoAct position count) =
+    (lined : LinedActs) × ReadsActs nodes text (Ok lined) × (count ≡ length lined.acts.items) × IsMissing asked.act asked.and count position
 RefusesActs nodes asked text NoMemory = Unit {0}

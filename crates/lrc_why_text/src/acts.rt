@@ -89,8 +89,9 @@ pub fn why_acts(
     ensures err { IfErr result (RefusesActs nodes asked text.now) }
 {
     let lined = acts_of(alloc, text, nodes)?;
-    if let Some(position) = missing(asked, lined.acts.len()) {
-        return Err(WhyFault::NoAct(position));
+    let count = lined.acts.len();
+    if let Some(position) = missing(asked, count) {
+        return Err(WhyFault::NoAct(position, count));
     }
     let lines = act_lines(alloc, text, &lined.lines)?;
     let parts = told(

@@ -14,8 +14,8 @@ pub enum WhyFault {
     TooLong,
     /// The line with this number, counted from 1, is not an act.
     BadAct(u32),
-    /// There is no act at this position.
-    NoAct(usize),
+    /// There is no act at this position: there are only so many acts.
+    NoAct(usize, usize),
     /// Memory ran out.
     NoMemory,
 }

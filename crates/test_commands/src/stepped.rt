@@ -98,7 +98,7 @@ const OF_RACING: &[&[u8]] = &[
     br##""    act 4 is in interval 1 of node 0, and act 5 knows nothing of node 0","##,
     br##""    held at act 4: no lock, at act 5: no lock; both before any barrier","##,
     br##""  to order them: one lock held at both, a barrier between, or a lock that node 0 releases after act 4 and "##,
-    br##"node 1 acquires before act 5","  interval 1 of node 0, time 0,0","  knows nothing of node 1","##,
+    br##"node 1 acquires after that and before act 5","  interval 1 of node 0, time 0,0","  knows nothing of node 1","##,
     br##""  nobody can learn of it: node 0 releases no lock and comes to no barrier after it"]}"##,
     b"\n",
     br##"{"why":5,"lines":["act 5, node 1, line 8: read 1: 0","##,
@@ -107,7 +107,7 @@ const OF_RACING: &[&[u8]] = &[
     br##""    act 4 is in interval 1 of node 0, and act 5 knows nothing of node 0","##,
     br##""    held at act 4: no lock, at act 5: no lock; both before any barrier","##,
     br##""  to order them: one lock held at both, a barrier between, or a lock that node 0 releases after act 4 and "##,
-    br##"node 1 acquires before act 5","  interval 1 of node 1, time 0,0","  knows nothing of node 0"]}"##,
+    br##"node 1 acquires after that and before act 5","  interval 1 of node 1, time 0,0","  knows nothing of node 0"]}"##,
     b"\n",
 ];
 

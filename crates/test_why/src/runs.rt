@@ -41,7 +41,7 @@ const ROWS: &[Row] = &[
         nodes: 2,
         page: Size::Words64,
         asked: Asked { act: 8, and: None },
-        told: b"act 8, node 1, line 13: read 1: 0\n  gives 0: no write of word 1 happens before it (last written: 2, by act 4)\n  races with act 4, node 0, line 9: write 1: 2\n    act 4 is in interval 3 of node 0, and act 8 knows node 0 up to interval 2\n    held at act 4: no lock, at act 8: lock 0; both before any barrier\n  to order them: one lock held at both, a barrier between, or a lock that node 0 releases after act 4 and node 1 acquires before act 8\n  interval 2 of node 1, time 2,1\n  knows node 0 up to interval 2, since act 6, line 11: acquire 0, by acts 3, 6\n",
+        told: b"act 8, node 1, line 13: read 1: 0\n  gives 0: no write of word 1 happens before it (last written: 2, by act 4)\n  races with act 4, node 0, line 9: write 1: 2\n    act 4 is in interval 3 of node 0, and act 8 knows node 0 up to interval 2\n    held at act 4: no lock, at act 8: lock 0; both before any barrier\n  to order them: one lock held at both, a barrier between, or a lock that node 0 releases after act 4 and node 1 acquires after that and before act 8\n  interval 2 of node 1, time 2,1\n  knows node 0 up to interval 2, since act 6, line 11: acquire 0, by acts 3, 6\n",
     },
     Row {
         name: "a print, by the read that set its name",
@@ -101,7 +101,7 @@ const ROWS: &[Row] = &[
         nodes: 2,
         page: Size::Words64,
         asked: Asked { act: 4, and: None },
-        told: b"act 4, node 0, line 9: write 1: 2\n  races with act 8, node 1, line 13: read 1: 0\n    act 4 is in interval 3 of node 0, and act 8 knows node 0 up to interval 2\n    held at act 4: no lock, at act 8: lock 0; both before any barrier\n  to order them: one lock held at both, a barrier between, or a lock that node 0 releases after act 4 and node 1 acquires before act 8\n  interval 3 of node 0, time 2,0\n  knows nothing of node 1\n  nobody can learn of it: node 0 releases no lock and comes to no barrier after it\n",
+        told: b"act 4, node 0, line 9: write 1: 2\n  races with act 8, node 1, line 13: read 1: 0\n    act 4 is in interval 3 of node 0, and act 8 knows node 0 up to interval 2\n    held at act 4: no lock, at act 8: lock 0; both before any barrier\n  to order them: one lock held at both, a barrier between, or a lock that node 0 releases after act 4 and node 1 acquires after that and before act 8\n  interval 3 of node 0, time 2,0\n  knows nothing of node 1\n  nobody can learn of it: node 0 releases no lock and comes to no barrier after it\n",
     },
     Row {
         name: "a name set from itself: the value before",
@@ -236,7 +236,7 @@ fn is_told(alloc: Global, row: &Row) -> bool {
 
 fn is_missing(alloc: Global, row: &Missing) -> bool {
     match answer(alloc, LATE, LATE_ACTS, 2, Size::Words64, row.asked) {
-        Some(Err(fault)) => fault == WhyFault::NoAct(row.position),
+        Some(Err(fault)) => fault == WhyFault::NoAct(row.position, 14),
         _ => false,
     }
 }

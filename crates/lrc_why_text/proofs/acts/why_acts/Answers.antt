@@ -12,7 +12,7 @@ pub returns-in-Some-clause-err : goal.returns-in-Some-clause-err
 returns-in-Some-clause-err c =
     let lined = c.in_ok-lined.lined in
     let many : c.len.result ≡ length lined.acts.items = search rules in
-    (lined, c.in_ok-lined.ensures.ok, subst (λ n. IsMissing c.args.asked.act c.args.asked.and n c.in-Some.position) many c.in-Some.ensures)
+    (lined, c.in_ok-lined.ensures.ok, many, c.in-Some.ensures)
 
 pub nodes_of-requires-clause-acts : goal.nodes_of-requires-clause-acts
 nodes_of-requires-clause-acts c =
