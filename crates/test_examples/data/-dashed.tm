@@ -1,0 +1,3 @@
+words 1;
+locks 0;
+print 7;
