@@ -60,8 +60,9 @@ pub fn reads_of_runs_give_what_they_may()
 {}
 
 /// In every run, what is told of two racing acts is why they are not ordered: they hold no common lock, their nodes
-/// have left equally many barriers, and the interval of the earlier act is later than what the later one knows of its
-/// node.
+/// have left equally many barriers, no lock that the node of the earlier act releases after it is acquired after that
+/// and before the later act by its node, and the interval of the earlier act is later than what the later one knows of
+/// its node.
 pub fn what_is_told_of_a_race_is_why_it_is_one()
     ensures opponents { (program : Program) (nodes : ℕ) (options : OptionsRecord)
         (events : List Event) (world : World) (node position : ℕ)
