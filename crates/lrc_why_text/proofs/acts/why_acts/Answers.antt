@@ -11,7 +11,7 @@ use Rattle.lrc_why_text.proofs.acts.why_acts.Goals as goal
 pub returns-in-Some-clause-err : goal.returns-in-Some-clause-err
 returns-in-Some-clause-err c =
     let lined = c.in_ok-lined.lined in
-    let many : c.len.result ≡ length lined.acts.items = search rules in
+    let many : c.len-count.result ≡ length lined.acts.items = search rules in
     (lined, c.in_ok-lined.ensures.ok, many, c.in-Some.ensures)
 
 pub nodes_of-requires-clause-acts : goal.nodes_of-requires-clause-acts
@@ -27,7 +27,7 @@ returns-clause-ok c =
     let lined = c.in_ok-lined.lined in
     let text = c.args.text.now in
     let lines = c.in_ok-lines.lines.items in
-    let many : c.len.result ≡ length lined.acts.items = search rules in
+    let many : c.len-count.result ≡ length lined.acts.items = search rules in
     let (shown, is_shown, tells) = c.in_ok-parts.ensures in
     record {
       lined = lined;
