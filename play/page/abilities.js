@@ -1,14 +1,14 @@
 // Which options the program has: asked of its own help, once, so that the page offers what there is and nothing else.
 
-/** Where an option of a command changes what the page offers: a text that the help of the command then has. */
+/** Where an option of a command changes what the page offers: what the help of the command then has. */
 const signs = {
-  then: ["trace", "--then"],
-  exact: ["explore", "exact"],
-  events: ["explore", "--as"],
-  tell: ["explore", "--tell"],
-  ends: ["explore", "--ends"],
-  ignoreRaces: ["explore", "--ignore-races"],
-  sure: ["races", "--sure"],
+  then: ["trace", /--then\b/],
+  exact: ["explore", /\bexact\b/],
+  events: ["explore", /--as\b/],
+  tell: ["explore", /--tell\b/],
+  ends: ["explore", /--ends\b/],
+  ignoreRaces: ["explore", /--ignore-races\b/],
+  sure: ["races", /--sure\b/],
 };
 
 export class Abilities {
@@ -31,7 +31,7 @@ export class Abilities {
     const helps = new Map();
     for (const [name, [command, sign]] of Object.entries(signs)) {
       if (!helps.has(command)) helps.set(command, (await this.program.ask(["help", command], [])).out);
-      found[name] = helps.get(command).includes(sign);
+      found[name] = sign.test(helps.get(command));
     }
     return found;
   }

@@ -16,7 +16,7 @@ import time
 here = os.path.dirname(os.path.abspath(__file__))
 examples = os.path.join(here, "../../examples")
 native, page = map(os.path.abspath, sys.argv[1:3])
-shots = os.path.abspath(sys.argv[3]) if len(sys.argv) > 3 else None
+shots = os.path.abspath(sys.argv[3]) if sys.argv[3:] and sys.argv[3] else None
 sys.path.insert(0, os.path.join(here, "../browser"))
 from browser import Browser
 
@@ -283,6 +283,7 @@ def check_explore(name, machine):
     for line, kind in rows if len(answers) == 2 else []:
         expected = "both" if line in outcomes["flat"] and line in outcomes["lazy"] else "only-flat" if line in outcomes["flat"] else "only-lazy"
         same(f"{name}: {line}", kind, expected)
+    check_opened(name, machine, told)
     if rows:
         click(".outcomes td.memory button")
         line = heading(".outcome-acts")[0][0]
@@ -297,6 +298,25 @@ def check_explore(name, machine):
         settle()
         line = heading(".outcome-acts .reasons")[0][0]
         hold(f"{name}: {line}", document_text(".outcome-acts").endswith(machine.play(line).stdout))
+
+
+def check_opened(name, machine, told):
+    """An order that was told is opened in Choose, by the events that the program says for it, and Explore is asked again."""
+    opener = "[...document.querySelectorAll('.told .hint button')].find(it => it.textContent.startsWith('Choose on'))"
+    if not value(f"!!{opener}"):
+        return
+    value(f"{opener}.click()")
+    settle()
+    events = machine.play(f"{told} --as events").stdout
+    name_of_file = told.split()[2]
+    with open(f"{machine.folder.name}/found.events", "w") as file:
+        file.write(events)
+    nodes = re.search(r" --nodes \d+|$", told)[0]
+    turns = [json.loads(it) for it in machine.play(f"treadmarks trace {name_of_file}{nodes} --events found.events --as states").stdout.splitlines()[1:]]
+    shown = value("[...document.querySelectorAll('.events button')].map(it => it.textContent)")
+    same(f"{name}: the order is opened", shown, [it["event"] for it in turns][-len(shown):])
+    set_fields(order="oldest")
+    ask("explore")
 
 
 def check_choose(name, file, text):
@@ -325,6 +345,14 @@ def check_choose(name, file, text):
         click(".undo")
     click(".undo")
     same(f"{name}: undo", value("[...document.querySelectorAll('.events button')].map(it => it.textContent)"), events[:-1])
+    if value("[...document.querySelectorAll('.side button')].some(it => it.textContent === 'rounds: 10')"):
+        value("[...document.querySelectorAll('.side button')].find(it => it.textContent === 'rounds: 10').click()")
+        settle()
+        machine = Native(text, file, "".join(f"{it}\n" for it in events[:-1]))
+        words = re.sub(r"^treadmarks step", "treadmarks trace", heading()[0][0])
+        going = machine.play(f"{words} --then oldest --as events").stdout.splitlines()
+        shown = value("[...document.querySelectorAll('.events button')].map(it => it.textContent)")
+        same(f"{name}: ten more by rounds", shown, going[:len(events) - 1 + 10])
 
 
 def check_guess(name, machine, options):
