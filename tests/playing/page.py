@@ -4,6 +4,8 @@ shown with what PROGRAM prints for the command lines shown. Then the editor, key
 end, memory that is refused, a page without its module, sizes and colours. Nothing is logged, and nothing fetched. Screenshots go to the folder SHOTS.
 Status 0 where all holds."""
 
+import functools
+import http.server
 import json
 import os
 import re
@@ -11,6 +13,7 @@ import shlex
 import subprocess
 import sys
 import tempfile
+import threading
 import time
 
 here = os.path.dirname(os.path.abspath(__file__))
@@ -633,6 +636,27 @@ def check_events():
     same("many turns: the page", document_text(), Native(editor_text(), "turns.tm", events).play(line).stdout)
 
 
+class Quiet(http.server.SimpleHTTPRequestHandler):
+    def log_message(self, *_):
+        pass
+
+
+def check_server():
+    """From a web server: the one file is all that is asked for."""
+    handler = functools.partial(Quiet, directory=os.path.dirname(page))
+    with http.server.ThreadingHTTPServer(("127.0.0.1", 0), handler) as server:
+        threading.Thread(target=server.serve_forever, daemon=True).start()
+        address = f"http://127.0.0.1:{server.server_port}/{os.path.basename(page)}"
+        browser.open(address)
+        wait(("ready", "ended"))
+        ask("run")
+        check_text("from a server", Native(editor_text(), "late.tm", open(f"{examples}/late.events").read()))
+        asked = {it["params"]["request"]["url"].split("#")[0] for it in browser.events if it.get("method") == "Network.requestWillBeSent"}
+        same("from a server one file is asked for", {it for it in asked if it.startswith("http")}, {address})
+        server.shutdown()
+    browser.events.clear()
+
+
 def check_without_module():
     """The same page without the program in it: it has no answer."""
     global page
@@ -688,7 +712,7 @@ if shots:
     os.makedirs(shots, exist_ok=True)
 browser.size(1366, 768)
 open_page()
-CHECKS = (check_programs, check_editor, check_keys, check_link, check_files, check_haste, check_stop, check_long, check_events, check_without_module, take_shots)
+CHECKS = (check_programs, check_editor, check_keys, check_link, check_files, check_haste, check_stop, check_long, check_events, check_server, check_without_module, take_shots)
 for check in [it for it in CHECKS if not sys.argv[4:] or it.__name__ in sys.argv[4:]]:
     check()
     check_quiet()
