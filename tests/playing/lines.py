@@ -1,0 +1,98 @@
+#!/usr/bin/env python3
+"""lines.py PROGRAM SCRIPT [CASES]: the script of play/ in node writes what the program writes, byte for byte: standard output, error and status.
+
+All command lines of examples/ and of crates/test_examples, and those of CASES where it is given: a folder with a script `run-cases` that unpacks cases
+(`--unpack`), or one that has been unpacked, NAME.sh for each. They are played in one process; of each file of command lines the first one is
+played by `node SCRIPT` too, with pipes as standard streams. `run` and `--threads` are left out: no thread is started there."""
+import base64
+import json
+import re
+import shlex
+import subprocess
+import sys
+import tempfile
+from pathlib import Path
+
+HERE = Path(__file__).resolve().parent
+TOP = HERE.parent.parent
+TEST = TOP / "crates/test_examples"
+THREADED = {"run", "--threads"}
+
+
+def shown_lines(folder):
+    """Those of test_examples lie in a folder `examples`, as its own test takes them; so do those of examples/."""
+    for root, place in ((TOP / "examples", folder / "top"), (TEST / "data", folder / "test")):
+        place.mkdir()
+        (place / "examples").symlink_to(root)
+        for file in sorted(root.rglob("*.expected")):
+            lines = re.findall(r"^\$ \./run(.*)$", file.read_text(encoding="utf-8"), re.M)
+            for k, line in enumerate(lines):
+                yield {"folder": place, "words": line.split(), "stdin": b"", "is_first": k == 0, "name": f"{file.relative_to(TOP)}: {line.strip()}"}
+
+
+def case_lines(cases, folder):
+    if (cases / "run-cases").exists():
+        subprocess.run([cases / "run-cases", "--unpack", folder], check=True, stdout=subprocess.DEVNULL)
+        cases = folder
+    for file in sorted(cases.glob("*.sh")):
+        words = shlex.split(file.read_text(encoding="utf-8").split('"${TREADMARKS:-treadmarks}"')[1])
+        stdin = b""
+        if len(words) > 1 and words[-2] == "<":
+            stdin = (cases / words[-1]).read_bytes()
+            words = words[:-2]
+        yield {"folder": cases, "words": words, "stdin": stdin, "is_first": False, "name": f"case {file.stem}"}
+
+
+def native(program, line):
+    done = subprocess.run([program, *line["words"]], executable=program, cwd=line["folder"], input=line["stdin"], capture_output=True)
+    return {"status": done.returncode, "out": done.stdout, "err": done.stderr}
+
+
+def in_one_process(script, lines):
+    asked = "".join(json.dumps({"folder": str(it["folder"]), "words": it["words"], "stdin": base64.b64encode(it["stdin"]).decode()}) + "\n" for it in lines)
+    done = subprocess.run(["node", HERE / "lines.js", script], input=asked, stdout=subprocess.PIPE, text=True, check=True)
+    for answer in map(json.loads, done.stdout.splitlines()):
+        yield {**answer, "out": base64.b64decode(answer["out"]), "err": base64.b64decode(answer["err"])}
+
+
+def differences(was, now):
+    said = [f"{part}: {was[part][:80]!r} and {now[part][:80]!r}" for part in ("out", "err") if was[part] != now[part]]
+    if was["status"] != now["status"]:
+        said.append(f"status {was['status']} and {now['status']}")
+    return said + ([now["crash"]] if now.get("crash") else [])
+
+
+def main():
+    program, script = Path(sys.argv[1]).resolve(), Path(sys.argv[2]).resolve()
+    with tempfile.TemporaryDirectory() as name:
+        folder = Path(name)
+        lines = list(shown_lines(folder))
+        if len(sys.argv) > 3:
+            (folder / "cases").mkdir()
+            lines += case_lines(Path(sys.argv[3]).resolve(), folder / "cases")
+        left_out = sum(1 for it in lines if THREADED & set(it["words"]))
+        lines = [it for it in lines if not THREADED & set(it["words"])]
+        failed = 0
+        expected = []
+        for line, now in zip(lines, in_one_process(script, lines), strict=True):
+            expected.append(native(program, line))
+            said = differences(expected[-1], now)
+            if said:
+                failed += 1
+                print(f"FAILS: {line['name']}: {'; '.join(said)}", flush=True)
+        own = 0
+        for line, was in zip(lines, expected):
+            if not line["is_first"]:
+                continue
+            own += 1
+            done = subprocess.run(["node", script, *line["words"]], cwd=line["folder"], input=line["stdin"], capture_output=True)
+            said = differences(was, {"status": done.returncode, "out": done.stdout, "err": done.stderr})
+            if said:
+                failed += 1
+                print(f"FAILS: {line['name']} by itself: {'; '.join(said)}", flush=True)
+    print(f"lines: {len(lines)} command lines, {own} of them by themselves too, {left_out} with threads left out; {failed} failed")
+    return 1 if failed else 0
+
+
+if __name__ == "__main__":
+    sys.exit(main())

@@ -1,0 +1,721 @@
+#!/usr/bin/env python3
+"""page.py PROGRAM PAGE [SHOTS]: opens PAGE (play/play.html) in a headless Chromium, goes through each button on five programs, and compares what is
+shown with what PROGRAM prints for the command lines shown. Then the editor, keys alone, links, files, haste, stop, long answers, a program without an
+end, memory that is refused, a page without its module, sizes and colours. Nothing is logged, and nothing fetched. Screenshots go to the folder SHOTS.
+Status 0 where all holds."""
+
+import functools
+import http.server
+import json
+import os
+import re
+import shlex
+import subprocess
+import sys
+import tempfile
+import threading
+import time
+
+here = os.path.dirname(os.path.abspath(__file__))
+examples = os.path.join(here, "../../examples")
+native, page = map(os.path.abspath, sys.argv[1:3])
+shots = os.path.abspath(sys.argv[3]) if sys.argv[3:] and sys.argv[3] else None
+sys.path.insert(0, os.path.join(here, "../browser"))
+from browser import Browser
+
+PROGRAMS = ["late.tm", "litmus/dekker.tm", "litmus/bank.tm", "traps.tm", "named"]
+# A program with names, for a program that has them; else another example.
+NAMED = """nodes 2;
+const ROUNDS = 2;
+shared sum, seen[2];
+lock mutex;
+for i in 0 .. ROUNDS {
+    with mutex { sum += me + i; }
+    seen[me] = sum;
+}
+barrier;
+assert sum == 4;
+print seen[1 - me];
+"""
+VIEWS = "run step explore chart why trace races choose guess".split()
+# Keeps each document that the page makes, to be read by its address.
+KEEP = """(() => { const make = URL.createObjectURL; window.made = new Map();
+  URL.createObjectURL = it => { const url = make.call(URL, it); window.made.set(url, it); return url; }; })()"""
+
+held, failed = 0, []
+
+
+def hold(what, is_so, *seen):
+    global held
+    if is_so:
+        held += 1
+    else:
+        failed.append(what)
+        print(f"FAILS: {what}", *[repr(it)[:400] for it in seen], flush=True)
+
+
+def same(what, one, other):
+    if one == other:
+        return hold(what, True)
+    place = next((k for k, (a, b) in enumerate(zip(one, other)) if a != b), min(len(one), len(other)))
+    hold(what, False, one[max(0, place - 80):place + 80], other[max(0, place - 80):place + 80])
+
+
+browser = Browser()
+value = browser.value
+browser.call("Page.addScriptToEvaluateOnNewDocument", source=KEEP)
+browser.call("Target.setAutoAttach", autoAttach=True, waitForDebuggerOnStart=False, flatten=True)
+
+
+def wait(states=("ended",), most=60):
+    end = time.time() + most
+    while value("document.body.dataset.state") not in states:
+        if time.time() > end:
+            return hold(f"state {states}", False, value("document.body.dataset.state"))
+        time.sleep(0.03)
+
+
+def settle():
+    """Until all is answered, and each frame has its document."""
+    time.sleep(0.05)
+    wait(("ended", "ready"))
+    for _ in range(100):
+        if value("[...document.querySelectorAll('iframe')].every(it => it.dataset.state === 'shown')"):
+            break
+        time.sleep(0.03)
+
+
+def open_page(fragment="", keeps=False):
+    """Anew, with nothing kept of the last one."""
+    if not keeps:
+        value("(() => { try { localStorage.clear(); } catch {} })()")
+    browser.open(f"file://{page}{fragment}")
+    wait(("ready", "ended"))
+
+
+def click(selector):
+    value(f"document.querySelector({json.dumps(selector)}).click()")
+    settle()
+
+
+def ask(view):
+    click(f"[data-view={view}]")
+
+
+def example(name):
+    value(f"""(() => {{ document.getElementById('examples-button').click();
+      [...document.querySelectorAll('.example')].find(it => it.querySelector('code').textContent.trim() === {json.dumps(name)}).click(); }})()""")
+    time.sleep(0.1)
+
+
+def set_fields(**fields):
+    for name, it in fields.items():
+        value(f"(() => {{ const field = document.getElementById('{name}'); field.value = '{it}'; field.dispatchEvent(new Event('change')); }})()")
+
+
+def drop(name, text):
+    """A file is dropped on the page; its text, or that many bytes of it."""
+    content = f"[new Uint8Array({text}).fill(35)]" if isinstance(text, int) else json.dumps([text])
+    value(f"""(() => {{ const given = new DataTransfer(); given.items.add(new File({content}, {json.dumps(name)}));
+      window.dispatchEvent(new DragEvent('drop', {{ dataTransfer: given, bubbles: true, cancelable: true }})); }})()""")
+    time.sleep(0.4)
+    settle()
+
+
+def told():
+    return value("document.getElementById('told').textContent")
+
+
+def text_of(selector):
+    return value(f"(it => it && [...it.children].map(line => line.textContent).join('\\n') + '\\n')(document.querySelector({json.dumps(selector)}))") or ""
+
+
+def editor_text():
+    return text_of("#text")
+
+
+class Native:
+    """The native program, in a folder with the files that the page has."""
+
+    def __init__(self, text, name, events="", acts=""):
+        self.folder = tempfile.TemporaryDirectory()
+        for path, content in ((name, text), (name[:-3] + ".events", events), ("told.acts", acts)):
+            with open(f"{self.folder.name}/{path}", "w") as file:
+                file.write(content)
+
+    def play(self, line, stdin=None):
+        """A line for a shell, maybe a pipe of two."""
+        for part in line.split(" | "):
+            words = shlex.split(part)
+            assert words[0] == "treadmarks", line
+            done = subprocess.run([native, *words[1:]], cwd=self.folder.name, input=stdin, capture_output=True, text=True)
+            stdin = done.stdout
+        return done
+
+
+def shoot(name):
+    if shots:
+        time.sleep(0.7)
+        browser.shoot(f"{shots}/{name}.png")
+
+
+def heading(scope=""):
+    """The command lines and the status shown."""
+    return value(f"""[...document.querySelectorAll('#result {scope} .command')].map(it => [it.querySelector('code').textContent, it.dataset.status])""")
+
+
+def document_text(scope=""):
+    return value(f"(async () => (await window.made.get(document.querySelector('#result {scope} iframe').dataset.url)?.text()) ?? '')()")
+
+
+def embedded():
+    """What the page of `step` shows in its frame: its turn, its headline, and how wide its picture is."""
+    of = lambda method: [it["params"] for it in browser.events if it.get("method") == f"Target.{method}"]
+    gone = {it["sessionId"] for it in of("detachedFromTarget")}
+    frames = [it["sessionId"] for it in of("attachedToTarget") if it["targetInfo"]["type"] == "iframe" and it["sessionId"] not in gone]
+    page_session, browser.session = browser.session, frames[-1]
+    try:
+        return value("[location.hash, document.getElementById('headline').textContent, document.getElementById('timeline').viewBox.baseVal.width]")
+    finally:
+        browser.session = page_session
+
+
+def check_embedded(name, turn):
+    for _ in range(60):
+        seen = embedded()
+        if seen[0] == turn and seen[2] > 200:
+            break
+        time.sleep(0.05)
+    hold(f"{name}: the page in its frame is at {turn or 'its start'} and drawn", seen[0] == turn and seen[2] > 200, seen)
+
+
+def check_errors(name, done):
+    same(f"{name}: errors", value("document.querySelector('#result .errors')?.textContent ?? ''"), done.stderr)
+
+
+def check_text(name, machine, selector="#result .printed", scope=""):
+    (line, status), = heading(scope)
+    done = machine.play(line)
+    same(f"{name}: {line}", text_of(selector) if value(f"!!document.querySelector('{selector}')") else "", done.stdout)
+    same(f"{name}: status", status, str(done.returncode))
+    check_errors(name, done)
+
+
+def check_run(name, machine):
+    for form in ("explain", "sim", "plain", "stats"):
+        value(f"[...document.querySelectorAll('#result .choice button')].find(it => it.textContent === '{form}').click()")
+        settle()
+        check_text(f"{name} {form}", machine)
+
+
+def check_step(name, machine):
+    (line, status), = heading()
+    done = machine.play(line)
+    same(f"{name}: {line}", document_text(), done.stdout)
+    same(f"{name}: status", status, str(done.returncode))
+    check_embedded(name, "")
+
+
+def check_chart(name, machine):
+    for choice in (None, "hide quiet", "with the text", "for a terminal"):
+        if choice:
+            value(f"[...document.querySelectorAll('#result .fields button')].find(it => it.textContent === '{choice}').click()")
+            settle()
+        (line, status), = heading()
+        done = machine.play(line)
+        if choice == "for a terminal":
+            same(f"{name}: {line}", value("document.querySelector('#result .plain').textContent"), done.stdout)
+        else:
+            hold(f"{name}: {line}", done.stdout and document_text().endswith(done.stdout))
+
+
+def check_why(name, machine, options):
+    listed = value("[...document.querySelectorAll('.acts button')].map(it => [it.dataset.act, it.querySelector('.badge').textContent, it.querySelector('.place').textContent].join(' '))")
+    acts = [json.loads(line) for line in machine.play(f"treadmarks trace {options} --as json").stdout.splitlines()]
+    same(f"{name}: acts", listed, [f"{it['act']} {it['node']} {it['line']}" for it in acts])
+    for k in sorted({0, len(acts) // 3, len(acts) // 2, len(acts) - 1}):
+        click(f".acts button[data-act='{k}']")
+        check_text(f"{name} act {k}", machine, "#result .reasons .printed", ".reasons")
+    value("document.querySelector('.acts button[data-act=\"0\"]').dispatchEvent(new MouseEvent('click', { shiftKey: true }))")
+    settle()
+    hold(f"{name}: two acts", " --and 0" in heading(".reasons")[0][0])
+    check_text(f"{name} two acts", machine, "#result .reasons .printed", ".reasons")
+
+
+def check_trace(name, machine):
+    for form in ("acts", "messages", "json", "states", "events", "rapid"):
+        value(f"[...document.querySelectorAll('#result .choice button')].find(it => it.textContent === '{form}').click()")
+        settle()
+        (line, status), = heading()
+        done = machine.play(line)
+        if form in ("acts", "messages"):
+            same(f"{name}: {line}", text_of("#result .printed"), done.stdout)
+        else:
+            same(f"{name}: {line}", value("document.querySelector('#result .plain')?.textContent ?? ''"), done.stdout)
+
+
+def check_races(name, machine):
+    for form in ("by lines", "each"):
+        value(f"[...document.querySelectorAll('#result .choice button')].find(it => it.textContent === '{form}').click()")
+        settle()
+        check_text(f"{name} {form}", machine)
+
+
+def told_text(scope):
+    """What the list of acts and the lines around it show, in the program's form."""
+    return value(f"""(() => {{ const lines = [];
+      for (const part of document.querySelector('{scope}').children) {{
+        if (part.matches('.printed')) lines.push(...[...part.children].map(it => it.textContent));
+        if (part.matches('.acts')) lines.push(...[...part.querySelectorAll('button')].map(it => it.querySelector('.badge').textContent + ' ' + it.querySelector('.deed').textContent + ' # line ' + it.querySelector('.place').textContent));
+      }}
+      return lines.map(it => it + '\\n').join(''); }})()""")
+
+
+def check_explore(name, machine):
+    (told, status), (lists, _) = heading()
+    done = machine.play(told)
+    same(f"{name}: {told}", told_text(".told"), done.stdout)
+    same(f"{name}: status", status, str(done.returncode))
+    answers = {re.search(r"--memory (\w+)|$", line)[1] or "flat": machine.play(line) for line in lists.split("\n")}
+    flat, lazy = answers["flat"], answers["lazy"]
+    for memory, it in answers.items():
+        same(f"{name}: {memory}", value(f"document.querySelector('[data-memory={memory}]').textContent"), it.stdout + it.stderr)
+    outcomes = {memory: [line.split(" # ")[0] for line in it.stdout.splitlines()[1:] if line.startswith("node")] for memory, it in (("flat", flat), ("lazy", lazy))}
+    rows = value("[...document.querySelectorAll('.outcomes tr[data-line]')].map(it => [it.dataset.line, it.className])")
+    same(f"{name}: rows", sorted(line for line, _ in rows), sorted({*outcomes["flat"], *outcomes["lazy"]}))
+    for line, kind in rows if len(answers) == 2 else []:
+        expected = "both" if line in outcomes["flat"] and line in outcomes["lazy"] else "only-flat" if line in outcomes["flat"] else "only-lazy"
+        same(f"{name}: {line}", kind, expected)
+    check_opened(name, machine, told)
+    if rows:
+        click(".outcomes td.memory button")
+        line = heading(".outcome-acts")[0][0]
+        acts = machine.play(line).stdout
+        same(f"{name}: {line}", told_text(".outcome-acts"), acts)
+        click(".outcome-acts .acts button")
+        line = heading(".outcome-acts .reasons")[0][0]
+        with open(f"{machine.folder.name}/told.acts", "w") as file:
+            file.write(acts)
+        same(f"{name}: {line}", text_of(".outcome-acts .reasons .printed"), machine.play(line).stdout)
+        value("[...document.querySelectorAll('.outcome-acts .hint button')].find(it => it.textContent.startsWith('Chart')).click()")
+        settle()
+        line = heading(".outcome-acts .reasons")[0][0]
+        hold(f"{name}: {line}", document_text(".outcome-acts").endswith(machine.play(line).stdout))
+
+
+def check_opened(name, machine, told):
+    """An order that was told is opened in Choose, by the events that the program says for it, and Explore is asked again."""
+    opener = "[...document.querySelectorAll('.told .hint button')].find(it => it.textContent.startsWith('Choose on'))"
+    if not value(f"!!{opener}"):
+        return
+    value(f"{opener}.click()")
+    settle()
+    events = machine.play(f"{told} --as events").stdout
+    name_of_file = told.split()[2]
+    with open(f"{machine.folder.name}/found.events", "w") as file:
+        file.write(events)
+    nodes = re.search(r" --nodes \d+|$", told)[0]
+    turns = [json.loads(it) for it in machine.play(f"treadmarks trace {name_of_file}{nodes} --events found.events --as states").stdout.splitlines()[1:]]
+    shown = value("[...document.querySelectorAll('.events button')].map(it => it.textContent)")
+    same(f"{name}: the order is opened", shown, [it["event"] for it in turns][-len(shown):])
+    set_fields(order="oldest")
+    ask("explore")
+
+
+def check_choose(name, file, text):
+    """From no event on, each time the last that may come; then the first; then undone."""
+    value("[...document.querySelectorAll('.side button')].find(it => it.textContent === 'Start again').click()")
+    settle()
+    events = []
+    for k in range(12):
+        machine = Native(text, file, "".join(f"{it}\n" for it in events))
+        (line, status), = heading()
+        done = machine.play(line)
+        same(f"{name} after {k}: page", document_text(), done.stdout)
+        check_embedded(f"{name} after {k}", f"#turn={len(events) - 1}" if events else "")
+        words = line.replace("treadmarks step", "treadmarks trace")
+        state = json.loads(machine.play(f"{words} --as states --from 4000000000").stdout)
+        may = [f"run {node}" for node, it in enumerate(state["states"]) if it["waits"] == "no"] + [f"deliver {place}" for place in range(len(state["flight"]))]
+        same(f"{name} after {k}: what may come", value("[...document.querySelectorAll('.may .next')].map(it => it.dataset.event)"), may)
+        same(f"{name} after {k}: events", value("[...document.querySelectorAll('.events button')].map(it => it.textContent)"), events)
+        if not may:
+            break
+        events.append(may[-1] if k % 3 else may[0])
+        click(f".may [data-event='{events[-1]}']")
+    if value("!!document.querySelector('[title^=\"repeat\"]')"):
+        click('[title^="repeat"]')
+        hold(f"{name}: repeat", value("[...document.querySelectorAll('.events button')].at(-1).textContent").startswith("repeat"))
+        click(".undo")
+    click(".undo")
+    same(f"{name}: undo", value("[...document.querySelectorAll('.events button')].map(it => it.textContent)"), events[:-1])
+    if value("[...document.querySelectorAll('.side button')].some(it => it.textContent === 'rounds: 10')"):
+        value("[...document.querySelectorAll('.side button')].find(it => it.textContent === 'rounds: 10').click()")
+        settle()
+        machine = Native(text, file, "".join(f"{it}\n" for it in events[:-1]))
+        words = re.sub(r"^treadmarks step", "treadmarks trace", heading()[0][0])
+        going = machine.play(f"{words} --then oldest --as events").stdout.splitlines()
+        shown = value("[...document.querySelectorAll('.events button')].map(it => it.textContent)")
+        same(f"{name}: ten more by rounds", shown, going[:len(events) - 1 + 10])
+
+
+def check_guess(name, machine, options):
+    (line, status), = heading()
+    same(f"{name}: {line}", document_text(), machine.play(line).stdout)
+    acts = [json.loads(it) for it in machine.play(f"treadmarks trace {options} --as json").stdout.splitlines()]
+    for k in range(40):
+        if not value("!!document.querySelector('.values')"):
+            break
+        click("button.value")
+        said = value("document.querySelector('.guess h2').textContent")
+        printed = text_of(".guess .printed")
+        act = int(re.match(r"act (\d+)", printed).group(1))
+        same(f"{name}: why act {act}", printed, machine.play(f"treadmarks why {options} --act {act}").stdout)
+        turns = [json.loads(it) for it in machine.play(f"treadmarks trace {options} --as states").stdout.splitlines()[1:]]
+        check_embedded(f"{name} act {act}", f"#turn={next(it['turn'] for it in turns if it['act'] and it['act']['position'] == act)}")
+        hold(f"{name}: act {act} gives {acts[act]['value']}", re.search(rf"(Yes: |gets ){acts[act]['value']}\b", said), said)
+        if value("document.querySelector('.guess .on').textContent") != "Next read":
+            break
+        click(".guess .on")
+    else:
+        hold(f"{name}: ends", False)
+
+
+def check_programs():
+    for program in PROGRAMS:
+        file = os.path.basename(program)
+        if program == "named" and subprocess.run([native, "check", "-"], input=NAMED, text=True, capture_output=True).returncode == 0:
+            file, text = "named.tm", NAMED
+            drop("named.tm", NAMED)
+            set_fields(nodes="")
+        else:
+            program, file = ("counter.tm", "counter.tm") if program == "named" else (program, file)
+            example(file)
+            with open(f"{examples}/{program}") as opened:
+                text = opened.read()
+        same(f"{file}: text", editor_text(), text)
+        for order in ("as chosen", "random"):
+            if order == "random":
+                if file != "late.tm":
+                    continue
+                set_fields(order="random", seed=3, page=256)
+            events = f"{examples}/{program[:-3]}.events"
+            has_events = order == "as chosen" and os.path.exists(events)
+            machine = Native(text, file, open(events).read() if has_events else "")
+            for view in VIEWS:
+                ask(view)
+                name = f"{file} {view}{' random' if order == 'random' else ''}"
+                options = re.sub(r"^treadmarks \w+ | --act.*| --and.*", "", heading()[0][0]) if heading() else ""
+                if view == "why":
+                    click(".acts button")
+                    options = re.sub(r"^treadmarks \w+ | --as.*", "", heading()[0][0])
+                    check_why(name, machine, options)
+                elif view == "choose":
+                    check_choose(name, file, text)
+                    set_fields(order="random" if order == "random" else "oldest")
+                elif view == "guess":
+                    check_guess(name, Native(text, file), options)
+                elif view == "explore":
+                    check_explore(name, machine)
+                else:
+                    globals()[f"check_{view}"](name, machine)
+            print(f"{file} {order}: {held} held, {len(failed)} failed", flush=True)
+
+
+def press(key, code=None, text=None, modifiers=0, number=0, commands=()):
+    parameters = {"key": key, "code": code or key, "modifiers": modifiers, "windowsVirtualKeyCode": number}
+    browser.call("Input.dispatchKeyEvent", type="keyDown", **parameters, **({"text": text} if text else {}), **({"commands": list(commands)} if commands else {}))
+    browser.call("Input.dispatchKeyEvent", type="keyUp", **parameters)
+
+
+def typed(words):
+    for letter in words:
+        if letter == "\n":
+            press("Enter", text="\r", number=13)
+        else:
+            press(letter, text=letter)
+
+
+def undo():
+    press("z", "KeyZ", modifiers=2, number=90, commands=["undo"])
+
+
+def check_editor():
+    open_page()
+    first = editor_text()
+    value("(() => { const line = document.getElementById('text').children[12]; document.getElementById('text').focus(); getSelection().collapse(line.firstChild, line.firstChild.length); })()")
+    typed("\nif x = 3 {\nprint x;\n}")
+    lines = first.split("\n")
+    lines[13:13] = ["    if x = 3 {", "        print x;", "    }"]
+    same("editor: typed, with indents", editor_text(), "\n".join(lines))
+    time.sleep(0.8)
+    done = Native(editor_text(), "late.tm").play("treadmarks lint late.tm").stdout.splitlines()
+    note = [done[0].split("error: ")[1]] + [line[2:] for line in done[3:]]
+    same("editor: lint under its line", value("document.getElementById('text').children[13].dataset.note"), "\n".join(note))
+    hold("editor: no other note", value("document.querySelectorAll('#text [data-note]').length") == 1)
+    shoot("editor")
+    for _ in range(8):
+        if editor_text() != first:
+            undo()
+    same("editor: undone", editor_text(), first)
+    example("dekker.tm")
+    value("document.getElementById('text').focus()")
+    undo()
+    same("editor: an example undone", editor_text(), first)
+    value("getSelection().selectAllChildren(document.getElementById('text'))")
+    press("Delete", number=46)
+    same("editor: all deleted", editor_text(), "\n")
+    typed("words 1; locks 1;\nacquire 0;\n[0] = cuont + 1;\n")
+    time.sleep(0.8)
+    same("editor: warnings", value("[...document.getElementById('text').children].map(it => it.dataset.note ?? '')"), ["", "lock 0 is never released", "cuont is read and never set, so it is 0", ""])
+    press("Tab", number=9)
+    hold("editor: Tab indents", editor_text().endswith("    \n"))
+    press("Escape", number=27)
+    press("Tab", number=9)
+    hold("editor: Escape, Tab leaves", not value("document.getElementById('text').contains(document.activeElement)"))
+    value("""(() => { const paste = new DataTransfer(); paste.setData('text/plain', 'a = <1>;\\n\\nb');
+      document.getElementById('text').focus(); getSelection().selectAllChildren(document.getElementById('text'));
+      document.getElementById('text').dispatchEvent(new ClipboardEvent('paste', { clipboardData: paste, bubbles: true, cancelable: true })); })()""")
+    same("editor: pasted", editor_text(), "a = <1>;\n\nb\n")
+    ask("run")
+    check_text("a fault", Native(editor_text(), value("document.getElementById('name').value")))
+
+
+def check_keys():
+    open_page()
+    for key, view in zip("rsxcwtdng", VIEWS):
+        value("document.activeElement.blur()")
+        press(key, text=key)
+        settle()
+        hold(f"key {key}", value("document.body.dataset.view") == view)
+    value("document.activeElement.blur()")
+    press("1", text="1")
+    settle()
+    hold("key 1 answers", value("!!document.querySelector('.guess .right, .guess .wrong')"))
+    value("document.activeElement.blur()")
+    press("o", text="o")
+    for _ in range(3):
+        press("ArrowDown", number=40)
+    chosen = value("document.activeElement.querySelector('code')?.textContent.trim()")
+    press("Enter", text="\r", number=13)
+    settle()
+    hold("an example by keys alone", chosen and value("document.getElementById('name').value") == chosen, chosen)
+    press("e", text="e")
+    typed("rsx")
+    hold("what is typed in the text is no command", value("document.body.dataset.view") == "guess" or not value("document.body.dataset.view"), value("document.body.dataset.view"))
+    hold("it is text", "rsx" in editor_text())
+    press("Escape", number=27)
+    seen = set()
+    for _ in range(60):
+        press("Tab", number=9)
+        seen.add(value("document.activeElement.id || document.activeElement.textContent"))
+    hold("Tab comes to each part", {"Run", "Guess", "nodes", "order", "examples-button"} <= seen, seen)
+    hold("names of fields and buttons", value("[...document.querySelectorAll('button, input, select')].every(it => it.textContent.trim() || it.ariaLabel || it.labels?.length)"))
+
+
+def check_link():
+    open_page()
+    example("dekker.tm")
+    set_fields(order="newest")
+    ask("why")
+    click(".acts button[data-act='3']")
+    time.sleep(0.2)
+    before = [editor_text(), heading(), text_of(".reasons .printed"), value("location.hash")]
+    open_page(before[3])
+    settle()
+    time.sleep(0.3)
+    settle()
+    same("link: text", editor_text(), before[0])
+    same("link: command and status", heading(), before[1])
+    same("link: answer", text_of(".reasons .printed"), before[2])
+    for damaged in ("#nonsense", before[3][:40], before[3][:-7] + "AAAAAAA"):
+        open_page(damaged)
+        hold(f"link: {damaged[:20]} is said to be damaged", "damaged" in told() and "late.tm" == value("document.getElementById('name').value"), told())
+
+
+def check_files():
+    open_page()
+    saved = "(async () => await [...window.made.values()].at(-1).text())()"
+    value("document.getElementById('save').click()")
+    same("save: the text", value(saved), editor_text())
+    drop("given name.tm", "words 1; locks 0;\nprint me;\n")
+    same("a file dropped", editor_text(), "words 1; locks 0;\nprint me;\n")
+    same("its name", value("document.getElementById('name').value"), "given_name.tm")
+    drop("large.tm", 10_000_000)
+    hold("a file of 10 MB is refused in words", "10.0 MB" in told(), told())
+    drop("picture.tm", "GIF89a\0\0")
+    hold("a file that is no text is refused in words", told() == "picture.tm is no text", told())
+    same("the text stays", editor_text(), "words 1; locks 0;\nprint me;\n")
+    drop("given.events", "run 1\nrun 0\nrun 7\nrun 1\n")
+    same("events dropped: those that are not skipped", value("[...document.querySelectorAll('.events button')].map(it => it.textContent)"), ["run 1", "run 0", "run 1"])
+    value("[...document.querySelectorAll('.side button')].find(it => it.textContent === 'Save events').click()")
+    same("save: events", value(saved), "run 1\nrun 0\nrun 1\n")
+    ask("run")
+    hold("the chosen events are played", heading()[0][0].endswith("--nodes 2 --events given_name.events"))
+    value("document.querySelector('#result .command button').click()")
+    time.sleep(0.2)
+    same("copy", told(), "copied: command")
+    drop("ends.tm", "words 1; locks 0;\nprint 3;\n")
+    time.sleep(1.2)
+    open_page(keeps=True)
+    same("after a reload the text is there", editor_text(), "words 1; locks 0;\nprint 3;\n")
+
+
+def check_haste():
+    """Clicks that come faster than the answers, and buttons pressed while another works."""
+    open_page()
+    example("counter.tm")
+    ask("choose")
+    value("[...document.querySelectorAll('.side button')].find(it => it.textContent === 'Start again').click()")
+    settle()
+    value("(() => { for (const node of [3, 1, 2]) document.querySelector(`[data-event='run ${node}']`).click(); })()")
+    settle()
+    same("three quick choices", value("[...document.querySelectorAll('.events button')].map(it => it.textContent)"), ["run 3", "run 1", "run 2"])
+    value("(() => { for (const view of ['step', 'explore', 'trace', 'why', 'run']) document.querySelector(`[data-view=${view}]`).click(); })()")
+    settle()
+    set_fields(order="oldest")
+    settle()
+    check_text("the last of five buttons", Native(editor_text(), "counter.tm"))
+
+
+def check_stop():
+    open_page()
+    value("document.getElementById('text').focus()")
+    value("getSelection().selectAllChildren(document.getElementById('text'))")
+    browser.call("Input.insertText", text="words 64; locks 1; while i < 60000 { acquire 0; x = [0]; [0] = x + 1; release 0; i = i + 1; }")
+    set_fields(order="oldest", nodes=8)
+    value("document.querySelector('[data-view=run]').click()")
+    time.sleep(2)
+    hold("stop: runs", value("document.body.dataset.state") == "runs" and value("document.getElementById('state').textContent").startswith("runs"))
+    start = time.time()
+    value("document.getElementById('stop').click()")
+    wait(most=5)
+    took = time.time() - start
+    hold(f"stop: {took:.2f} s", took < 0.5 and value("document.getElementById('state').textContent") == "stopped")
+    value("document.querySelector('[data-view=run]').click()")
+    time.sleep(1)
+    press("Escape", number=27)
+    wait(most=5)
+    hold("stop: by Escape", value("document.getElementById('state').textContent") == "stopped")
+    value("document.querySelector('[data-view=run]').click()")
+    time.sleep(1)
+    example("hello.tm")
+    ask("run")
+    check_text("after a stop", Native(editor_text(), "hello.tm"))
+
+
+
+
+def check_long():
+    """A program that prints for ever, up to its million of statements: the beginning is shown, and all is saved."""
+    open_page()
+    drop("prints.tm", "words 1; locks 0;\nwhile 1 { print 123456789; }\n")
+    set_fields(nodes=1)
+    ask("run")
+    value("[...document.querySelectorAll('#result .choice button')].find(it => it.textContent === 'sim').click()")
+    settle()
+    (line, status), = heading()
+    done = Native(editor_text(), "prints.tm").play(line)
+    shown = text_of("#result .printed")
+    hold("long: its beginning is shown", len(done.stdout) > 1_000_000 and len(shown) < 1_100_000 and done.stdout.startswith(shown.rsplit("\n", 2)[0]), len(shown), len(done.stdout))
+    same("long: status", status, str(done.returncode))
+    click(".save-all")
+    same("long: all is saved", value("(async () => await [...window.made.values()].at(-1).text())()"), done.stdout)
+
+
+def check_events():
+    """A run of more turns than a page of `step` has."""
+    open_page()
+    drop("turns.tm", "words 1; locks 0;\nwhile i < 900 { i = i + 1; }\n")
+    set_fields(nodes=2)
+    ask("choose")
+    value("(it => it ? it.click() : [...document.querySelectorAll('.side button')].find(it => it.textContent === 'rounds').click())([...document.querySelectorAll('.side button')].find(it => it.textContent === 'rounds: all'))")
+    settle()
+    (line, status), = heading()
+    hold("many turns: the last part is shown", " --from " in line, line)
+    events = Native(editor_text(), "turns.tm").play("treadmarks trace turns.tm --nodes 2 --as events").stdout
+    same("many turns: the page", document_text(), Native(editor_text(), "turns.tm", events).play(line).stdout)
+
+
+class Quiet(http.server.SimpleHTTPRequestHandler):
+    def log_message(self, *_):
+        pass
+
+
+def check_server():
+    """From a web server: the one file is all that is asked for."""
+    handler = functools.partial(Quiet, directory=os.path.dirname(page))
+    with http.server.ThreadingHTTPServer(("127.0.0.1", 0), handler) as server:
+        threading.Thread(target=server.serve_forever, daemon=True).start()
+        address = f"http://127.0.0.1:{server.server_port}/{os.path.basename(page)}"
+        browser.open(address)
+        wait(("ready", "ended"))
+        ask("run")
+        check_text("from a server", Native(editor_text(), "late.tm", open(f"{examples}/late.events").read()))
+        asked = {it["params"]["request"]["url"].split("#")[0] for it in browser.events if it.get("method") == "Network.requestWillBeSent"}
+        same("from a server one file is asked for", {it for it in asked if it.startswith("http")}, {address})
+        server.shutdown()
+    browser.events.clear()
+
+
+def check_without_module():
+    """The same page without the program in it: it has no answer."""
+    global page
+    whole = page
+    with tempfile.TemporaryDirectory() as folder:
+        page = f"{folder}/play.html"
+        with open(whole, encoding="utf-8") as given, open(page, "w", encoding="utf-8") as made:
+            made.write(re.sub(r'(<script type="text/plain" id="wasm">)[^<]*', r"\1", given.read()))
+        browser.open(f"file://{page}")
+        for view in VIEWS:
+            value(f"document.querySelector('[data-view={view}]').click()")
+            time.sleep(0.2)
+            hold(f"without the program {view} shows nothing", not value("document.querySelector('#result .command, #result .printed, #result iframe')?.textContent"))
+        hold("and says so", "cannot run the program" in value("document.getElementById('state').textContent"))
+        browser.events.clear()
+    page = whole
+
+
+def take_shots():
+    looks = [("1366", 1366, 768, 1, False, "light"), ("1920", 1920, 1080, 1, False, "light"), ("dark", 1920, 1080, 1, False, "dark"), ("3840", 3840, 2160, 1, False, "light"), ("1024", 1024, 700, 1, False, "light"), ("phone", 390, 844, 2, True, "light")]
+    for name, width, height, scale, is_phone, scheme in looks:
+        browser.call("Emulation.setDeviceMetricsOverride", width=width, height=height, deviceScaleFactor=scale, mobile=is_phone)
+        browser.media(prefers_color_scheme=scheme)
+        open_page()
+        shoot(f"{name}-welcome")
+        for view in VIEWS:
+            ask(view)
+            shoot(f"{name}-{view}")
+            wide = value("document.documentElement.scrollWidth > document.documentElement.clientWidth")
+            hold(f"{name} {view}: no sideways scrolling", not wide)
+        example("bank.tm")
+        ask("explore")
+        shoot(f"{name}-explore-bank")
+        value("document.getElementById('examples-button').click()")
+        shoot(f"{name}-examples")
+        value("document.getElementById('examples').close(); document.getElementById('help-button').click()")
+        shoot(f"{name}-help")
+        value("document.getElementById('help').close()")
+    browser.call("Emulation.setDeviceMetricsOverride", width=1366, height=768, deviceScaleFactor=1, mobile=False)
+    browser.media(prefers_color_scheme="light")
+
+
+def check_quiet():
+    logged = [it for it in browser.events if it.get("method") in ("Log.entryAdded", "Runtime.exceptionThrown", "Runtime.consoleAPICalled")]
+    hold("nothing is logged", not logged, logged[:3])
+    fetched = {it["params"]["request"]["url"].split(":")[0] for it in browser.events if it.get("method") == "Network.requestWillBeSent"}
+    hold("nothing is fetched", fetched <= {"file", "blob", "data"}, fetched)
+    files = {it["params"]["request"]["url"].split("#")[0] for it in browser.events if it.get("method") == "Network.requestWillBeSent" and it["params"]["request"]["url"].startswith("file")}
+    hold("no other file", files <= {f"file://{page}"}, files)
+
+
+if shots:
+    os.makedirs(shots, exist_ok=True)
+browser.size(1366, 768)
+open_page()
+CHECKS = (check_programs, check_editor, check_keys, check_link, check_files, check_haste, check_stop, check_long, check_events, check_server, check_without_module, take_shots)
+for check in [it for it in CHECKS if not sys.argv[4:] or it.__name__ in sys.argv[4:]]:
+    check()
+    check_quiet()
+    print(f"{check.__name__}: {held} held, {len(failed)} failed", flush=True)
+browser.close()
+sys.exit(1 if failed else 0)
