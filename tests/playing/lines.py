@@ -7,6 +7,7 @@ played by `node SCRIPT` too, with pipes as standard streams. `run` and `--thread
 import base64
 import json
 import re
+import resource
 import shlex
 import subprocess
 import sys
@@ -43,8 +44,13 @@ def case_lines(cases, folder):
         yield {"folder": cases, "words": words, "stdin": stdin, "is_first": False, "name": f"case {file.stem}"}
 
 
+def at_most_four_gigabytes():
+    """The memory that the module can have."""
+    resource.setrlimit(resource.RLIMIT_AS, (1 << 32, 1 << 32))
+
+
 def native(program, line):
-    done = subprocess.run([program, *line["words"]], executable=program, cwd=line["folder"], input=line["stdin"], capture_output=True)
+    done = subprocess.run([program, *line["words"]], executable=program, cwd=line["folder"], input=line["stdin"], capture_output=True, preexec_fn=at_most_four_gigabytes)
     return {"status": done.returncode, "out": done.stdout, "err": done.stderr}
 
 
