@@ -177,16 +177,17 @@ few : (group : Bool) (pairs : List Pair) → length pairs < 2 ^ 64 → length (i
 few true pairs small = small
 few false pairs small = omega arith
 
-pub told_all : (form : Form) (judged : Judged) (groups : List Group) (fault : Option IllFormed) (old new : List ℕ) (status : ℕ)
+pub told_all : (form : Form) (judged : Judged) (groups : List Group) (fault : Option IllFormed) (count : ℕ) (old new : List ℕ)
+    (status : ℕ) → count ≡ position_of judged.detector
     → new ≡ old ++ (group_lines form (naming_of judged.names) groups ++ (fault_line (naming_of judged.names) fault
-    ++ counts_line (naming_of judged.names) judged.races (position_of judged.detector)))
+    ++ counts_line (naming_of judged.names) judged.races count))
     → ((pairs : List Pair) → length pairs < 2 ^ 64 → AreGrouped pairs judged.groups → AreGroups pairs groups)
     → ((events : List Event) (n : ℕ) → HasLooked events n judged.finder → IsFirstFault events n fault)
     → judged.races < 2 ^ 64 → status ≡ (if judged.races == 0 then 0 else 3) → HasToldAll form judged old new status
-told_all form judged groups fault old new status is lists finds small gives asked said told h =
+told_all form judged groups fault count old new status count_is is lists finds small gives asked said told h =
     let naming = naming_of judged.names in
-    let more = group_lines form naming groups ++ (fault_line naming fault ++ counts_line naming judged.races (position_of judged.detector)) in
-    let position = taken-position asked.sought _ _ judged.detector (h.taken []) in
+    let more = group_lines form naming groups ++ (fault_line naming fault ++ counts_line naming judged.races count) in
+    let position = count_is ∙ taken-position asked.sought _ _ judged.detector (h.taken []) in
     let small_pairs : length h.pairs < 2 ^ 64 = omega (arith, h.counted, small) in
     let all : h.events ++ [] ≡ h.events = append-nil h.events in (
       more,
@@ -202,7 +203,7 @@ told_all form judged groups fault old new status is lists finds small gives aske
         are_groups = lists _ (few asked.group h.pairs small_pairs) h.grouped;
         first_fault = subst (λ es. IsFirstFault es (length h.events) fault) all (finds _ _ (h.looked []));
         text = ap (λ t. t ++ more) h.text ∙ ap (λ n. (if asked.group then [] else race_lines form naming h.pairs)
-            ++ (group_lines form naming groups ++ (fault_line naming fault ++ counts_line naming n (position_of judged.detector)))) h.counted
+            ++ (group_lines form naming groups ++ (fault_line naming fault ++ counts_line naming n count))) h.counted
             ∙ ap (λ n. (if asked.group then [] else race_lines form naming h.pairs)
             ++ (group_lines form naming groups ++ (fault_line naming fault ++ counts_line naming (length h.pairs) n))) position;
         answer = gives ∙ ap (λ n. if n == 0 then 0 else 3) h.counted;
