@@ -158,6 +158,7 @@ pub record IsRacesTaken (rows : List Row) : Type 0 where
   pub file : HasValue (codes "FILE") rows
   pub form : HasValue (codes "as") rows
   pub group : IsFlagOption (codes "group") rows
+  pub sure : IsFlagOption (codes "sure") rows
 
 -- of `why`: a FILE need not be there
 pub record IsWhyTaken (rows : List Row) : Type 0 where

@@ -1,7 +1,8 @@
 -- What comes of the races of a file.
-use Rattle.std.specs.Prelude.{◌≡◌, ◌≢◌, ◌⊎◌, ◌++◌, ℕ, Bool, List, Option, codes, decimal}
+use Rattle.std.specs.Prelude.{◌≡◌, ◌≢◌, ◌⊎◌, ◌++◌, ℕ, List, Option, codes, decimal}
 use Rattle.std.specs.Io.KnownBytes.{Keeps}
 use Rattle.std.specs.declared.io.ErrorKind.{ErrorKind}
+use Rattle.lrc_races_text.specs.declared.asked.Asked.{Asked}
 use Rattle.lrc_races_text.specs.declared.form.Form.{Form}
 use Rattle.lrc_shell_sources.specs.Known.{Held, IsCause, Known}
 use Rattle.lrc_shell_sources.specs.Lines.{IsTold, memory_line, read_line}
@@ -26,8 +27,8 @@ abbrev pub IsNamed : Known → List ℕ → Held → Type 0
 IsNamed known path held = ((path ≡ codes "-") × (held ≡ known.input)) ⊎ ((path ≢ codes "-") × (held ≡ known.files path))
 
 -- What comes of the races of a file, by what `out` and `err` have before and after: it cannot be opened, or it is told as it is read.
-pub data IsRacesPlayed (known : Known) (path : List ℕ) (form : Form) (group : Bool) (out out' err err' : Option (List ℕ)) (status : ℕ) : Type 0 where
+pub data IsRacesPlayed (known : Known) (path : List ℕ) (form : Form) (asked : Asked) (out out' err err' : Option (List ℕ)) (status : ℕ) : Type 0 where
   unopened : (kind : ErrorKind) → path ≢ codes "-" → IsCause (known.files path) kind → IsTold err err' (read_line kind) → Keeps out out'
-      → status ≡ 1 → IsRacesPlayed known path form group out out' err err' status
-  told : (held : Held) (outcome : Outcome) → IsNamed known path held → Comes form group held out out' outcome
-      → IsConcluded outcome err err' status → IsRacesPlayed known path form group out out' err err' status
+      → status ≡ 1 → IsRacesPlayed known path form asked out out' err err' status
+  told : (held : Held) (outcome : Outcome) → IsNamed known path held → Comes form asked held out out' outcome
+      → IsConcluded outcome err err' status → IsRacesPlayed known path form asked out out' err err' status

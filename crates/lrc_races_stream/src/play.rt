@@ -9,6 +9,7 @@ ghost use Rattle.lrc_shell_sources.specs.Lines.{IsTold, memory_line};
 
 use crate::outcome::Outcome;
 use crate::teller::tell_races;
+use lrc_races_text::asked::Asked;
 use lrc_races_text::form::Form;
 use lrc_shell_sources::blocks::Blocks;
 use lrc_shell_sources::refusal::{FAULT, refuse_file, refuse_memory, refuse_read, tell_line};
@@ -17,24 +18,24 @@ use std::alloc::{AllocError, Global};
 use std::io::Write;
 
 /// Reports the races of the trace in a file, in this form, while it is read, and returns the exit status. The path `-`
-/// is standard input. The races go to `out`, by groups if asked, and a fault goes to `err`.
+/// is standard input. The races that are asked for go to `out`, and a fault goes to `err`.
 pub fn play_races<F: Sources, W: Write, E: Write>(
     alloc: Global,
     path: &str,
     form: Form,
-    group: bool,
+    asked: Asked,
     sources: &F,
     out: &mut W,
     err: &mut E,
 ) -> u8
-    ensures { IsRacesPlayed (F.known sources.now) path.now form group
+    ensures { IsRacesPlayed (F.known sources.now) path.now form asked
         (W.contents out.old) (W.contents out.new) (E.contents err.old) (E.contents err.new) result }
 {
     if path == "-" {
-        return play_trace(alloc, form, group, sources.open_input(), out, err);
+        return play_trace(alloc, form, asked, sources.open_input(), out, err);
     }
     match sources.open(path) {
-        Ok(trace) => play_trace(alloc, form, group, trace, out, err),
+        Ok(trace) => play_trace(alloc, form, asked, trace, out, err),
         Err(error) => refuse_file(&error, err),
     }
 }
@@ -43,17 +44,17 @@ pub fn play_races<F: Sources, W: Write, E: Write>(
 fn play_trace<B: Blocks + Drop, W: Write, E: Write>(
     alloc: Global,
     form: Form,
-    group: bool,
+    asked: Asked,
     trace: B,
     out: &mut W,
     err: &mut E,
 ) -> u8
-    ensures { (outcome : AnyOutcome) × Comes form group (B.left trace) (W.contents out.old)
+    ensures { (outcome : AnyOutcome) × Comes form asked (B.left trace) (W.contents out.old)
         (W.contents out.new) outcome
         × IsConcluded outcome (E.contents err.old) (E.contents err.new) result }
 {
     let mut trace = trace;
-    let outcome = tell_races(alloc, form, group, &mut trace, out);
+    let outcome = tell_races(alloc, form, asked, &mut trace, out);
     conclude(alloc, outcome, err)
 }
 

@@ -10,104 +10,32 @@ use Rattle.lrc_races_trace.specs.declared.event.Operation.TheVariants as Op
 use Rattle.lrc_races_trace.specs.declared.group.Group.{Group}
 use Rattle.lrc_races_trace.specs.declared.fault.Fault.{Fault as IllFormed}
 use Rattle.lrc_races_trace.specs.Trace.{At, Accesses}
-use Rattle.lrc_races_trace.specs.Races.{Races, IsTold, AreTold, AreToldAt}
+use Rattle.lrc_races_trace.specs.Races.{IsTold}
 use Rattle.lrc_races_trace.specs.Formed.{IsFirstFault}
 use Rattle.lrc_races_trace.specs.Groups.{AreGroups}
-use Rattle.lrc_races_trace.proofs.Positions.{At-within, At-one}
-use Rattle.lrc_races_trace.proofs.Prefix.{At-longer, At-shorter, longer, shorter}
+use Rattle.lrc_races_trace.proofs.Positions.{At-one}
 use Rattle.lrc_races_detector.specs.declared.groups.Groups.{Groups}
-use Rattle.lrc_races_detector.specs.Detecting.{HasTaken, AreToldBefore}
 use Rattle.lrc_races_detector.specs.Finding.{HasLooked}
 use Rattle.lrc_races_detector.specs.Grouping.{AreGrouped}
-use Rattle.lrc_races_detector.proofs.Collecting.{told-more, told-all}
 use Rattle.lrc_races_lines.specs.declared.line.Kind.{Kind}
+use Rattle.lrc_races_text.specs.declared.asked.Asked.{Asked}
+use Rattle.lrc_races_text.specs.declared.asked.Sought.{Sought}
+use Rattle.lrc_races_text.specs.declared.asked.Sought.TheVariants.{AllRaces, SureRaces}
 use Rattle.lrc_races_text.specs.declared.form.Form.{Form}
 use Rattle.lrc_races_text.specs.declared.judged.Judged.{Judged}
+use Rattle.lrc_races_text.specs.declared.race_detector.RaceDetector.{RaceDetector}
+use Rattle.lrc_races_text.specs.declared.race_detector.RaceDetector.TheVariants.{All, Sure}
 use Rattle.lrc_races_text.specs.Says.{Said}
+use Rattle.lrc_races_text.specs.Sought.{AreSought, AreSoughtAt}
+use Rattle.lrc_races_text.specs.Detecting.{HasTaken, position_of}
 use Rattle.lrc_races_text.specs.Naming.{Numbers, Naming, IsNaming, IsOperation, IsLocated, IsEvent, AreEvents, no_events, event_more}
 use Rattle.lrc_races_text.specs.Naming.{read, write, acquire, release, post, wait, fork, join, arrive, depart, idle}
 use Rattle.lrc_races_text.specs.Tables.{naming_of, MentionsAll}
 use Rattle.lrc_races_text.specs.Spelled.{name_at, variable_of, place_name, together, access_parts, race_line, race_lines, group_lines, fault_line, counts_line, variable_word}
 use Rattle.lrc_races_text.specs.Told.{IsToldOf}
 use Rattle.lrc_races_text.specs.Judged.{HasJudged, HasJudgedOne, HasToldAll, IsTelling}
+use Rattle.lrc_races_text.proofs.SoughtLemmas.{sought-push, sought-nothing, sought-told}
 use Rattle.lrc_races_text.proofs.NamingLemmas.{Keeps, KeepsAll, keeps_names, keeps_events, events_push, naming_more, nothing_named, slice_get-next}
-
--- ---- what is told stays told
-
-module _ (events more : List Event) where
-  races-longer : {i j : ℕ} → Races events i j → Races (events ++ more) i j
-  races-longer {j = j} r =
-      let within = At-within r.second in
-      record {
-        a = r.a;
-        b = r.b;
-        earlier = r.earlier;
-        first = At-longer more r.first;
-        second = At-longer more r.second;
-        conflict = r.conflict;
-        unordered = λ h. r.unordered (shorter events more within h);
-      }
-
-  races-shorter : {i j : ℕ} → j < length events → Races (events ++ more) i j → Races events i j
-  races-shorter {i = i} {j = j} within r =
-      let earlier = r.earlier in
-      let first : i < length events = omega arith in
-      record {
-        a = r.a;
-        b = r.b;
-        earlier = r.earlier;
-        first = At-shorter more first r.first;
-        second = At-shorter more within r.second;
-        conflict = r.conflict;
-        unordered = λ h. r.unordered (longer events more h);
-      }
-
-  told-longer : (pair : Pair) → IsTold events pair → IsTold (events ++ more) pair
-  told-longer pair t =
-      let within = At-within t.second in
-      record {
-        first = At-longer more t.first;
-        second = At-longer more t.second;
-        races = races-longer t.races;
-        last = λ k c at of r.
-            let earlier = r.earlier in
-            let first : k < length events = omega arith in
-            t.last k c (At-shorter more first at) of (races-shorter within r);
-      }
-
-  told-shorter : (pair : Pair) → pair.later.position < length events → IsTold (events ++ more) pair → IsTold events pair
-  told-shorter pair within t =
-      let earlier = t.races.earlier in
-      let first : pair.earlier.position < length events = omega arith in
-      record {
-        first = At-shorter more first t.first;
-        second = At-shorter more within t.second;
-        races = races-shorter within t.races;
-        last = λ k c at of r. t.last k c (At-longer more at) of (races-longer r);
-      }
-
-  pub told-before : (pairs : List Pair) → AreTold events pairs → AreToldBefore (events ++ more) (length events) pairs
-  told-before pairs t = record {
-    in_order = t.in_order;
-    exact = λ pair. (
-      λ there. let told = (t.exact pair).0 there in let within = At-within told.second in (told-longer pair told, within),
-      λ (told, within). (t.exact pair).1 (told-shorter pair within told),
-    );
-  }
-
--- what is told of one event more
-pub told-push : (events : List Event) (event : Event) (pairs others : List Pair) → AreTold events pairs
-    → AreToldAt (events ++ event ∷ []) (length events) others → AreTold (events ++ event ∷ []) (pairs ++ others)
-told-push events event pairs others t at =
-    let long = length-append events (event ∷ []) in
-    told-all (events ++ event ∷ []) (length events + 1) (pairs ++ others) (omega arith)
-    (told-more (events ++ event ∷ []) (length events) pairs others (told-before events (event ∷ []) pairs t) at)
-
-pub told-nothing : AreTold [] []
-told-nothing = record {
-  in_order = λ i j d lt within. absurd (omega arith);
-  exact = λ pair. (λ (k, lt, is). absurd (omega arith), λ told. let within = At-within told.second in absurd (omega arith));
-}
 
 -- ---- lines stay
 
@@ -178,8 +106,8 @@ module _ (form : Form) {before after : Naming} {said : List Said} {events : List
       let rest = same_lines_of pairs (λ p (at, lt, is). told p (suc at, omega arith, is)) in
       ap (λ t. t ++ race_lines form before pairs) first ∙ ap (λ t. race_line form after pair ++ t) rest
 
-  pub same_lines : (pairs : List Pair) → AreTold events pairs → race_lines form before pairs ≡ race_lines form after pairs
-  same_lines pairs t = same_lines_of pairs (λ pair there. (t.exact pair).0 there)
+  pub same_lines : (sought : Sought) (pairs : List Pair) → AreSought sought events pairs → race_lines form before pairs ≡ race_lines form after pairs
+  same_lines sought pairs t = same_lines_of pairs (sought-told sought events pairs t)
 
 -- ---- one event more
 
@@ -189,40 +117,47 @@ shown-append : (form : Form) (group : Bool) (naming : Naming) (xs ys : List Pair
 shown-append form true naming xs ys = refl
 shown-append form false naming xs ys = sym (flat_map-append (race_line form naming) xs ys)
 
-shown-same : (form : Form) (group : Bool) {before after : Naming} {said : List Said} {events : List Event} (pairs : List Pair) → KeepsAll before after
-    → AreEvents before said events → AreTold events pairs
+shown-same : (form : Form) (sought : Sought) (group : Bool) {before after : Naming} {said : List Said} {events : List Event} (pairs : List Pair)
+    → KeepsAll before after → AreEvents before said events → AreSought sought events pairs
     → (if group then [] else race_lines form before pairs) ≡ (if group then [] else race_lines form after pairs)
-shown-same form true pairs k are t = refl
-shown-same form false pairs k are t = same_lines form k are pairs t
+shown-same form sought true pairs k are t = refl
+shown-same form sought false pairs k are t = same_lines form k are sought pairs t
 
-module _ {form : Form} {group : Bool} (before after : Judged) (one : Said) (event : Event) (old new : List ℕ)
+-- the detector counts the events
+taken-position : (sought : Sought) (events : List Event) (n : ℕ) (detector : RaceDetector) → HasTaken sought events n detector → position_of detector ≡ n
+taken-position AllRaces events n (All detector) h = h.position
+taken-position AllRaces events n (Sure detector) h = absurd h
+taken-position SureRaces events n (All detector) h = absurd h
+taken-position SureRaces events n (Sure detector) h = h.position
+
+module _ {form : Form} {asked : Asked} (before after : Judged) (one : Said) (event : Event) (old new : List ℕ)
     (mentioned : MentionsAll one.saying (naming_of before.names) (naming_of after.names)) (is : IsEvent (naming_of after.names) one event)
-    (small : before.detector.position + 1 < 2 ^ 64)
-    (detects : (events : List Event) (n : ℕ) → At events n event → HasTaken events n before.detector
-    → HasTaken events (n + 1) after.detector × AreToldAt events n after.told.items)
+    (small : position_of before.detector + 1 < 2 ^ 64)
+    (detects : (sought : Sought) (events : List Event) (n : ℕ) → At events n event → HasTaken sought events n before.detector
+    → HasTaken sought events (n + 1) after.detector × AreSoughtAt sought events n after.told.items)
     (looks : (events : List Event) (n : ℕ) → n + 1 < 2 ^ 64 → At events n event → HasLooked events n before.finder → HasLooked events (n + 1) after.finder)
     (races : after.races ≡ before.races + length after.told.items)
-    (tells : IsTelling form group (naming_of after.names) after.told.items before.groups after.groups old new) where
-  pub judged_one : HasJudgedOne form group one before old after new
+    (tells : IsTelling form asked.group (naming_of after.names) after.told.items before.groups after.groups old new) where
+  pub judged_one : HasJudgedOne form asked one before old after new
   judged_one said told h =
       let k = keeps_names mentioned in
       let events = h.events in
       let next = events ++ event ∷ [] in
-      let position = (h.taken []).position in
+      let position = taken-position asked.sought _ _ before.detector (h.taken []) in
       let long = length-append events (event ∷ []) in
       let at : (more : List Event) → At (events ++ event ∷ more) (length events) event = λ more. record { is = slice_get-next events event more } in
-      let both = λ (more : List Event). detects (events ++ event ∷ more) (length events) (at more) (h.taken (event ∷ more)) in
+      let both = λ (more : List Event). detects asked.sought (events ++ event ∷ more) (length events) (at more) (h.taken (event ∷ more)) in
       let small_here : length events + 1 < 2 ^ 64 = omega (arith, position, small) in
       let longer_by : length events + 1 ≡ length next = omega (arith, long) in
-      let are_told = told-push events event h.pairs after.told.items h.are_told (both []).1 in (
-        (if group then [] else race_lines form (naming_of after.names) after.told.items),
+      let are_told = sought-push asked.sought events event h.pairs after.told.items h.are_told (both []).1 in (
+        (if asked.group then [] else race_lines form (naming_of after.names) after.told.items),
         tells.text,
         record {
           naming = naming_more one h.naming mentioned;
           events = next;
           are = events_push (keeps_events k h.are) is;
-          taken = λ more. subst (λ n. HasTaken (next ++ more) n after.detector) longer_by
-              (subst (λ es. HasTaken es (length events + 1) after.detector) (sym (append_assoc events (event ∷ []) more)) (both more).0);
+          taken = λ more. subst (λ n. HasTaken asked.sought (next ++ more) n after.detector) longer_by
+              (subst (λ es. HasTaken asked.sought es (length events + 1) after.detector) (sym (append_assoc events (event ∷ []) more)) (both more).0);
           looked = λ more. subst (λ n. HasLooked (next ++ more) n after.finder) longer_by
               (subst (λ es. HasLooked es (length events + 1) after.finder) (sym (append_assoc events (event ∷ []) more))
               (looks (events ++ event ∷ more) (length events) small_here (at more) (h.looked (event ∷ more))));
@@ -230,9 +165,9 @@ module _ {form : Form} {group : Bool} (before after : Judged) (one : Said) (even
           are_told = are_told;
           counted = races ∙ ap (λ n. n + length after.told.items) h.counted ∙ sym (length-append h.pairs after.told.items);
           grouped = tells.grouped h.pairs h.grouped;
-          text = ap (λ t. t ++ (if group then [] else race_lines form (naming_of after.names) after.told.items))
-              (h.text ∙ shown-same form group h.pairs k h.are h.are_told)
-              ∙ shown-append form group (naming_of after.names) h.pairs after.told.items;
+          text = ap (λ t. t ++ (if asked.group then [] else race_lines form (naming_of after.names) after.told.items))
+              (h.text ∙ shown-same form asked.sought asked.group h.pairs k h.are h.are_told)
+              ∙ shown-append form asked.group (naming_of after.names) h.pairs after.told.items;
         },
       )
 
@@ -242,16 +177,17 @@ few : (group : Bool) (pairs : List Pair) → length pairs < 2 ^ 64 → length (i
 few true pairs small = small
 few false pairs small = omega arith
 
-pub told_all : (form : Form) (judged : Judged) (groups : List Group) (fault : Option IllFormed) (old new : List ℕ) (status : ℕ)
+pub told_all : (form : Form) (judged : Judged) (groups : List Group) (fault : Option IllFormed) (count : ℕ) (old new : List ℕ)
+    (status : ℕ) → count ≡ position_of judged.detector
     → new ≡ old ++ (group_lines form (naming_of judged.names) groups ++ (fault_line (naming_of judged.names) fault
-    ++ counts_line (naming_of judged.names) judged.races judged.detector.position))
+    ++ counts_line (naming_of judged.names) judged.races count))
     → ((pairs : List Pair) → length pairs < 2 ^ 64 → AreGrouped pairs judged.groups → AreGroups pairs groups)
     → ((events : List Event) (n : ℕ) → HasLooked events n judged.finder → IsFirstFault events n fault)
     → judged.races < 2 ^ 64 → status ≡ (if judged.races == 0 then 0 else 3) → HasToldAll form judged old new status
-told_all form judged groups fault old new status is lists finds small gives group said told h =
+told_all form judged groups fault count old new status count_is is lists finds small gives asked said told h =
     let naming = naming_of judged.names in
-    let more = group_lines form naming groups ++ (fault_line naming fault ++ counts_line naming judged.races judged.detector.position) in
-    let position = (h.taken []).position in
+    let more = group_lines form naming groups ++ (fault_line naming fault ++ counts_line naming judged.races count) in
+    let position = count_is ∙ taken-position asked.sought _ _ judged.detector (h.taken []) in
     let small_pairs : length h.pairs < 2 ^ 64 = omega (arith, h.counted, small) in
     let all : h.events ++ [] ≡ h.events = append-nil h.events in (
       more,
@@ -264,19 +200,19 @@ told_all form judged groups fault old new status is lists finds small gives grou
         fault = fault;
         trace = record { names = h.naming; numbered = h.are };
         are_told = h.are_told;
-        are_groups = lists _ (few group h.pairs small_pairs) h.grouped;
+        are_groups = lists _ (few asked.group h.pairs small_pairs) h.grouped;
         first_fault = subst (λ es. IsFirstFault es (length h.events) fault) all (finds _ _ (h.looked []));
-        text = ap (λ t. t ++ more) h.text ∙ ap (λ n. (if group then [] else race_lines form naming h.pairs)
-            ++ (group_lines form naming groups ++ (fault_line naming fault ++ counts_line naming n judged.detector.position))) h.counted
-            ∙ ap (λ n. (if group then [] else race_lines form naming h.pairs)
+        text = ap (λ t. t ++ more) h.text ∙ ap (λ n. (if asked.group then [] else race_lines form naming h.pairs)
+            ++ (group_lines form naming groups ++ (fault_line naming fault ++ counts_line naming n count))) h.counted
+            ∙ ap (λ n. (if asked.group then [] else race_lines form naming h.pairs)
             ++ (group_lines form naming groups ++ (fault_line naming fault ++ counts_line naming (length h.pairs) n))) position;
         answer = gives ∙ ap (λ n. if n == 0 then 0 else 3) h.counted;
       },
     )
 
 -- what is judged is told
-pub told_of : {form : Form} {group : Bool} {said : List Said} {told : List ℕ} {judged : Judged} → HasJudged form group said told judged
-    → IsToldOf form group said told
+pub told_of : {form : Form} {asked : Asked} {said : List Said} {told : List ℕ} {judged : Judged} → HasJudged form asked said told judged
+    → IsToldOf form asked said told
 told_of {judged = judged} h = record {
   naming = naming_of judged.names;
   events = h.events;
@@ -287,11 +223,11 @@ told_of {judged = judged} h = record {
 }
 
 -- before any event
-pub judged_none : (form : Form) (group : Bool) (judged : Judged)
+pub judged_none : (form : Form) (sought : Sought) (group : Bool) (judged : Judged)
     → naming_of judged.names ≡ record { threads = []; variables = []; locks = []; barriers = []; locations = [] }
-    → ((events : List Event) → HasTaken events 0 judged.detector) → ((events : List Event) → HasLooked events 0 judged.finder)
-    → AreGrouped [] judged.groups → judged.races ≡ 0 → HasJudged form group [] [] judged
-judged_none form group judged names taken looked grouped races = record {
+    → ((events : List Event) → HasTaken sought events 0 judged.detector) → ((events : List Event) → HasLooked events 0 judged.finder)
+    → AreGrouped [] judged.groups → judged.races ≡ 0 → HasJudged form (record { sought = sought; group = group }) [] [] judged
+judged_none form sought group judged names taken looked grouped races = record {
   naming = subst (λ n. IsNaming [] n) (sym names) (record {
     threads = nothing_named;
     variables = nothing_named;
@@ -304,7 +240,7 @@ judged_none form group judged names taken looked grouped races = record {
   taken = taken;
   looked = looked;
   pairs = [];
-  are_told = told-nothing;
+  are_told = sought-nothing sought;
   counted = races;
   grouped = no_pairs group;
   text = no_text group;

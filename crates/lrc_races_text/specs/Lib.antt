@@ -1,5 +1,7 @@
 pub mod Acts
 pub mod Says
+pub mod Sought
+pub mod Detecting
 pub mod Naming
 pub mod Tables
 pub mod Spelled

@@ -6,11 +6,12 @@ ghost use Rattle.lrc_races_text.specs.declared.form.Form.{Form as AnyForm};
 ghost use Rattle.lrc_races_text.specs.Tables.{naming_of};
 ghost use Rattle.lrc_races_text.specs.Judged.{HasJudged, HasJudgedOne, HasToldAll, IsTelling};
 
+use crate::asked::{Asked, Sought};
 use crate::fault::Fault;
 use crate::form::Form;
 use crate::naming::Names;
+use crate::race_detector::RaceDetector;
 use crate::spelling::{push_end, push_pairs};
-use lrc_races_detector::detector::Detector;
 use lrc_races_detector::fault_finder::FaultFinder;
 use lrc_races_detector::groups::Groups;
 use lrc_races_lines::line::Named;
@@ -21,7 +22,7 @@ use std::alloc::{AllocError, Global};
 #[derive(Drop)]
 pub struct Judged {
     pub names: Names,
-    pub detector: Detector,
+    pub detector: RaceDetector,
     pub finder: FaultFinder,
     pub groups: Groups,
     /// How many pairs were reported.
@@ -69,12 +70,13 @@ fn sum(one: u64, other: u64) -> Result<u64, Fault>
 
 impl Judged {
     /// Creates the state before any event.
-    pub fn new(alloc: Global) -> Judged
-        ensures { (form : AnyForm) (group : Bool) → HasJudged form group [] [] result }
+    pub fn new(alloc: Global, sought: Sought) -> Judged
+        ensures { (form : AnyForm) (group : Bool)
+            → HasJudged form (record { sought = sought; group = group }) [] [] result }
     {
         Judged {
             names: Names::new(alloc),
-            detector: Detector::new(alloc),
+            detector: RaceDetector::new(alloc, sought),
             finder: FaultFinder::new(alloc),
             groups: Groups::new(alloc),
             races: 0,
@@ -88,18 +90,18 @@ impl Judged {
     pub fn take(
         &mut self,
         form: Form,
-        group: bool,
+        asked: Asked,
         named: Named<'_>,
         line: u64,
         out: &mut Vec<u8>,
     ) -> Result<(), Fault>
-        ensures ok { OnOk result (HasJudgedOne form group
+        ensures ok { OnOk result (HasJudgedOne form asked
             (record { line = line; saying = saying_of named.entry }) self.old out.old.items self.new
             out.new.items) }
         ensures err { OnErr result (out.new.items ≡ out.old.items) }
         ensures memory { IfErr result (λ fault. fault ≡ NoMemory) }
     {
-        if self.detector.position >= u64::MAX - 1 {
+        if self.detector.position() >= u64::MAX - 1 {
             return Err(Fault::NoMemory);
         }
         let event = self.names.event(named, line)?;
@@ -111,7 +113,7 @@ impl Judged {
             &mut self.text,
             out,
             form,
-            group,
+            asked.group,
             &self.names,
             self.told.as_slice(),
         )?;
@@ -133,7 +135,7 @@ impl Judged {
             self.groups.list(),
             self.finder.fault(),
             races,
-            self.detector.position,
+            self.detector.position(),
         )?;
         out.extend_from_slice(self.text.as_slice())?;
         Ok(if races == 0 { 0 } else { 3 })

@@ -3,9 +3,11 @@
 #![tactic(auto)]
 
 pub mod acts;
+pub mod asked;
 pub mod fault;
 pub mod form;
 pub mod judged;
 pub mod naming;
+pub mod race_detector;
 pub mod session;
 pub mod spelling;

@@ -5,6 +5,7 @@ ghost use Rattle.lrc_races_text.specs.Session.{ReadsIn, HasTakenLine, HasComplet
 ghost use Rattle.lrc_races_text.specs.Session.{HasRead, HasGoneOn, IsStoppedAt, HasEnded, HasFailed, IsNext, FailsLine};
 
 use crate::acts::read_act;
+use crate::asked::Asked;
 use crate::fault::Fault;
 use crate::form::Form;
 use crate::judged::Judged;
@@ -19,7 +20,7 @@ const LONGEST_LINE: usize = 4096;
 #[derive(Drop)]
 pub struct Session {
     form: Form,
-    group: bool,
+    asked: Asked,
     judged: Judged,
     /// How many complete lines have come.
     lines: u64,
@@ -41,32 +42,32 @@ fn read(form: Form, line: &[u8]) -> Line<'_>
 fn take_line(
     judged: &mut Judged,
     form: Form,
-    group: bool,
+    asked: Asked,
     line: &[u8],
     number: u64,
     out: &mut Vec<u8>,
 ) -> Result<(), Fault>
-    ensures ok { OnOk result (HasTakenLine form group line.now number judged.old out.old.items
+    ensures ok { OnOk result (HasTakenLine form asked line.now number judged.old out.old.items
         judged.new out.new.items) }
     ensures kept { OnErr result (out.new.items ≡ out.old.items) }
     ensures bad { IfErr result (FailsLine form line.now number) }
 {
     match read(form, line) {
         Line::Nothing => Ok(()),
-        Line::Event(named) => judged.take(form, group, named, number, out),
+        Line::Event(named) => judged.take(form, asked, named, number, out),
         Line::Bad => Err(Fault::BadEvent(number)),
     }
 }
 
 impl Session {
     /// Creates a session before any byte. It allocates nothing.
-    pub fn new(alloc: Global, form: Form, group: bool) -> Session
-        ensures { HasRead form group [] [] result }
+    pub fn new(alloc: Global, form: Form, asked: Asked) -> Session
+        ensures { HasRead form asked [] [] result }
     {
         Session {
             form,
-            group,
-            judged: Judged::new(alloc),
+            asked,
+            judged: Judged::new(alloc, asked.sought),
             lines: 0,
             rest: Vec::new(alloc),
         }
@@ -104,7 +105,7 @@ impl Session {
     {
         let number = self.next()?;
         let line = self.rest.as_slice();
-        take_line(&mut self.judged, self.form, self.group, line, number, out)?;
+        take_line(&mut self.judged, self.form, self.asked, line, number, out)?;
         self.rest.clear();
         self.lines = number;
         Ok(())
@@ -119,7 +120,7 @@ impl Session {
         ensures bad { IfErr result (IsBadLine self.old line.now) }
     {
         let number = self.next()?;
-        take_line(&mut self.judged, self.form, self.group, line, number, out)?;
+        take_line(&mut self.judged, self.form, self.asked, line, number, out)?;
         self.lines = number;
         Ok(())
     }
