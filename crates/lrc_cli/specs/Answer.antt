@@ -8,8 +8,9 @@ use Rattle.lrc_lang.specs.Tree.{program_of}
 use Rattle.lrc_lang.specs.declared.program.Program.{Program}
 use Rattle.lrc_trace.specs.declared.act.Act.{Act}
 use Rattle.lrc_text.specs.Parts.{whole_text}
-use Rattle.lrc_explore.specs.Answers.{FitsSettledNoted}
+use Rattle.lrc_explore.specs.Answers.{FitsSettled, FitsSettledNoted}
 use Rattle.lrc_explore_text.specs.Explored.{Explores, MeetsFew, MeetsTooMany}
+use Rattle.lrc_explore_text.specs.Orders.{TellsFindings}
 use Rattle.lrc_explore_text.specs.OutcomeRun.{HasFewerOutcomes, TellsNumberedRun}
 use Rattle.lrc_labels.specs.Reading.{Label}
 use Rattle.lrc_judge_text.specs.Judgement.{Judges}
@@ -91,10 +92,17 @@ abbrev pub ShowsLazyRun : Exploring → Program → (places : List ℕ) → (num
 ShowsLazyRun exploring program places number out status = TellsNumberedLazyRun program exploring.nodes.count places number out × (status ≡ 0)
     × FitLazyRuns program exploring.nodes.count exploring.most.count
 
--- of one flat memory: of the outcome that is asked for, or of every order
-abbrev pub IsFlatAnswer : Option OutcomeNumber → Exploring → List Label → Program → (places : List ℕ) → List ℕ → ℕ → Type 0
-IsFlatAnswer (Some outcome) exploring labels program places out status = ShowsOutcome exploring program places outcome.number out status
-IsFlatAnswer None exploring labels program places out status = ShowsOrders exploring labels program places out status
+-- the text and the status are what is said of stuck orders and of traps, whether or not an order races, and the search met no more states
+-- than it may
+abbrev pub ShowsFindings : Exploring → List Label → Program → (places : List ℕ) → List ℕ → ℕ → Type 0
+ShowsFindings exploring labels program places out status = TellsFindings labels program exploring.nodes.count places out status
+    × FitsSettled program exploring.nodes.count exploring.most.count
+
+-- of one flat memory: of the outcome that is asked for, of every order but for races where they are ignored, or of every order
+abbrev pub IsFlatAnswer : Option OutcomeNumber → (ignores_races : Bool) → Exploring → List Label → Program → (places : List ℕ) → List ℕ → ℕ → Type 0
+IsFlatAnswer (Some outcome) ignores_races exploring labels program places out status = ShowsOutcome exploring program places outcome.number out status
+IsFlatAnswer None true exploring labels program places out status = ShowsFindings exploring labels program places out status
+IsFlatAnswer None false exploring labels program places out status = ShowsOrders exploring labels program places out status
 
 -- of any memory that keeps lazy reading: of the outcome that is asked for, of all outcomes, or else of every order, since races are the same
 abbrev pub IsLazyAnswer : Option OutcomeNumber → (outcomes : Bool) → Exploring → List Label → Program → (places : List ℕ) → List ℕ → ℕ → Type 0
@@ -104,7 +112,8 @@ IsLazyAnswer None false exploring labels program places out status = ShowsOrders
 
 -- of the memory that is asked for
 abbrev pub IsAnswerTo : Memory → Exploring → List Label → Program → (places : List ℕ) → List ℕ → ℕ → Type 0
-IsAnswerTo Flat exploring labels program places out status = IsFlatAnswer exploring.outcome exploring labels program places out status
+IsAnswerTo Flat exploring labels program places out status =
+    IsFlatAnswer exploring.outcome exploring.ignores_races exploring labels program places out status
 IsAnswerTo Lazy exploring labels program places out status =
     IsLazyAnswer exploring.outcome exploring.outcomes exploring labels program places out status
 
@@ -202,10 +211,17 @@ HasLazyRunFault exploring program number (TooManyStates most) = (most ≡ explor
 HasLazyRunFault exploring program number NoMemory = Unit {0}
 HasLazyRunFault exploring program number _ = ⊥
 
+-- of one that looks for no race
+abbrev pub HasFindingsFault : Exploring → Program → Fault → Type 0
+HasFindingsFault exploring program (TooManyStates most) = (most ≡ exploring.most.count) × MeetsTooMany program exploring.nodes.count most false
+HasFindingsFault exploring program NoMemory = Unit {0}
+HasFindingsFault exploring program _ = ⊥
+
 -- by what is asked for
-abbrev pub IsFlatFault : Option OutcomeNumber → Exploring → Program → Fault → Type 0
-IsFlatFault (Some outcome) exploring program fault = HasOutcomeFault exploring program outcome.number fault
-IsFlatFault None exploring program fault = HasOrdersFault exploring program fault
+abbrev pub IsFlatFault : Option OutcomeNumber → (ignores_races : Bool) → Exploring → Program → Fault → Type 0
+IsFlatFault (Some outcome) ignores_races exploring program fault = HasOutcomeFault exploring program outcome.number fault
+IsFlatFault None true exploring program fault = HasFindingsFault exploring program fault
+IsFlatFault None false exploring program fault = HasOrdersFault exploring program fault
 
 abbrev pub IsLazyFault : Option OutcomeNumber → (outcomes : Bool) → Exploring → Program → Fault → Type 0
 IsLazyFault (Some outcome) outcomes exploring program fault = HasLazyRunFault exploring program outcome.number fault
@@ -214,7 +230,7 @@ IsLazyFault None false exploring program fault = HasOrdersFault exploring progra
 
 -- the fault of a search through the runs of the memory that is asked for
 abbrev pub IsFaultIn : Memory → Exploring → Program → Fault → Type 0
-IsFaultIn Flat exploring program fault = IsFlatFault exploring.outcome exploring program fault
+IsFaultIn Flat exploring program fault = IsFlatFault exploring.outcome exploring.ignores_races exploring program fault
 IsFaultIn Lazy exploring program fault = IsLazyFault exploring.outcome exploring.outcomes exploring program fault
 
 abbrev pub IsSearchFault : Exploring → Program → Fault → Type 0

@@ -254,8 +254,11 @@ explore_keyed = (
             (
               record { own = refl; acts = inl (refl, lit< tt) },
               (
-                record { own = refl; acts = inr (inr refl) },
-                tt,
+                record { own = refl; acts = inr (inl (refl, lit< tt)) },
+                (
+                  record { own = refl; acts = inr (inr refl) },
+                  tt,
+                ),
               ),
             ),
           ),
@@ -475,6 +478,7 @@ explore_taken words none =
       outcomes = flag_taken explore_built rows level (codes "outcomes") refl;
       outcome = bare_taken explore_built rows level (codes "outcome") refl;
       tries = bare_taken explore_built rows level (codes "tries") refl;
+      races = flag_taken explore_built rows level (codes "ignore-races") refl;
     }
 
 lint_taken : (words : List Text) → level_fault lint_built [] nothing_held words false [] ≡ [] → HasValue (codes "FILE") (rows_after lint_built.rules [] words)

@@ -29,11 +29,11 @@ use Rattle.lrc_cli_args.specs.declared.choice.Topic.{Topic}
 use Rattle.lrc_cli_args.specs.declared.choice.Topic.TheVariants.{Commands, Command, Version}
 use Rattle.lrc_cli_args.specs.declared.choice.Way.{Way}
 use Rattle.lrc_cli_args.specs.declared.misfit.Misfit.{Misfit}
-use Rattle.lrc_cli_args.specs.declared.misfit.Misfit.TheVariants.{Order, RunOrder, Page, Form as FormMisfit, Seed, Threads, Messages, Part as PartMisfit, Memory as MemoryMisfit, Tries as TriesMisfit, Topic as TopicMisfit, TraceForm, Hide, TextSource, SameAct, Sources, NoSource, RunOption, ChartRunOption, Number}
+use Rattle.lrc_cli_args.specs.declared.misfit.Misfit.TheVariants.{Order, RunOrder, Page, Form as FormMisfit, Seed, Threads, Messages, Part as PartMisfit, Memory as MemoryMisfit, Tries as TriesMisfit, IgnoredRaces, Topic as TopicMisfit, TraceForm, Hide, TextSource, SameAct, Sources, NoSource, RunOption, ChartRunOption, Number}
 use Rattle.lrc_cli_words.specs.Commands.{is_command, treadmarks}
 use Rattle.lrc_cli_args.specs.Options.{AreChartedActs, AreForeignActs, AreOptions, AreRunOptions, HasBadCount, HasBadExploreNumber, HasChartedActsMisfit, HasForeignMisfit, HasFormMisfitIn, HasOptionsMisfit, HasRacesMisfit, HasValue, HasWayMisfitIn, IsAsking, IsChartTaken, IsHiding}
 use Rattle.lrc_cli_args.specs.Options.{IsExploreTaken, IsFlag, IsFormIn, IsJudgeTaken, IsMemory, IsPart, IsPicker, IsPlainTaken, IsRacesTaken, IsRunTaken, IsShowingTaken, IsStepTaken}
-use Rattle.lrc_cli_args.specs.Options.{IsSimTaken, IsThreadsWayIn, IsTraceForm, IsTraceTaken, IsWayIn, IsWhyTaken, most_in, nodes_in, option_number, outcome_in, some_number_in, takes_tries, tries_in}
+use Rattle.lrc_cli_args.specs.Options.{asks_outcomes, IsSimTaken, IsThreadsWayIn, IsTraceForm, IsTraceTaken, IsWayIn, IsWhyTaken, most_in, nodes_in, option_number, outcome_in, some_number_in, takes_tries, tries_in}
 
 -- no words at all stand for `sim -`
 abbrev pub words_meant : List Text → List Text
@@ -132,6 +132,8 @@ pub record IsExploring (rows : List Row) (exploring : Exploring) : Type 0 where
   pub outcome : outcome_in rows ≡ option_map (λ outcome. outcome.number) exploring.outcome
   pub tries : tries_in rows ≡ option_map (λ tries. tries.count) exploring.tries
   pub apart : IsSome (tries_in rows) → takes_tries exploring.memory exploring.outcomes (outcome_in rows) ≡ true
+  pub ignores : IsFlag (codes "ignore-races") exploring.ignores_races rows
+  pub plainly : exploring.ignores_races ≡ true → asks_outcomes exploring.outcomes (outcome_in rows) rows ≡ false
 
 -- a chart of a run
 pub record IsRunChart (rows : List Row) (run : RunChoice) (charting : Charting) : Type 0 where
@@ -242,13 +244,19 @@ HasJudgeMisfit rows misfit = (misfit ≡ Number) × IsSomeAnd (some_number_in (c
 abbrev pub AreSought : List Row → Memory → (outcomes : Bool) → Type 0
 AreSought rows memory outcomes = IsMemory (first_of (codes "memory") rows) memory × IsFlag (codes "outcomes") outcomes rows
 
--- Of `explore`: the memory; then runs at random that are asked for and may not be; then numbers.
+-- Of `explore`: the memory; then runs at random that are asked for and may not be; then races that are to be ignored and may not be; then
+-- numbers.
 pub record HasExploreMisfit (rows : List Row) (misfit : Misfit) : Type 0 where
   pub why : ((misfit ≡ MemoryMisfit) × ((memory : Memory) → ¬ IsMemory (first_of (codes "memory") rows) memory))
       ⊎ ((misfit ≡ TriesMisfit) × (memory : Memory) × (outcomes : Bool) × AreSought rows memory outcomes × IsSome (tries_in rows)
       × (takes_tries memory outcomes (outcome_in rows) ≡ false))
+      ⊎ ((misfit ≡ IgnoredRaces) × (memory : Memory) × (outcomes : Bool) × AreSought rows memory outcomes
+      × (IsSome (tries_in rows) → takes_tries memory outcomes (outcome_in rows) ≡ true) × IsFlag (codes "ignore-races") true rows
+      × (asks_outcomes outcomes (outcome_in rows) rows ≡ true))
       ⊎ ((misfit ≡ Number) × (memory : Memory) × (outcomes : Bool) × AreSought rows memory outcomes
-      × (IsSome (tries_in rows) → takes_tries memory outcomes (outcome_in rows) ≡ true) × HasBadExploreNumber rows)
+      × (IsSome (tries_in rows) → takes_tries memory outcomes (outcome_in rows) ≡ true)
+      × ((ignores : Bool) × IsFlag (codes "ignore-races") ignores rows × (ignores ≡ true → asks_outcomes outcomes (outcome_in rows) rows ≡ false))
+      × HasBadExploreNumber rows)
 
 -- what does not fit in what clap found of a command that shows something of a run
 abbrev pub HasShowMisfit : Text × List Row → Misfit → Type 0
@@ -304,6 +312,7 @@ IsUsageKind Messages kind = kind ≡ ArgumentConflict
 IsUsageKind PartMisfit kind = kind ≡ ArgumentConflict
 IsUsageKind MemoryMisfit kind = kind ≡ InvalidValue
 IsUsageKind TriesMisfit kind = kind ≡ ArgumentConflict
+IsUsageKind IgnoredRaces kind = kind ≡ ArgumentConflict
 IsUsageKind TopicMisfit kind = kind ≡ InvalidSubcommand
 IsUsageKind TraceForm kind = kind ≡ InvalidValue
 IsUsageKind Hide kind = kind ≡ InvalidValue

@@ -1,5 +1,5 @@
 -- What the options of a command say, by the matches that clap made of its words.
-use Rattle.std.specs.Prelude.{◌≡◌, ◌≢◌, ◌⊎◌, ℕ, Bool, false, true, List, [], ◌∷◌, Option, None, Some, IfSome, IsSome, IsSomeAnd, codes, if◌then◌else◌, option_map, unwrap_or, ◌&&◌}
+use Rattle.std.specs.Prelude.{◌≡◌, ◌≢◌, ◌⊎◌, ℕ, Bool, false, true, List, [], ◌∷◌, Option, None, Some, IfSome, IsSome, IsSomeAnd, codes, if◌then◌else◌, option_map, is_some, unwrap_or, ◌&&◌, ◌||◌}
 use Rattle.std.specs.Int.{IsOutOfRange}
 use Rattle.std.specs.List.{list_any}
 use Rattle.std.specs.Option.{is_none, option_map_or}
@@ -152,6 +152,7 @@ pub record IsExploreTaken (rows : List Row) : Type 0 where
   pub outcomes : IsFlagOption (codes "outcomes") rows
   pub outcome : IsBareNumber (codes "outcome") rows
   pub tries : IsBareNumber (codes "tries") rows
+  pub races : IsFlagOption (codes "ignore-races") rows
 
 -- of `races`
 pub record IsRacesTaken (rows : List Row) : Type 0 where
@@ -303,6 +304,10 @@ pub record IsAsking (rows : List Row) (asking : Asking) : Type 0 where
   pub act : option_number (codes "act") rows ≡ asking.act
   pub other : some_number_in (codes "and") rows ≡ asking.other
   pub differ : asking.other ≢ Some asking.act
+
+-- outcomes are asked for, or a memory is named: so races are not ignored
+abbrev pub asks_outcomes : (outcomes : Bool) → (outcome : Option ℕ) → List Row → Bool
+asks_outcomes outcomes outcome rows = outcomes || is_some outcome || is_given (codes "memory") rows
 
 -- the words give an option that only a run of the nodes has
 abbrev pub has_run_option : List Row → Bool

@@ -185,6 +185,9 @@ pub struct Exploring<'w> {
     /// The number of runs in random orders that are searched for the listed outcomes, if any. It comes only with the
     /// list of lazy outcomes.
     pub tries: Option<Tries>,
+    /// Whether no race is looked for, so that programs that race are searched for stuck orders and traps too. It does not
+    /// come with outcomes, nor where a memory is named.
+    pub ignores_races: bool,
 }
 
 /// The form of a trace that is searched for races.

@@ -3,13 +3,15 @@
 ghost use Rattle.std.specs.Prelude.{◌≡◌, IfErr, IfOk, Some, codes};
 ghost use Rattle.clap.specs.Words.{found_of, rows_of};
 ghost use Rattle.lrc_cli_args.specs.CommandLine.{HasExploreMisfit, IsChoice};
-ghost use Rattle.lrc_cli_args.specs.Options.{IsExploreTaken, IsMemory, takes_tries};
+ghost use Rattle.lrc_cli_args.specs.Options.{IsExploreTaken, IsMemory, asks_outcomes, takes_tries};
 ghost use Rattle.lrc_cli_args.specs.declared.choice.Memory.{Memory as AnyMemory};
 ghost use Rattle.lrc_cli_args.specs.declared.misfit.Misfit.TheVariants as unfit;
 
 use crate::choice::{Choice, Exploring, Memory};
 use crate::misfit::Misfit;
-use crate::reading::{is_named, most_of, nodes_of, outcome_of, some_number_of, text_of, tries_of};
+use crate::reading::{
+    is_given, is_named, most_of, nodes_of, outcome_of, some_number_of, text_of, tries_of,
+};
 use clap::ArgMatches;
 
 /// The choice of `explore`.
@@ -25,6 +27,10 @@ pub(crate) fn explore_choice<'w>(options: &ArgMatches<'w>) -> Result<Choice<'w>,
     if tries.is_some() && !takes_tries(memory, outcomes, outcome) {
         return Err(Misfit::Tries);
     }
+    let ignores_races = is_named(options, "ignore-races");
+    if ignores_races && asks_outcomes(options, outcomes, outcome) {
+        return Err(Misfit::IgnoredRaces);
+    }
     Ok(Choice::Explore(Exploring {
         file: text_of(options, "FILE"),
         nodes: nodes_of(options)?,
@@ -33,7 +39,15 @@ pub(crate) fn explore_choice<'w>(options: &ArgMatches<'w>) -> Result<Choice<'w>,
         outcomes,
         outcome: outcome_of(options)?,
         tries: tries_of(options)?,
+        ignores_races,
     }))
+}
+
+// Whether outcomes are asked for, or a memory is named.
+fn asks_outcomes(options: &ArgMatches<'_>, outcomes: bool, outcome: Option<u64>) -> bool
+    ensures { result ≡ asks_outcomes outcomes outcome (rows_of (found_of options.now)) }
+{
+    outcomes || outcome.is_some() || is_given(options, "memory")
 }
 
 fn memory_named(word: &str) -> Result<Memory, Misfit>

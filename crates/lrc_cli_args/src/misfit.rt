@@ -35,6 +35,9 @@ const BAD_MEMORY: &str = "invalid value for '--memory <MEMORY>': it is flat or l
 const BAD_TRIES: &str =
     "the argument '--tries <T>' is of '--memory lazy --outcomes' alone, and not of '--outcome <K>'";
 
+const BAD_IGNORED_RACES: &str =
+    "the argument '--ignore-races' cannot be used with '--outcomes', '--outcome <K>' or '--memory <MEMORY>'";
+
 const BAD_TOPIC: &str = "invalid value for '[COMMAND]': it is none of the commands";
 
 const BAD_HIDE: &str = "invalid value for '--hide <WHAT>': it is quiet";
@@ -78,6 +81,8 @@ pub(crate) enum Misfit {
     Memory,
     /// Runs in random orders are asked for without the list of lazy outcomes.
     Tries,
+    /// Races are to be ignored, but outcomes are asked for or a memory is named.
+    IgnoredRaces,
     /// Help is asked for on a word that is not a command.
     Topic,
     /// The value of `--as` in the command `races` is not one of its words.
@@ -138,6 +143,7 @@ fn usage_kind(misfit: Misfit) -> ErrorKind
         | Misfit::Messages
         | Misfit::Part
         | Misfit::Tries
+        | Misfit::IgnoredRaces
         | Misfit::TextSource
         | Misfit::SameAct
         | Misfit::Sources
@@ -161,6 +167,7 @@ fn message_of(misfit: Misfit) -> &'static str {
         Misfit::Part => BAD_PART,
         Misfit::Memory => BAD_MEMORY,
         Misfit::Tries => BAD_TRIES,
+        Misfit::IgnoredRaces => BAD_IGNORED_RACES,
         Misfit::Topic => BAD_TOPIC,
         Misfit::TraceForm => BAD_TRACE_FORM,
         Misfit::Hide => BAD_HIDE,

@@ -106,8 +106,8 @@ abbrev pub judge_command : App
 judge_command = with_rule (with_rule (with_rule (new_app (codes "judge")) file) (bare_number (codes "nodes"))) (flag_option (codes "pairs"))
 
 abbrev pub explore_command : App
-explore_command = with_rule (with_rule (with_rule (with_rule (with_rule (with_rule (with_rule (new_app (codes "explore")) file) nodes) most) memory)
-    (flag_option (codes "outcomes"))) (bare_number (codes "outcome"))) (bare_number (codes "tries"))
+explore_command = with_rule (with_rule (with_rule (with_rule (with_rule (with_rule (with_rule (with_rule (new_app (codes "explore")) file) nodes) most)
+    memory) (flag_option (codes "outcomes"))) (bare_number (codes "outcome"))) (bare_number (codes "tries"))) (flag_option (codes "ignore-races"))
 
 -- a FILE need not be given where there is a file of acts, and an act has to be
 abbrev pub optional_file : Rule

@@ -78,6 +78,9 @@ const MOST_HELP: &str = "How many states the search may meet: 1 to 100000000";
 
 const OUTCOMES_HELP: &str = "Shows every outcome of the runs, and looks for no race";
 
+const IGNORE_RACES_HELP: &str =
+    "Looks for no race, and tells of any program whether an order gets stuck and whether a node traps in one";
+
 const OUTCOME_HELP: &str =
     "Shows the acts of a run that has the outcome of this number in the list of `--outcomes`, counted from 1, in place of the list";
 
@@ -122,7 +125,8 @@ const STATUSES: &str = "Exit status:
   2  a fault of the words, or `--help` or `--version`. `number out of range` says that a number is not in the range that the help of
      its command gives
   3  a race was found
-  4  no race, and a node trapped or is unfinished (judge: the acts are of no run; explore: some order gets stuck)";
+  4  no race, and a node trapped or is unfinished (judge: the acts are of no run; explore: some order gets stuck
+     or traps)";
 
 // The names of the commands.
 static COMMANDS: [&str; 16] = [
@@ -354,7 +358,7 @@ fn explore_command<'w>(alloc: Global) -> Result<Command<'w>, AllocError>
     ensures local { IfOk result (λ command. (fields_of command).has_globals ≡ false) }
 {
     let command = Command::new(alloc, "explore").about(
-        "Looks at every order in which the nodes may make their acts, for a race and for nodes that get stuck",
+        "Looks at every order in which the nodes may make their acts, for a race, for nodes that get stuck and for traps",
     );
     let command = taking(Ok(command), file(alloc, FILE_HELP));
     let command = taking(command, nodes(alloc));
@@ -362,7 +366,11 @@ fn explore_command<'w>(alloc: Global) -> Result<Command<'w>, AllocError>
     let command = taking(command, memory(alloc));
     let command = taking(command, flag_option(alloc, "outcomes", OUTCOMES_HELP));
     let command = taking(command, bare_number(alloc, "outcome", "K", OUTCOME_HELP));
-    taking(command, bare_number(alloc, "tries", "T", TRIES_HELP))
+    let command = taking(command, bare_number(alloc, "tries", "T", TRIES_HELP));
+    taking(
+        command,
+        flag_option(alloc, "ignore-races", IGNORE_RACES_HELP),
+    )
 }
 
 fn why_command<'w>(alloc: Global) -> Result<Command<'w>, AllocError>

@@ -1,49 +1,48 @@
 -- What is answered.
 use Rattle.std.proofs.Common.{◌≡◌, ℕ, Bool, List, [], ◌∷◌, ◌++◌, sym, ◌∙◌, subst, append-nil}
-use Rattle.std.specs.Prelude.{Some, None, Result, Ok, Err, OnOk}
+use Rattle.std.specs.Prelude.{Some, true, Result, Ok, Err, OnOk}
 use Rattle.lrc_lang.specs.declared.program.Program.{Program}
 use Rattle.lrc_trace.specs.declared.act.Act.{Act}
 use Rattle.lrc_exec.specs.Spots.{IsFlatOf}
 use Rattle.lrc_consistency_laws.specs.Follows.{nodes_of_acts}
-use Rattle.lrc_consistency_laws.specs.Racing.{HasNoRace}
 use Rattle.lrc_orders.specs.declared.search.ExploreFault.{ExploreFault}
 use Rattle.lrc_orders.specs.Meeting.{Meet}
 use Rattle.lrc_orders.specs.Stuck.{GetsStuck, IsStuck}
-use Rattle.lrc_orders.specs.Verdict.{EndsInRace, NeverStuck}
+use Rattle.lrc_orders.specs.Traps.{NodeTraps}
+use Rattle.lrc_orders.specs.Verdict.{EndsInRace}
 use Rattle.lrc_orders.proofs.Searching.{copy_same}
 use Rattle.lrc_orders_table.proofs.RowLaws.{row_copy}
 use Rattle.lrc_orders_laws.proofs.Settled.{ends_in_race}
 use Rattle.lrc_explore.specs.declared.task.Task.{Task}
 use Rattle.lrc_explore.specs.declared.task.Found.{Found}
-use Rattle.lrc_explore.specs.declared.task.End.TheVariants.{Meeting, Through}
-use Rattle.lrc_explore.specs.Answers.{IsEnd, IsFault, IsFaultOf, looked_at}
-use Rattle.lrc_explore.specs.Reached.{AreFound, HasStart, IsTask}
+use Rattle.lrc_explore.specs.declared.task.End.TheVariants.{Meeting}
+use Rattle.lrc_explore.specs.Answers.{IsEnd, IsFault, IsFaultOf, IsStuckFirst, looked_at}
+use Rattle.lrc_explore.specs.Reached.{AreFound, IsTask}
+use Rattle.lrc_explore.specs.Traps.{LeadIntoTrap}
 use Rattle.lrc_explore.specs.Told.{LeadTo}
 use Rattle.lrc_orders_live.proofs.Like.{like_back, meet_like}
-use Rattle.lrc_explore.proofs.Reaching.{gets_stuck, never_stuck, no_race}
+use Rattle.lrc_explore.proofs.Reaching.{gets_stuck}
+use Rattle.lrc_explore.proofs.Trapping.{node_traps}
 
 pub race_answer : (task : Task) (found : Found) (place p q : ℕ) (acts : List Act) (order : List ℕ) → LeadTo task found place acts
-    → IsEnd task found (Meeting place p q) → order ≡ nodes_of_acts acts ++ p ∷ q ∷ [] → EndsInRace task.program.now task.flat.nodes order
+    → IsEnd task found true (Meeting place p q) → order ≡ nodes_of_acts acts ++ p ∷ q ∷ [] → EndsInRace task.program.now task.flat.nodes order
 race_answer task found place p q acts order led end is =
     let same = copy_same task.flat end.0.state led.key.state (row_copy found.table.rows place end.0 led.key end.1 led.there).state in
     let meet = meet_like (like_back led.alike) p q (subst (λ m. Meet m p q) same end.2) in
     subst (EndsInRace task.program.now task.flat.nodes) (sym is) (ends_in_race task.program.now task.flat.nodes acts led.machine p q led.led meet)
 
-pub stuck_answer : (task : Task) (found : Found) (place : ℕ) (acts : List Act) (order : List ℕ) → AreFound task found → HasStart task found.table.rows
-    → LeadTo task found place acts → IsEnd task found (Through (Some place)) → order ≡ nodes_of_acts acts ++ []
-    → HasNoRace task.program.now task.flat.nodes × GetsStuck task.program.now task.flat.nodes order
-stuck_answer task found place acts order f start led end is =
-    let key = end.2.0 in
-    let same = copy_same task.flat key.state led.key.state (row_copy found.table.rows place key led.key end.2.1 led.there).state in (
-      no_race task found.table.rows f.reached start end.1 end.0,
-      subst (GetsStuck task.program.now task.flat.nodes) (sym (is ∙ append-nil (nodes_of_acts acts)))
-          (gets_stuck task led.key (f.reached.each place led.key led.there) acts led.machine led.led led.alike (subst IsStuck same end.2.2)),
-    )
+pub stuck_answer : (task : Task) (found : Found) (place : ℕ) (acts : List Act) (order : List ℕ) → AreFound task found → LeadTo task found place acts
+    → IsStuckFirst task found.table.rows (Some place) → order ≡ nodes_of_acts acts ++ [] → GetsStuck task.program.now task.flat.nodes order
+stuck_answer task found place acts order f led first is =
+    let key = first.0 in
+    let same = copy_same task.flat key.state led.key.state (row_copy found.table.rows place key led.key first.1 led.there).state in
+    subst (GetsStuck task.program.now task.flat.nodes) (sym (is ∙ append-nil (nodes_of_acts acts)))
+    (gets_stuck task led.key (f.reached.each place led.key led.there) acts led.machine led.led led.alike (subst IsStuck same first.2))
 
-pub free_answer : (task : Task) (found : Found) → AreFound task found → HasStart task found.table.rows → IsEnd task found (Through None)
-    → HasNoRace task.program.now task.flat.nodes × NeverStuck task.program.now task.flat.nodes
-free_answer task found f start end =
-    (no_race task found.table.rows f.reached start end.1 end.0, never_stuck task found.table.rows f.reached start end.1 end.2)
+pub trap_answer : (task : Task) (acts : List Act) (order : List ℕ) → LeadIntoTrap task acts → order ≡ nodes_of_acts acts ++ []
+    → NodeTraps task.program.now task.flat.nodes order
+trap_answer task acts order led is =
+    subst (NodeTraps task.program.now task.flat.nodes) (sym (is ∙ append-nil (nodes_of_acts acts))) (node_traps task acts led)
 
 pub fault_of_task : (task : Task) (program : Program) (nodes most : ℕ) (noting : Bool) (fault : ExploreFault) → IsTask task → task.program.now ≡ program
     → IsFlatOf program nodes task.flat task.start → task.most ≡ most → task.looked ≡ looked_at most → task.noting ≡ noting → IsFault task fault

@@ -306,7 +306,7 @@ expanded_copy task all copy key c h step acts after takes =
     }
 
 -- past the nodes there is none that takes a step
-no_node : (task : Task) (state : State) (node : ℕ) → length state.spots.items ≤ node → CannotTake task state (Alone node)
+pub no_node : (task : Task) (state : State) (node : ℕ) → length state.spots.items ≤ node → CannotTake task state (Alone node)
 no_node task state node past acts after (alone machine mid _ _ deed more kind step settles) =
     let within = step_within (plain_at task.flat state) node (deed, mid) step in
     omega (arith, past, within, length-map state.spots.items (spot_thread task.flat))

@@ -2,6 +2,7 @@ pub mod Reaching
 pub mod MeansOf
 pub mod Keys
 pub mod Stepping
+pub mod Trapping
 pub mod Seeking
 pub mod Telling
 pub mod Answering

@@ -34,6 +34,7 @@ module _ (a b : Means) (flat : a.flat ≡ b.flat) (live : a.live.now ≡ b.live.
     so = subst (λ f. SettlesSo f is.spot asked.value is.settled) flat is.so;
     kept = subst (λ l. slice_get keys after.thread ≡ Some (forgot l is.settled.spot)) live is.kept;
     deeds = is.deeds;
+    traps = is.traps;
   }
 
   pub table_by : (table : Table) → IsTable a table → IsTable b table

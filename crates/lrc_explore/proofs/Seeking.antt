@@ -1,8 +1,7 @@
 -- A search that goes through what was found.
-use Rattle.std.proofs.Common.{◌≡◌, ℕ, ◌+◌, ◌<◌, ◌≤◌, List, [], true, inl, inr, refl, sym, ◌∙◌, subst, arith}
-use Rattle.std.specs.Prelude.{◌↔◌, All, Option, Some, None}
-use Rattle.std.specs.Option.{option_or}
-use Rattle.std.proofs.lemmas.Bool.{cases_eq}
+use Rattle.std.proofs.Common.{◌≡◌, ℕ, ◌+◌, ◌<◌, ◌≤◌, List, [], Bool, true, false, inl, inr, refl, sym, ◌∙◌, subst, arith}
+use Rattle.std.specs.Prelude.{◌↔◌, All, IsTrue, MatchOption, Option, Some, None}
+use Rattle.std.proofs.lemmas.Bool.{cases_eq, true≢false}
 use Rattle.lrc_trace.specs.declared.act.Act.{Act}
 use Rattle.lrc_orders.specs.declared.noted.Noted.{Noted}
 use Rattle.lrc_orders_table.specs.declared.rows.Rows.{Rows}
@@ -14,11 +13,11 @@ use Rattle.lrc_orders_table.specs.Rows.{IsRowAt, WidensRows, row_count}
 use Rattle.lrc_orders.specs.Outcome.{HasOutcome, IsOutcome}
 use Rattle.lrc_exec.specs.States.{machine_begun, plain_at}
 use Rattle.lrc_orders.specs.Stuck.{IsAtRest, IsStuck}
-use Rattle.lrc_orders.proofs.Keeping.{stands_on}
+use Rattle.lrc_orders.proofs.Keeping.{grows_not, stands_on}
 use Rattle.lrc_orders.proofs.Searching.{copy_same}
 use Rattle.lrc_orders.proofs.Stores.{before, listed, listed_apart}
 use Rattle.lrc_orders.proofs.Ways.{IsNotedCopy}
-use Rattle.lrc_orders_table.proofs.RowLaws.{row_copy, row_grown, row_store, row_within}
+use Rattle.lrc_orders_table.proofs.RowLaws.{row_copy, row_grown, row_store, row_within, rows_not}
 use Rattle.lrc_orders_table.proofs.RowsApart.{row_apart}
 use Rattle.lrc_exec.specs.declared.spot.Spot.{Spot}
 use Rattle.lrc_exec.specs.declared.state.State.{State}
@@ -32,7 +31,12 @@ use Rattle.lrc_orders_laws.proofs.Settled.{outcomes}
 use Rattle.lrc_explore.specs.declared.task.Task.{Task}
 use Rattle.lrc_explore.specs.declared.task.Found.{Found}
 use Rattle.lrc_explore.specs.Reached.{AreCalm, AreExpanded, AreFound, AreNowhereStuck, AreReached, HasStart, IsExpanded, IsMore, IsReached, IsTask}
-use Rattle.lrc_explore.specs.Answers.{AddsOnly, AreGathered, AreSound, HasMoreSettled, IsFault, IsLongFault, starts_long, settles_long, has_more, IsGathered, IsGatheredAt, IsSeen, IsStuckFirst}
+use Rattle.lrc_explore.specs.Answers.{AddsOnly, AreGathered, AreSound, HasMoreSettled, IsFault, IsLongFault, starts_long, settles_long, has_more, IsGathered, IsGatheredAt, IsSeen, IsStuckFirst, IsThrough, first_stuck}
+use Rattle.lrc_explore.specs.Traps.{IsStepTrap, IsTrapSoFar, ShowsStartTrap, first_trap, start_trap}
+use Rattle.lrc_explore.specs.declared.task.Trapping.{Trapping}
+use Rattle.lrc_explore.specs.declared.task.Trapping.TheVariants as trapping
+use Rattle.lrc_orders_settling.specs.declared.step.Step.{Step}
+use Rattle.lrc_orders_settling.specs.Taking.{Takes}
 use Rattle.lrc_orders_live.specs.Live.{forgot}
 use Rattle.lrc_orders_live.proofs.Like.{like_back, rest_like}
 use Rattle.lrc_orders_table.proofs.Forgotten.{threads_of_row}
@@ -56,41 +60,60 @@ IsStuckSoFar task all index None = AreNowhereStuck task all index
 IsStuckSoFar task all index (Some place) =
     (key : Noted) × IsRowAt all place key × IsStuck (plain_at task.flat key.state) × AreNowhereStuck task all place
 
-pub record Seeking (task : Task) (first now : Found) (place : ℕ) (stuck : Option ℕ) : Type 0 where
+pub record Seeking (task : Task) (first now : Found) (place : ℕ) (races : Bool) (stuck : Option ℕ) (trap : Option Trapping) : Type 0 where
   pub found : AreFound task now
   pub more : IsMore first now
-  pub calm : AreCalm task now.table.rows place
+  pub calm : races ≡ true → AreCalm task now.table.rows place
   pub expanded : AreExpanded task now.table.rows place
   pub halted : IsStuckSoFar task now.table.rows place stuck
+  pub traps : IsTrapSoFar task now.table.rows place trap
 
-module _ (task : Task) (first old new : Found) (place : ℕ) (stuck : Option ℕ) (s : Seeking task first old place stuck) (f : AreFound task new)
-    (m : IsMore old new) (within : place < row_count old.table.rows) where
+start_so_far : (task : Task) (all : Rows) (start : Bool) → ShowsStartTrap task start → IsTrapSoFar task all 0 (start_trap start)
+start_so_far task all true s = s.made refl
+start_so_far task all false s = record { start = s.each; steps = λ k key lt at. absurd (omega (arith, lt)) }
+
+pub seeking_first : (task : Task) (first : Found) (races start : Bool) → AreFound task first → ShowsStartTrap task start
+    → Seeking task first first 0 races None (start_trap start)
+seeking_first task first races start f s = record {
+  found = f;
+  more = record { rows = rows_not first.table.rows; origins = grows_not first.origins.items first.origins.items refl };
+  calm = λ e k key lt at. absurd (omega (arith, lt));
+  expanded = λ k lt key at. absurd (omega (arith, lt));
+  halted = λ k key lt at. absurd (omega (arith, lt));
+  traps = start_so_far task first.table.rows start s;
+}
+
+module _ (task : Task) (first old new : Found) (place : ℕ) (races : Bool) (stuck : Option ℕ) (trap : Option Trapping)
+    (s : Seeking task first old place races stuck trap) (f : AreFound task new) (m : IsMore old new) (within : place < row_count old.table.rows)
+    (halts : Bool) (step : Option Step) (seen : IsSeen task new place races halts step) where
   old_at : (k : ℕ) (key : Noted) → k < place → IsRowAt new.table.rows k key → IsRowAt old.table.rows k key
   old_at k key lt at = was_there old.table.rows new.table.rows k key m.rows s.found.reached.full (omega (arith, lt, within)) at
 
-  pub expanded_on : AreExpanded task new.table.rows place
+  expanded_on : AreExpanded task new.table.rows place
   expanded_on k lt key at = expanded_grown task old.table.rows new.table.rows key m.rows (s.expanded k lt key (old_at k key lt at))
 
-  seen_expanded : IsSeen task new place → AreExpanded task new.table.rows (place + 1)
-  seen_expanded seen k lt key at = elim (cases_eq k place) [
+  seen_expanded : AreExpanded task new.table.rows (place + 1)
+  seen_expanded k lt key at = elim (cases_eq k place) [
     | inl same ↦
         expanded_copy task new.table.rows key seen.key
         (row_copy new.table.rows place key seen.key (subst (λ n. IsRowAt new.table.rows n key) same at) seen.there) seen.expanded
     | inr apart ↦ expanded_on k (omega (arith, lt, apart)) key at
   ]
 
-  seen_calm : IsSeen task new place → AreCalm task new.table.rows (place + 1)
-  seen_calm seen k key lt at = elim (cases_eq k place) [
-    | inl same ↦
-        subst IsCalm (same_plain task new.table.rows place seen.key key seen.there (subst (λ n. IsRowAt new.table.rows n key) same at)) seen.calm
-    | inr apart ↦ s.calm k key (omega (arith, lt, apart)) (old_at k key (omega (arith, lt, apart)) at)
+  -- what stands at the place is what was seen there
+  same_seen : (k : ℕ) (key : Noted) → k ≡ place → IsRowAt new.table.rows k key → plain_at task.flat key.state ≡ plain_at task.flat seen.key.state
+  same_seen k key same at = same_plain task new.table.rows place key seen.key (subst (λ n. IsRowAt new.table.rows n key) same at) seen.there
+
+  seen_calm : races ≡ true → AreCalm task new.table.rows (place + 1)
+  seen_calm looked k key lt at = elim (cases_eq k place) [
+    | inl same ↦ subst IsCalm (sym (same_seen k key same at)) (seen.calm looked)
+    | inr apart ↦ s.calm looked k key (omega (arith, lt, apart)) (old_at k key (omega (arith, lt, apart)) at)
   ]
 
-  nowhere_on : (seen : IsSeen task new place) → (IsStuck (plain_at task.flat seen.key.state) → ⊥) → AreNowhereStuck task old.table.rows place
+  nowhere_on : (IsStuck (plain_at task.flat seen.key.state) → ⊥) → AreNowhereStuck task old.table.rows place
       → AreNowhereStuck task new.table.rows (place + 1)
-  nowhere_on seen never nowhere k key lt at = elim (cases_eq k place) [
-    | inl same ↦ λ halted.
-        never (subst IsStuck (same_plain task new.table.rows place key seen.key (subst (λ n. IsRowAt new.table.rows n key) same at) seen.there) halted)
+  nowhere_on never nowhere k key lt at = elim (cases_eq k place) [
+    | inl same ↦ λ halted. never (subst IsStuck (same_seen k key same at) halted)
     | inr apart ↦ nowhere k key (omega (arith, lt, apart)) (old_at k key (omega (arith, lt, apart)) at)
   ]
 
@@ -105,38 +128,58 @@ module _ (task : Task) (first old new : Found) (place : ℕ) (stuck : Option ℕ
         is.3 k key lt (was_there old.table.rows new.table.rows k key m.rows s.found.reached.full (omega (arith, lt, here)) there),
   )
 
-  past_on : (seen : IsSeen task new place) → (IsStuck (plain_at task.flat seen.key.state) → ⊥) → (o : Option ℕ) → IsStuckSoFar task old.table.rows place o
-      → IsStuckSoFar task new.table.rows (place + 1) o
-  past_on seen never None nowhere = nowhere_on seen never nowhere
-  past_on seen never (Some at) is = still_first at is
+  stuck_on : (o : Option ℕ) (b : Bool) → (IsTrue b ↔ IsStuck (plain_at task.flat seen.key.state)) → IsStuckSoFar task old.table.rows place o
+      → IsStuckSoFar task new.table.rows (place + 1) (first_stuck o b place)
+  stuck_on (Some at) b h is = still_first at is
+  stuck_on None true h nowhere = (seen.key, seen.there, h.0 refl, λ k key lt at. nowhere k key lt (old_at k key lt at))
+  stuck_on None false h nowhere = nowhere_on (λ halted. true≢false (sym (h.1 halted))) nowhere
 
-  stuck_on : (seen : IsSeen task new place) → IsStuck (plain_at task.flat seen.key.state) → (o : Option ℕ) → IsStuckSoFar task old.table.rows place o
-      → IsStuckSoFar task new.table.rows (place + 1) (option_or o (Some place))
-  stuck_on seen halted None nowhere = (seen.key, seen.there, halted, λ k key lt at. nowhere k key lt (old_at k key lt at))
-  stuck_on seen halted (Some at) is = still_first at is
-
-  pub seeking_past : (seen : IsSeen task new place) → (IsStuck (plain_at task.flat seen.key.state) → ⊥) → Seeking task first new (place + 1) stuck
-  seeking_past seen never = record {
-    found = f;
-    more = more_again s.more m;
-    calm = seen_calm seen;
-    expanded = seen_expanded seen;
-    halted = past_on seen never stuck s.halted;
+  trap_on : (o : Option Trapping) (t : Option Step) → IsStepTrap task seen.key t → IsTrapSoFar task old.table.rows place o
+      → IsTrapSoFar task new.table.rows (place + 1) (first_trap o t place)
+  trap_on (Some trapping.Start) t is so = so
+  trap_on (Some (trapping.Step origin)) t is so = (so.0, row_grown old.table.rows new.table.rows origin.parent so.0 m.rows so.1, so.2)
+  trap_on None (Some taken) is so = (seen.key, seen.there, is)
+  trap_on None None is so = record {
+    start = so.start;
+    steps = λ k key lt at. elim (cases_eq k place) [
+      | inl same ↦ λ taken acts after takes. is taken acts after (subst (λ m. Takes m taken acts after) (same_seen k key same at) takes)
+      | inr apart ↦ so.steps k key (omega (arith, lt, apart)) (old_at k key (omega (arith, lt, apart)) at)
+    ];
   }
 
-  pub seeking_stuck : (seen : IsSeen task new place) → IsStuck (plain_at task.flat seen.key.state)
-      → Seeking task first new (place + 1) (option_or stuck (Some place))
-  seeking_stuck seen halted = record {
+  pub seeking_on : Seeking task first new (place + 1) races (first_stuck stuck halts place) (first_trap trap step place)
+  seeking_on = record {
     found = f;
     more = more_again s.more m;
-    calm = seen_calm seen;
-    expanded = seen_expanded seen;
-    halted = stuck_on seen halted stuck s.halted;
+    calm = seen_calm;
+    expanded = seen_expanded;
+    halted = stuck_on stuck halts seen.halted s.halted;
+    traps = trap_on trap step seen.traps s.traps;
   }
 
-pub stuck_end : (task : Task) (all : Rows) (index : ℕ) → row_count all ≤ index → (o : Option ℕ) → IsStuckSoFar task all index o → IsStuckFirst task all o
+stuck_end : (task : Task) (all : Rows) (index : ℕ) → row_count all ≤ index → (o : Option ℕ) → IsStuckSoFar task all index o → IsStuckFirst task all o
 stuck_end task all index le None nowhere = λ k key lt at. nowhere k key (omega (arith, lt, le)) at
 stuck_end task all index le (Some place) is = is
+
+trap_end : (task : Task) (all : Rows) (index : ℕ) → row_count all ≤ index → (o : Option Trapping) → IsTrapSoFar task all index o
+    → IsTrapSoFar task all (row_count all) o
+trap_end task all index le None nowhere = record { start = nowhere.start; steps = λ k key lt at. nowhere.steps k key (omega (arith, lt, le)) at }
+trap_end task all index le (Some there) is = is
+
+pub through : (task : Task) (first now : Found) (place : ℕ) (races : Bool) (stuck : Option ℕ) (trap : Option Trapping)
+    → Seeking task first now place races stuck trap → row_count now.table.rows ≤ place → IsThrough task now races stuck trap
+through task first now place races stuck trap s past = record {
+  calm = λ looked k key lt at. s.calm looked k key (omega (arith, lt, past)) at;
+  expanded = λ k lt key at. s.expanded k (omega (arith, lt, past)) key at;
+  halted = stuck_end task now.table.rows place past stuck s.halted;
+  traps = trap_end task now.table.rows place past trap s.traps;
+}
+
+-- a meeting, where meetings are looked for
+pub meeting_looked : {A : Type 0} (races : Bool) (o : Option A) (C : Type 0) (L M N : A → Type 0) → races ≡ true
+    → MatchOption o C (λ pair. L pair × M pair × N pair) → MatchOption o (races ≡ true → C) (λ pair. (races ≡ true) × M pair)
+meeting_looked races None C L M N looked calm = λ e. calm
+meeting_looked races (Some pair) C L M N looked is = (looked, is.1)
 
 -- ---- for outcomes
 

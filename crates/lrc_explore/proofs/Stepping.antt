@@ -1,9 +1,11 @@
 -- Steps from a row that was found.
 use Rattle.std.proofs.Common.{◌≡◌, ℕ, ◌<◌, refl, sym, ap, ◌∙◌, subst, length, true}
 use Rattle.std.specs.Prelude.{Option, Some, None, MatchOption, Result, Ok, Err, IfErr, IfOk, OnOk, slice_get}
+use Rattle.std.proofs.lemmas.Bool.{true≢false}
 use Rattle.lrc_exec.specs.States.{plain_at, IsStateOf}
 use Rattle.lrc_orders.specs.declared.noted.Noted.{Noted}
 use Rattle.lrc_orders.specs.declared.search.ExploreFault.{ExploreFault}
+use Rattle.lrc_orders.specs.Traps.{has_trap}
 use Rattle.lrc_orders.proofs.Searching.{copy_same}
 use Rattle.lrc_orders.proofs.Stores.{before}
 use Rattle.lrc_orders.proofs.Ways.{IsNotedCopy}
@@ -11,15 +13,18 @@ use Rattle.lrc_orders_laws.specs.Settling.{IsSettled}
 use Rattle.lrc_orders_settling.specs.declared.step.Step.{Step}
 use Rattle.lrc_orders_settling.specs.Taking.{ComputesLong, Takes}
 use Rattle.lrc_orders_live.specs.Like.{TakesLike}
+use Rattle.lrc_orders_live.proofs.Alike.{takes_once}
 use Rattle.lrc_orders_table.specs.declared.rows.Row.{Row}
 use Rattle.lrc_orders_table.specs.Rows.{IsRowAt, WidensRows, row_count}
 use Rattle.lrc_orders_table.proofs.RowLaws.{row_copy, row_grown, row_store, row_within, stands_at}
 use Rattle.lrc_orders_table.specs.declared.known.Means.{Means}
+use Rattle.lrc_orders_table.specs.declared.table.Led.{Led}
 use Rattle.lrc_orders_table.specs.declared.table.Table.{Table}
 use Rattle.lrc_orders_table.specs.Tables.{CannotTakeFrom, IsKnown, IsLongFault as IsLongRowFault, IsRowOf, IsTable, IsTakenFrom, KeepsRows, LeadsToRow}
 use Rattle.lrc_explore.specs.declared.task.Task.{Task}
 use Rattle.lrc_explore.specs.declared.task.Found.{Found}
 use Rattle.lrc_explore.specs.Answers.{IsFault}
+use Rattle.lrc_explore.specs.Traps.{ShowsTrapAt, led_traps}
 use Rattle.lrc_explore.specs.Reached.{AreFound, CannotTakeAt, IsFound, IsMeansOf, IsReached, LeadsTo}
 use Rattle.lrc_explore.proofs.Keys.{from_grown, next_reached}
 use Rattle.lrc_explore.proofs.MeansOf.{means_are, means_of, table_of}
@@ -106,7 +111,7 @@ module _ (task : Task) (means : Means) (old : Found) (new : Table) (place : ℕ)
   at_new : WidensRows old.table.rows new.rows → IsRowAt new.rows place key
   at_new wide = row_grown old.table.rows new.rows place key wide (row_at task old place row f within there)
 
-  leads_on : WidensRows old.table.rows new.rows → (after : Row) → LeadsToRow means new key step after → LeadsTo task new.rows place step after
+  leads_on : WidensRows old.table.rows new.rows → (after : Led) → LeadsToRow means new key step after → LeadsTo task new.rows place step after.row
   leads_on wide after l =
       let takes : TakesLike (plain_at task.flat key.state) step l.acts (plain_at task.flat l.next.state) =
       subst (λ g. TakesLike (plain_at g key.state) step l.acts (plain_at g l.next.state)) is.flat l.takes in
@@ -125,19 +130,45 @@ module _ (task : Task) (means : Means) (old : Found) (new : Table) (place : ℕ)
       let here = subst (λ m. Takes m step acts after) (copy_same task.flat other.state key.state copy.state) takes in
       cannot acts after (subst (λ g. Takes (plain_at g key.state) step acts after) (sym is.flat) here)
 
-  pub taken_on : (r : Result (Option Row) ExploreFault) → OnOk r (KeepsRows old.table new)
+  trap_there : WidensRows old.table.rows new.rows → (led : Led) → LeadsToRow means new key step led → ShowsTrapAt task new.rows place step led.traps
+  trap_there wide led l other at =
+      let copy = row_copy new.rows place other key at (at_new wide) in
+      let same : plain_at task.flat other.state ≡ plain_at means.flat key.state =
+      copy_same task.flat other.state key.state copy.state ∙ ap (λ g. plain_at g key.state) (sym is.flat) in
+      record {
+        each = λ acts after takes.
+            let one = takes_once (subst (λ m. Takes m step acts after) same takes) l.takes.takes in
+            ap has_trap one.0 ∙ sym l.traps;
+        made = λ e. record {
+          acts = l.acts;
+          after = l.takes.there;
+          takes = subst (λ m. Takes m step l.acts l.takes.there) (sym same) l.takes.takes;
+          traps = sym l.traps ∙ e;
+        };
+      }
+
+  pub traps_on : (r : Result (Option Led) ExploreFault) → OnOk r (KeepsRows old.table new)
       → IfOk r (λ o. (x : Noted) → IsTakenFrom means old.table row x → MatchOption o (CannotTakeFrom means x step) (LeadsToRow means new x step))
-      → IfOk r (λ o. MatchOption o (CannotTakeAt task new.rows place step) (LeadsTo task new.rows place step))
+      → IfOk r (λ o. ShowsTrapAt task new.rows place step (led_traps o))
+  traps_on (Ok None) keeps all = λ other at.
+      let cannot = cannot_on keeps.widens (all key (taken_from task old place row f within there means is)) other at in
+      record { each = λ acts after takes. absurd (cannot acts after takes); made = λ e. absurd (true≢false (sym e)) }
+  traps_on (Ok (Some led)) keeps all = trap_there keeps.widens led (all key (taken_from task old place row f within there means is))
+  traps_on (Err fault) keeps all = tt
+
+  pub taken_on : (r : Result (Option Led) ExploreFault) → OnOk r (KeepsRows old.table new)
+      → IfOk r (λ o. (x : Noted) → IsTakenFrom means old.table row x → MatchOption o (CannotTakeFrom means x step) (LeadsToRow means new x step))
+      → IfOk r (λ o. MatchOption o (CannotTakeAt task new.rows place step) (λ led. LeadsTo task new.rows place step led.row))
   taken_on (Ok None) keeps all = cannot_on keeps.widens (all key (taken_from task old place row f within there means is))
   taken_on (Ok (Some after)) keeps all = leads_on keeps.widens after (all key (taken_from task old place row f within there means is))
   taken_on (Err fault) keeps all = tt
 
-  pub found_on : (r : Result (Option Row) ExploreFault) → OnOk r (IsTable means new) → OnOk r (KeepsRows old.table new)
+  pub found_on : (r : Result (Option Led) ExploreFault) → OnOk r (IsTable means new) → OnOk r (KeepsRows old.table new)
       → OnOk r (AreFound task (record { table = new; origins = old.origins }))
   found_on (Ok o) known keeps = let later : Found = record { table = new; origins = old.origins } in found_kept task means old later is f keeps known refl
   found_on (Err fault) known keeps = tt
 
-  pub faults_on : (r : Result (Option Row) ExploreFault)
+  pub faults_on : (r : Result (Option Led) ExploreFault)
       → IfErr r (λ fault. (x : Noted) → IsTakenFrom means old.table row x → IsLongRowFault means x fault) → IfErr r (IsFault task)
   faults_on (Ok o) all = tt
   faults_on (Err fault) all =

@@ -1,5 +1,5 @@
 -- What a search through the settled states answers.
-use Rattle.std.specs.Prelude.{◌≢◌, min, ◌≡◌, ℕ, ◌+◌, ◌-◌, ◌*◌, ◌^◌, ◌<◌, ◌≤◌, ◌⊎◌, Bool, true, All, List, Option, Some, None, Contains, length, slice_get}
+use Rattle.std.specs.Prelude.{◌≢◌, ◌↔◌, IsTrue, min, ◌≡◌, ℕ, ◌+◌, ◌-◌, ◌*◌, ◌^◌, ◌<◌, ◌≤◌, ◌⊎◌, Bool, true, false, All, List, Option, Some, None, Contains, length, slice_get}
 use Rattle.std.specs.List.{IsDistinct}
 use Rattle.lrc_lang.specs.declared.program.Program.{Program}
 use Rattle.lrc_trace.specs.declared.act.Act.{Act}
@@ -18,8 +18,8 @@ use Rattle.lrc_orders.specs.Meeting.{IsCalm, Meet}
 use Rattle.lrc_orders_table.specs.Rows.{IsRowAt, row_count}
 use Rattle.lrc_orders.specs.Notes.{notes_of}
 use Rattle.lrc_exec.specs.States.{plain_at}
-use Rattle.lrc_orders.specs.Stuck.{GetsStuck, IsAtRest, IsStuck}
-use Rattle.lrc_orders.specs.Verdict.{EndsInRace, NeverStuck}
+use Rattle.lrc_orders.specs.Stuck.{IsAtRest, IsStuck}
+use Rattle.lrc_orders.specs.Verdict.{AreFindings, EndsInRace}
 use Rattle.lrc_orders_laws.specs.Steps.{IsSettledOutcome, IsSettledState}
 use Rattle.lrc_orders_settling.specs.Taking.{ComputesLong}
 use Rattle.lrc_explore.specs.declared.task.Task.{Task}
@@ -33,16 +33,18 @@ use Rattle.lrc_orders.specs.declared.outcomes.Outcome.{Outcome}
 use Rattle.lrc_orders.specs.Outcome.{HasOutcome}
 use Rattle.lrc_orders_live.specs.Like.{AreLike}
 use Rattle.lrc_orders_live.specs.Live.{forgot}
-use Rattle.lrc_explore.specs.Reached.{AreCalm, AreExpanded, AreNowhereStuck, IsExpanded, IsReached, IsTask}
+use Rattle.lrc_explore.specs.declared.task.Trapping.{Trapping}
+use Rattle.lrc_orders_settling.specs.declared.step.Step.{Step}
+use Rattle.lrc_explore.specs.Reached.{AreCalm, AreExpanded, AreNowhereStuck, HasStart, IsExpanded, IsReached, IsTask}
+use Rattle.lrc_explore.specs.Traps.{IsStepTrap, IsTrapSoFar}
 
 -- so many free acts are looked at where there may be so many states
 abbrev pub looked_at : ℕ → ℕ
 looked_at most = min (1000000 + min (20 * most) (2 ^ 64 - 1)) (2 ^ 64 - 1)
 
--- no order races; and the order gets stuck, or none does. Or the last two acts of the order race
+-- no order races, and what is found besides is so. Or the last two acts of the order race
 abbrev pub IsAnswer : Program → ℕ → Verdict → Type 0
-IsAnswer program nodes (RaceFree None) = HasNoRace program nodes × NeverStuck program nodes
-IsAnswer program nodes (RaceFree (Some order)) = HasNoRace program nodes × GetsStuck program nodes order.items
+IsAnswer program nodes (RaceFree findings) = HasNoRace program nodes × AreFindings program nodes findings
 IsAnswer program nodes (Racy order) = EndsInRace program nodes order.items
 
 -- from a state like a settled one of the program, the same but for how often nodes have arrived and for private values that nothing
@@ -112,17 +114,29 @@ pub record IsFaultOf (program : Program) (nodes most : ℕ) (noting : Bool) (fau
   pub nodes_in_range : fault ≢ BadNodes
   pub many : fault ≡ TooMany → MetTooMany program nodes most noting
 
--- what was seen at the state at a place
-pub record IsSeen (task : Task) (found : Found) (place : ℕ) : Type 0 where
+-- what was seen at the state at a place, where races may be looked for: whether the program is stuck there, and in which step from it a
+-- node traps first
+pub record IsSeen (task : Task) (found : Found) (place : ℕ) (races stuck : Bool) (trap : Option Step) : Type 0 where
   pub key : Noted
   pub there : IsRowAt found.table.rows place key
-  pub calm : IsCalm (plain_at task.flat key.state)
+  pub calm : races ≡ true → IsCalm (plain_at task.flat key.state)
   pub expanded : IsExpanded task found.table.rows key
+  pub halted : IsTrue stuck ↔ IsStuck (plain_at task.flat key.state)
+  pub traps : IsStepTrap task key trap
 
-abbrev pub IsVisit : Task → Found → (place : ℕ) → Visit → Type 0
-IsVisit task found place (visit.Meeting p q) = (key : Noted) × IsRowAt found.table.rows place key × Meet (plain_at task.flat key.state) p q
-IsVisit task found place visit.Stuck = (seen : IsSeen task found place) × IsStuck (plain_at task.flat seen.key.state)
-IsVisit task found place visit.Past = (seen : IsSeen task found place) × ¬ IsStuck (plain_at task.flat seen.key.state)
+-- two nodes meet at the state at a place, and that is looked for
+abbrev pub MeetAt : Task → Found → (races : Bool) → (place p q : ℕ) → Type 0
+MeetAt task found races place p q = (key : Noted) × IsRowAt found.table.rows place key × Meet (plain_at task.flat key.state) p q × (races ≡ true)
+
+abbrev pub IsVisit : Task → Found → (place : ℕ) → (races : Bool) → Visit → Type 0
+IsVisit task found place races (visit.Meeting p q) = MeetAt task found races place p q
+IsVisit task found place races (visit.Past stuck trap) = IsSeen task found place races stuck trap
+
+-- the first state that is stuck, where that at this place is next
+abbrev pub first_stuck : Option ℕ → (stuck : Bool) → (place : ℕ) → Option ℕ
+first_stuck (Some first) stuck place = Some first
+first_stuck None true place = Some place
+first_stuck None false place = None
 
 -- the outcomes are the program's
 abbrev pub AreSound : Task → List Outcome → Type 0
@@ -150,13 +164,23 @@ IsStuckFirst task all None = AreNowhereStuck task all (row_count all)
 IsStuckFirst task all (Some place) =
     (key : Noted) × IsRowAt all place key × IsStuck (plain_at task.flat key.state) × AreNowhereStuck task all place
 
-abbrev pub IsEnd : Task → Found → End → Type 0
-IsEnd task found (end.Meeting place p q) = (key : Noted) × IsRowAt found.table.rows place key × Meet (plain_at task.flat key.state) p q
-IsEnd task found (end.Through stuck) =
-    AreCalm task found.table.rows (row_count found.table.rows) × AreExpanded task found.table.rows (row_count found.table.rows)
-    × IsStuckFirst task found.table.rows stuck
+-- all settled states were found, from the settled start on
+pub record AreAllExpanded (task : Task) (found : Found) : Type 0 where
+  pub start : HasStart task found.table.rows
+  pub expanded : AreExpanded task found.table.rows (row_count found.table.rows)
+
+-- past all states: no two nodes meet, if that is looked for, and it is said where the program is stuck first, and where a node traps first
+pub record IsThrough (task : Task) (found : Found) (races : Bool) (stuck : Option ℕ) (trap : Option Trapping) : Type 0 where
+  pub calm : races ≡ true → AreCalm task found.table.rows (row_count found.table.rows)
+  pub expanded : AreExpanded task found.table.rows (row_count found.table.rows)
+  pub halted : IsStuckFirst task found.table.rows stuck
+  pub traps : IsTrapSoFar task found.table.rows (row_count found.table.rows) trap
+
+abbrev pub IsEnd : Task → Found → (races : Bool) → End → Type 0
+IsEnd task found races (end.Meeting place p q) = MeetAt task found races place p q
+IsEnd task found races (end.Through stuck trap) = IsThrough task found races stuck trap
 
 -- a search that went past all of its states met no more than it may
 abbrev pub FitsEnd : Task → Found → End → Type 0
 FitsEnd task found (end.Meeting place p q) = Unit {0}
-FitsEnd task found (end.Through stuck) = row_count found.table.rows ≤ task.most
+FitsEnd task found (end.Through stuck trap) = row_count found.table.rows ≤ task.most

@@ -1,4 +1,5 @@
 pub mod Reached
 pub mod Answers
+pub mod Traps
 pub mod Told
 pub mod Ended

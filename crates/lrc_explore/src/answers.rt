@@ -7,24 +7,24 @@ ghost use Rattle.lrc_exec.specs.Spots.{IsFlatOf};
 ghost use Rattle.lrc_consistency_laws.specs.Follows.{nodes_of_acts};
 ghost use Rattle.lrc_orders.specs.Outcome.{HasOutcome, IsOutcome};
 ghost use Rattle.lrc_explore.specs.Answers.{FitsSettled, FitsSettledNoted, IsAnswer, IsFaultOf, MetTooMany, looked_at};
-ghost use Rattle.lrc_orders.specs.Verdict.{FindsNoRace};
+ghost use Rattle.lrc_orders.specs.Verdict.{AreFindings, FindsNoRace};
 ghost use Rattle.lrc_explore.specs.Reached.{IsTask};
 
-use crate::task::{End, Found, Task};
+use crate::task::{End, Found, Task, Trapping};
 use indexmap::IndexSet;
 use lrc_exec::code::Code;
 use lrc_exec::spot::Flat;
 use lrc_lang::program::Program;
 use lrc_orders::outcomes::Outcome;
-use lrc_orders::search::{ExploreFault, Verdict};
+use lrc_orders::search::{ExploreFault, Findings, Verdict};
 use lrc_orders_live::live_names;
 use lrc_trace::act::Act;
 use std::alloc::{AllocError, Global};
 
 /// Searches the settled states of a program on this many nodes. It tells whether an order races, and if none does,
-/// whether one gets stuck. It fails with `BadNodes` exactly if the number of nodes is not 1 to 16. It gives up with
-/// `TooMany` only if there are more states to tell apart than `most`, or if a thread makes 1,000,000 + 20 * `most` free
-/// acts one after another. It fails if memory runs out.
+/// whether one gets stuck and whether a node traps in one. It fails with `BadNodes` exactly if the number of nodes is not
+/// 1 to 16. It gives up with `TooMany` only if there are more states to tell apart than `most`, or if a thread makes
+/// 1,000,000 + 20 * `most` free acts one after another. It fails if memory runs out.
 pub fn explore(
     alloc: Global,
     program: &Program,
@@ -57,6 +57,41 @@ fn explore_code(
     let task = task_of(alloc, code, nodes, most, false)?;
     let mut found = Found::none(alloc, nodes as usize);
     found.answer(alloc, &task)
+}
+
+/// Searches the settled states of a program on this many nodes, whether or not an order races. It tells whether one gets
+/// stuck and whether a node traps in one. It fails as `explore` does.
+pub fn findings(
+    alloc: Global,
+    program: &Program,
+    nodes: u32,
+    most: usize,
+) -> Result<Findings, ExploreFault>
+    ensures findings { IfOk result (AreFindings program.now nodes) }
+    ensures fits { IfOk result (λ _. FitsSettled program.now nodes most) }
+    ensures bad_nodes { (result ≡ Err ExploreFault.BadNodes) ↔ (¬ AreNodes nodes) }
+    ensures too_many { IfErr result (λ fault. fault ≡ ExploreFault.TooMany
+        → MetTooMany program.now nodes most false) }
+{
+    let count = count_of(nodes)?;
+    let code = Code::new(alloc, program)?;
+    findings_of(alloc, &code, count, most)
+}
+
+// The same of a program's flat code.
+fn findings_of(
+    alloc: Global,
+    code: &Code<'_>,
+    nodes: u8,
+    most: usize,
+) -> Result<Findings, ExploreFault>
+    ensures findings { IfOk result (AreFindings code.now nodes) }
+    ensures fits { IfOk result (λ _. FitsSettled code.now nodes most) }
+    ensures faults { IfErr result (IsFaultOf code.now nodes most false) }
+{
+    let task = task_of(alloc, code, nodes, most, false)?;
+    let mut found = Found::none(alloc, nodes as usize);
+    found.all_findings(alloc, &task)
 }
 
 /// Returns every outcome of the orders in which this many nodes can run a program, after which no node can make an act.
@@ -165,13 +200,14 @@ fn order_of(alloc: Global, acts: &[Act], more: &[usize]) -> Result<Vec<usize>, A
 }
 
 impl Found {
-    ghost use Rattle.std.specs.Prelude.{◌≡◌, IfOk, IfErr, OnOk, [], true, Some};
+    ghost use Rattle.std.specs.Prelude.{◌≡◌, IfOk, IfErr, OnOk, [], true, Some, option_map};
     ghost use Rattle.lrc_orders_table.specs.Rows.{row_count};
     ghost use Rattle.lrc_explore.specs.Reached.{AreFound, HasStart, IsTask};
     ghost use Rattle.lrc_explore.specs.Ended.{AreAllFound};
-    ghost use Rattle.lrc_explore.specs.Answers.{FitsEnd, FitsSettled, FitsSettledNoted, IsAnswer, IsEnd, IsFault};
-    ghost use Rattle.lrc_orders.specs.Verdict.{FindsNoRace};
-    ghost use Rattle.lrc_explore.specs.declared.task.End.TheVariants.{Meeting, Through};
+    ghost use Rattle.lrc_explore.specs.Answers.{AreAllExpanded, FitsEnd, FitsSettled, FitsSettledNoted, IsAnswer, IsEnd, IsFault, IsStuckFirst};
+    ghost use Rattle.lrc_explore.specs.Traps.{IsTrapSoFar};
+    ghost use Rattle.lrc_orders.specs.Verdict.{AreFindings, FindsNoRace, TellsStuck, TellsTrap};
+    ghost use Rattle.lrc_explore.specs.declared.task.End.TheVariants.{Meeting};
 
     // From the settled start on, where there are no states yet: what is answered.
     fn answer(&mut self, alloc: Global, task: &Task<'_>) -> Result<Verdict, ExploreFault>
@@ -183,17 +219,35 @@ impl Found {
             → FitsSettled task.now.program.now task.now.flat.nodes task.now.most) }
         ensures faults { IfErr result (IsFault task.now) }
     {
-        self.begin(alloc, task)?;
-        let end = self.seek(alloc, task)?;
+        let traps = self.begin(alloc, task)?;
+        let end = self.seek(alloc, task, true, traps)?;
         self.verdict(alloc, task, end)
     }
 
-    // What a search that ended so says.
+    // The same where races are not looked for.
+    fn all_findings(&mut self, alloc: Global, task: &Task<'_>) -> Result<Findings, ExploreFault>
+        requires task { IsTask task.now }
+        requires found { AreFound task.now self.old }
+        requires none { row_count self.old.table.rows ≡ 0 }
+        ensures findings { IfOk result (AreFindings task.now.program.now task.now.flat.nodes) }
+        ensures fits { IfOk result (λ _. FitsSettled task.now.program.now task.now.flat.nodes
+            task.now.most) }
+        ensures faults { IfErr result (IsFault task.now) }
+    {
+        let traps = self.begin(alloc, task)?;
+        let end = self.seek(alloc, task, false, traps)?;
+        match end {
+            End::Meeting { .. } => unreachable!(),
+            End::Through { stuck, trap } => self.findings_told(alloc, task, stuck, trap),
+        }
+    }
+
+    // What a search for races that ended so says.
     fn verdict(&self, alloc: Global, task: &Task<'_>, end: End) -> Result<Verdict, ExploreFault>
         requires task { IsTask task.now }
         requires found { AreFound task.now self.now }
         requires start { HasStart task.now self.now.table.rows }
-        requires end { IsEnd task.now self.now end }
+        requires end { IsEnd task.now self.now true end }
         requires few { FitsEnd task.now self.now end }
         ensures answer { IfOk result (IsAnswer task.now.program.now task.now.flat.nodes) }
         ensures fits { IfOk result (λ verdict. FindsNoRace verdict
@@ -202,8 +256,10 @@ impl Found {
     {
         match end {
             End::Meeting { place, p, q } => self.race_told(alloc, task, place, p, q),
-            End::Through { stuck: Some(place) } => self.stuck_told(alloc, task, place),
-            End::Through { stuck: None } => Ok(Verdict::RaceFree { stuck: None }),
+            End::Through { stuck, trap } => {
+                let findings = self.findings_told(alloc, task, stuck, trap)?;
+                Ok(Verdict::RaceFree(findings))
+            }
         }
     }
 
@@ -218,7 +274,7 @@ impl Found {
     ) -> Result<Verdict, ExploreFault>
         requires task { IsTask task.now }
         requires found { AreFound task.now self.now }
-        requires meeting { IsEnd task.now self.now (Meeting place p q) }
+        requires meeting { IsEnd task.now self.now true (Meeting place p q) }
         ensures answer { IfOk result (IsAnswer task.now.program.now task.now.flat.nodes) }
         ensures racy { IfOk result (λ verdict. ¬ FindsNoRace verdict) }
         ensures faults { IfErr result (IsFault task.now) }
@@ -228,23 +284,73 @@ impl Found {
         Ok(Verdict::Racy { order })
     }
 
-    // An order that gets stuck.
+    // An order that gets stuck, and one in which a node traps, where all states were found.
+    fn findings_told(
+        &self,
+        alloc: Global,
+        task: &Task<'_>,
+        stuck: Option<usize>,
+        trap: Option<Trapping>,
+    ) -> Result<Findings, ExploreFault>
+        requires task { IsTask task.now }
+        requires found { AreFound task.now self.now }
+        requires all { AreAllExpanded task.now self.now }
+        requires stuck { IsStuckFirst task.now self.now.table.rows stuck }
+        requires trap { IsTrapSoFar task.now self.now.table.rows
+            (row_count self.now.table.rows) trap }
+        ensures findings { IfOk result (AreFindings task.now.program.now task.now.flat.nodes) }
+        ensures faults { IfErr result (IsFault task.now) }
+    {
+        let stuck = self.stuck_told(alloc, task, stuck)?;
+        let trap = self.trap_told(alloc, task, trap)?;
+        Ok(Findings { stuck, trap })
+    }
+
+    // An order that gets stuck, if one does.
     fn stuck_told(
         &self,
         alloc: Global,
         task: &Task<'_>,
-        place: usize,
-    ) -> Result<Verdict, ExploreFault>
+        stuck: Option<usize>,
+    ) -> Result<Option<Vec<usize>>, ExploreFault>
         requires task { IsTask task.now }
         requires found { AreFound task.now self.now }
-        requires start { HasStart task.now self.now.table.rows }
-        requires stuck { IsEnd task.now self.now (Through (Some place)) }
-        ensures answer { IfOk result (IsAnswer task.now.program.now task.now.flat.nodes) }
+        requires all { AreAllExpanded task.now self.now }
+        requires stuck { IsStuckFirst task.now self.now.table.rows stuck }
+        ensures stuck { IfOk result (λ order. TellsStuck task.now.program.now
+            task.now.flat.nodes (option_map (λ nodes. nodes.items) order)) }
         ensures faults { IfErr result (IsFault task.now) }
     {
+        let Some(place) = stuck else {
+            return Ok(None);
+        };
         let acts = self.acts_to(alloc, task, place)?;
         let order = order_of(alloc, &acts, &[])?;
-        Ok(Verdict::RaceFree { stuck: Some(order) })
+        Ok(Some(order))
+    }
+
+    // An order in which a node traps, if one does.
+    fn trap_told(
+        &self,
+        alloc: Global,
+        task: &Task<'_>,
+        trap: Option<Trapping>,
+    ) -> Result<Option<Vec<usize>>, ExploreFault>
+        requires task { IsTask task.now }
+        requires found { AreFound task.now self.now }
+        requires all { AreAllExpanded task.now self.now }
+        requires trap { IsTrapSoFar task.now self.now.table.rows
+            (row_count self.now.table.rows) trap }
+        ensures trap { IfOk result (λ order. TellsTrap task.now.program.now task.now.flat.nodes
+            (option_map (λ nodes. nodes.items) order)) }
+        ensures faults { IfErr result (IsFault task.now) }
+    {
+        let Some(there) = trap else {
+            return Ok(None);
+        };
+        let acts = self.acts_into_trap(alloc, task, there)?;
+        let order = order_of(alloc, &acts, &[])?;
+        Ok(Some(order))
     }
 
     // From the settled start on, where there are no states yet: every settled state, and every outcome.
@@ -267,7 +373,7 @@ impl Found {
             task.now.most) }
         ensures faults { IfErr result (IsFault task.now) }
     {
-        self.begin(alloc, task)?;
+        let _traps = self.begin(alloc, task)?;
         self.gather(alloc, task, outcomes)
     }
 }

@@ -9,17 +9,19 @@ ghost use Rattle.lrc_orders_settling.specs.Taking.{IsCounted};
 ghost use Rattle.lrc_explore.specs.Reached.{CannotTake, HasTakenTo, IsKeyOf, IsTask, SettlesStart};
 ghost use Rattle.lrc_orders_table.specs.Nexts.{notes_on};
 ghost use Rattle.lrc_explore.specs.Answers.{IsFault, IsLongFault};
+ghost use Rattle.lrc_explore.specs.Traps.{first_step};
 
 use crate::task::{Found, Origin, Task};
 use lrc_exec::state::State;
 use lrc_orders::noted::Noted;
 use lrc_orders::notes::note;
 use lrc_orders::search::ExploreFault;
+use lrc_orders::traps::has_trap;
 use lrc_orders_live::forget_dead;
 use lrc_orders_settling::settle::settle;
 use lrc_orders_settling::step::{Step, all_wait, contended_deed, count, take_alone, take_together};
 use lrc_orders_table::rows::Row;
-use lrc_orders_table::table::Table;
+use lrc_orders_table::table::{Led, Table};
 use lrc_trace::act::Act;
 use std::alloc::{AllocError, Global};
 
@@ -167,6 +169,16 @@ fn note_all(notes: &mut Vec<Act>, acts: &[Act]) -> Result<(), AllocError>
     Ok(())
 }
 
+// The first step in which a node traps, where this one is next.
+fn first_step(trap: Option<Step>, traps: bool, step: Step) -> Option<Step>
+    ensures { result ≡ first_step trap traps step }
+{
+    match trap {
+        Some(first) => Some(first),
+        None => { if traps { Some(step) } else { None } }
+    }
+}
+
 impl Found {
     ghost use Rattle.std.specs.Prelude.{◌≡◌, ◌<◌, All, IfOk, IfErr, MatchOption, OnOk};
     ghost use Rattle.lrc_orders_live.specs.Live.{forgot};
@@ -175,6 +187,7 @@ impl Found {
     ghost use Rattle.lrc_explore.specs.declared.task.Task.{Task as TheTask};
     ghost use Rattle.lrc_explore.specs.Reached.{AreFound, CannotTakeAt, HasAfterAt, HasStart, IsExpandedAt, IsFirstKey, IsKept, IsMore, IsNext, IsReached, IsStepOf, IsTask, LeadsTo};
     ghost use Rattle.lrc_explore.specs.Answers.{IsFault};
+    ghost use Rattle.lrc_explore.specs.Traps.{IsStepTrapAt, ShowsStartTrap, ShowsTrapAt, led_traps};
 
     /// Makes a list without states, for this many nodes.
     pub fn none(alloc: Global, nodes: usize) -> Found
@@ -187,19 +200,22 @@ impl Found {
         }
     }
 
-    /// Adds the settled start. There must be no states yet.
-    pub fn begin(&mut self, alloc: Global, task: &Task<'_>) -> Result<(), ExploreFault>
+    /// Adds the settled start. There must be no states yet. Returns whether a node traps as the start settles.
+    pub fn begin(&mut self, alloc: Global, task: &Task<'_>) -> Result<bool, ExploreFault>
         requires task { IsTask task.now }
         requires found { AreFound task.now self.old }
         requires none { row_count self.old.table.rows ≡ 0 }
         ensures found { OnOk result (AreFound task.now self.new) }
         ensures start { OnOk result (HasStart task.now self.new.table.rows) }
+        ensures traps { IfOk result (ShowsStartTrap task.now) }
         ensures faults { IfErr result (IsFault task.now) }
     {
         let mut acts = Vec::new(alloc);
         let state = settled_start(alloc, task, &mut acts)?;
+        let traps = has_trap(&acts);
         let key = key_of(alloc, task, state, &acts)?;
-        Ok(self.add(task, key)?)
+        self.add(task, key)?;
+        Ok(traps)
     }
 
     // Adds the first state.
@@ -224,36 +240,40 @@ impl Found {
         Ok(())
     }
 
-    /// Adds the states that a step leads to from that at a place.
+    /// Adds the states that a step leads to from that at a place. Returns the first step in which a node traps, if any.
     pub fn expand(
         &mut self,
         alloc: Global,
         task: &Task<'_>,
         place: usize,
-    ) -> Result<(), ExploreFault>
+    ) -> Result<Option<Step>, ExploreFault>
         requires task { IsTask task.now }
         requires found { AreFound task.now self.old }
         requires within { place < row_count self.old.table.rows }
         ensures found { OnOk result (AreFound task.now self.new) }
         ensures more { OnOk result (IsMore self.old self.new) }
         ensures expanded { OnOk result (IsExpandedAt task.now self.new.table.rows place) }
+        ensures trap { IfOk result (IsStepTrapAt task.now self.new.table.rows place) }
         ensures faults { IfErr result (IsFault task.now) }
     {
-        self.expand_step(alloc, task, place, Step::Together)?;
+        let together = self.expand_step(alloc, task, place, Step::Together)?;
+        let first = first_step(None, together, Step::Together);
+        let mut trap = first;
         for node in 0..task.flat.nodes {
-            self.expand_step(alloc, task, place, Step::Alone(node))?;
+            let alone = self.expand_step(alloc, task, place, Step::Alone(node))?;
+            trap = first_step(trap, alone, Step::Alone(node));
         }
-        Ok(())
+        Ok(trap)
     }
 
-    // The state that a step leads to from that at a place, if it can be taken.
+    // Adds the state that a step leads to from that at a place, if it can be taken: whether a node traps in it.
     fn expand_step(
         &mut self,
         alloc: Global,
         task: &Task<'_>,
         place: usize,
         step: Step,
-    ) -> Result<(), ExploreFault>
+    ) -> Result<bool, ExploreFault>
         requires task { IsTask task.now }
         requires found { AreFound task.now self.old }
         requires within { place < row_count self.old.table.rows }
@@ -261,26 +281,28 @@ impl Found {
         ensures found { OnOk result (AreFound task.now self.new) }
         ensures more { OnOk result (IsMore self.old self.new) }
         ensures after { OnOk result (HasAfterAt task.now self.new.table.rows place step) }
+        ensures traps { IfOk result (ShowsTrapAt task.now self.new.table.rows place step) }
         ensures faults { IfErr result (IsFault task.now) }
     {
-        let Some(row) = self.row_after(alloc, task, place, step)? else {
-            return Ok(());
+        let Some(led) = self.row_after(alloc, task, place, step)? else {
+            return Ok(false);
         };
         let origin = Origin {
             parent: place,
             step,
         };
-        Ok(self.put(task, row, origin)?)
+        self.put(task, led.row, origin)?;
+        Ok(led.traps)
     }
 
-    // The row that a step leads to from that at a place, if it can be taken.
+    // The row that a step leads to from that at a place, and whether a node traps in it, if it can be taken.
     fn row_after(
         &mut self,
         alloc: Global,
         task: &Task<'_>,
         place: usize,
         step: Step,
-    ) -> Result<Option<Row>, ExploreFault>
+    ) -> Result<Option<Led>, ExploreFault>
         requires task { IsTask task.now }
         requires found { AreFound task.now self.old }
         requires within { place < row_count self.old.table.rows }
@@ -289,7 +311,9 @@ impl Found {
         ensures more { OnOk result (IsMore self.old self.new) }
         ensures taken { IfOk result (λ after. MatchOption after
             (CannotTakeAt task.now self.new.table.rows place step)
-            (LeadsTo task.now self.new.table.rows place step)) }
+            (λ led. LeadsTo task.now self.new.table.rows place step led.row)) }
+        ensures traps { IfOk result (λ led. ShowsTrapAt task.now self.new.table.rows place step
+            (led_traps led)) }
         ensures faults { IfErr result (IsFault task.now) }
     {
         let row = self.table.rows.row(place);

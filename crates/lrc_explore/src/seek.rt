@@ -1,16 +1,52 @@
 // The search, from the settled start through all states.
 
-ghost use Rattle.std.specs.Prelude.{OnOk};
+ghost use Rattle.std.specs.Prelude.{◌≡◌, OnOk};
 ghost use Rattle.lrc_orders.specs.Kept.{Grows};
 ghost use Rattle.lrc_orders.specs.Outcome.{HasOutcome};
-ghost use Rattle.lrc_explore.specs.Answers.{AddsOnly};
+ghost use Rattle.lrc_explore.specs.Answers.{AddsOnly, first_stuck};
+ghost use Rattle.lrc_explore.specs.Traps.{first_trap, start_trap};
 
-use crate::task::{End, Found, Task, Visit};
+use crate::task::{End, Found, Origin, Task, Trapping, Visit};
 use indexmap::IndexSet;
 use lrc_orders::outcomes::Outcome;
 use lrc_orders::search::ExploreFault;
+use lrc_orders_settling::step::Step;
+use lrc_orders_table::rows::Row;
 use lrc_trace::act::Act;
 use std::alloc::{AllocError, Global};
+
+// Where a node traps first, if it does as the start settles.
+fn start_trap(start: bool) -> Option<Trapping>
+    ensures { result ≡ start_trap start }
+{
+    if start { Some(Trapping::Start) } else { None }
+}
+
+// The first state at which the program is stuck, where that at this place is next.
+fn first_stuck(stuck: Option<usize>, halts: bool, place: usize) -> Option<usize>
+    ensures { result ≡ first_stuck stuck halts place }
+{
+    match stuck {
+        Some(first) => Some(first),
+        None => { if halts { Some(place) } else { None } }
+    }
+}
+
+// Where a node traps first, where this step from the state at this place is next, if there is one.
+fn first_trap(trap: Option<Trapping>, step: Option<Step>, place: usize) -> Option<Trapping>
+    ensures { result ≡ first_trap trap step place }
+{
+    match trap {
+        Some(first) => Some(first),
+        None => match step {
+            Some(step) => Some(Trapping::Step(Origin {
+                parent: place,
+                step,
+            })),
+            None => None,
+        },
+    }
+}
 
 // One outcome more, if it is new.
 fn keep(outcomes: &mut IndexSet<Outcome>, notes: Vec<Act>) -> Result<(), AllocError>
@@ -23,60 +59,93 @@ fn keep(outcomes: &mut IndexSet<Outcome>, notes: Vec<Act>) -> Result<(), AllocEr
 }
 
 impl Found {
-    ghost use Rattle.std.specs.Prelude.{◌≡◌, ◌<◌, ◌≤◌, IfOk, IfErr, OnOk, []};
+    ghost use Rattle.std.specs.Prelude.{◌≡◌, ◌<◌, ◌≤◌, IfOk, IfErr, OnOk, MatchOption, [], true};
     ghost use Rattle.lrc_orders_table.specs.Rows.{row_count, WidensRows};
     ghost use Rattle.lrc_orders.specs.Kept.{Grows};
     ghost use Rattle.lrc_explore.specs.Reached.{AreExpanded, AreFound, IsExpandedAt, IsMore, IsTask};
     ghost use Rattle.lrc_explore.specs.Answers.{AreGathered, AreSound, FitsEnd, IsEnd, IsFault, IsGatheredAt, IsVisit};
+    ghost use Rattle.lrc_explore.specs.Traps.{ShowsStartTrap};
+    ghost use Rattle.lrc_exec.specs.States.{plain_at};
+    ghost use Rattle.lrc_orders.specs.declared.noted.Noted.{Noted as Key};
+    ghost use Rattle.lrc_orders.specs.Meeting.{IsCalm, Meet};
+    ghost use Rattle.lrc_orders_table.specs.declared.known.Means.{Means as TheMeans};
+    ghost use Rattle.lrc_orders_table.specs.Tables.{IsKnown, IsRowOf, IsTable};
 
-    /// Looks for a state where two nodes meet. If there is none, all states are found, and the answer tells the first of
-    /// them at which the program is stuck, if any.
-    pub fn seek(&mut self, alloc: Global, task: &Task<'_>) -> Result<End, ExploreFault>
+    /// Looks for a state where two nodes meet, if `races` is true. If there is none, all states are found, and the answer
+    /// tells the first of them at which the program is stuck, if any, and where a node traps first, if one does. `start`
+    /// says whether one traps as the start settles.
+    pub fn seek(
+        &mut self,
+        alloc: Global,
+        task: &Task<'_>,
+        races: bool,
+        start: bool,
+    ) -> Result<End, ExploreFault>
         requires task { IsTask task.now }
         requires found { AreFound task.now self.old }
+        requires start { ShowsStartTrap task.now start }
         ensures found { OnOk result (AreFound task.now self.new) }
         ensures more { OnOk result (IsMore self.old self.new) }
-        ensures end { IfOk result (IsEnd task.now self.new) }
+        ensures end { IfOk result (IsEnd task.now self.new races) }
         ensures fits { IfOk result (FitsEnd task.now self.new) }
         ensures faults { IfErr result (IsFault task.now) }
     {
         let mut stuck = None;
+        let mut trap = start_trap(start);
         let mut place = 0;
         while place < self.table.rows.len() {
             if self.table.rows.len() > task.most {
                 return Err(ExploreFault::TooMany);
             }
-            match self.visit(alloc, task, place)? {
+            match self.visit(alloc, task, place, races)? {
                 Visit::Meeting(p, q) => return Ok(End::Meeting { place, p, q }),
-                Visit::Stuck => stuck = stuck.or(Some(place)),
-                Visit::Past => {}
+                Visit::Past {
+                    stuck: halts,
+                    trap: step,
+                } => {
+                    stuck = first_stuck(stuck, halts, place);
+                    trap = first_trap(trap, step, place);
+                }
             }
             place += 1;
         }
-        Ok(End::Through { stuck })
+        Ok(End::Through { stuck, trap })
     }
 
-    // Looks at a state, and finds the states after it where no two nodes meet there.
-    fn visit(&mut self, alloc: Global, task: &Task<'_>, place: usize) -> Result<Visit, ExploreFault>
+    // Looks at a state, and finds the states after it, but where two nodes meet there and that is looked for.
+    fn visit(
+        &mut self,
+        alloc: Global,
+        task: &Task<'_>,
+        place: usize,
+        races: bool,
+    ) -> Result<Visit, ExploreFault>
         requires task { IsTask task.now }
         requires found { AreFound task.now self.old }
         requires within { place < row_count self.old.table.rows }
         ensures found { OnOk result (AreFound task.now self.new) }
         ensures more { OnOk result (IsMore self.old self.new) }
-        ensures visit { IfOk result (IsVisit task.now self.new place) }
+        ensures visit { IfOk result (IsVisit task.now self.new place races) }
         ensures faults { IfErr result (IsFault task.now) }
     {
         let row = self.table.rows.row(place);
-        if let Some((p, q)) = self.table.meeting(&row) {
+        if let Some((p, q)) = self.meeting(&row, races) {
             return Ok(Visit::Meeting(p, q));
         }
         let stuck = self.table.is_stuck(&row);
-        self.expand(alloc, task, place)?;
-        if stuck {
-            Ok(Visit::Stuck)
-        } else {
-            Ok(Visit::Past)
-        }
+        let trap = self.expand(alloc, task, place)?;
+        Ok(Visit::Past { stuck, trap })
+    }
+
+    // The least two nodes that meet, if that is looked for.
+    fn meeting(&self, row: &Row, races: bool) -> Option<(usize, usize)>
+        requires { IsKnown self.now.table row.now }
+        ensures { (means : TheMeans) (key : Key) → IsTable means self.now.table
+            → IsRowOf means self.now.table row.now key
+            → MatchOption result (races ≡ true → IsCalm (plain_at means.flat key.state))
+            (λ pair. (races ≡ true) × Meet (plain_at means.flat key.state) pair.0 pair.1) }
+    {
+        if races { self.table.meeting(row) } else { None }
     }
 
     /// Visits all states, and collects the outcomes of those at which no node can make an act.
@@ -129,7 +198,7 @@ impl Found {
     {
         let row = self.table.rows.row(place);
         let still = self.table.is_still(&row);
-        self.expand(alloc, task, place)?;
+        let _trap = self.expand(alloc, task, place)?;
         if still {
             let key = self.table.rows.noted(alloc, place)?;
             keep(outcomes, key.notes)?;

@@ -50,18 +50,32 @@ pub struct Found {
     pub origins: Vec<Origin>,
 }
 
-/// Where a search ended: at a state where two nodes meet, or past all states, with the first state at which the program
-/// is stuck, if any.
+/// Where a node traps: as the program's start settles, or in a step from a state that was found.
 #[derive(Clone, Copy)]
-pub enum End {
-    Meeting { place: usize, p: usize, q: usize },
-    Through { stuck: Option<usize> },
+pub enum Trapping {
+    Start,
+    Step(Origin),
 }
 
-/// What a visit to a state saw: two nodes that meet, a stuck program, or neither.
+/// Where a search ended: at a state where two nodes meet, or past all states, with the first state at which the program
+/// is stuck, if any, and where a node traps first, if one does.
+#[derive(Clone, Copy)]
+pub enum End {
+    Meeting {
+        place: usize,
+        p: usize,
+        q: usize,
+    },
+    Through {
+        stuck: Option<usize>,
+        trap: Option<Trapping>,
+    },
+}
+
+/// What a visit to a state saw: two nodes that meet; or whether the program is stuck there, and the first step from it in
+/// which a node traps, if any.
 #[derive(Clone, Copy)]
 pub enum Visit {
     Meeting(usize, usize),
-    Stuck,
-    Past,
+    Past { stuck: bool, trap: Option<Step> },
 }

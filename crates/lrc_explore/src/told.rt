@@ -1,10 +1,27 @@
 // The acts that lead to a state.
 
+ghost use Rattle.std.specs.Prelude.{IfOk, IfErr};
+ghost use Rattle.lrc_explore.specs.Reached.{IsTask};
+ghost use Rattle.lrc_explore.specs.Answers.{IsFault};
+ghost use Rattle.lrc_explore.specs.Traps.{LeadIntoTrap, StartTraps};
+
 use crate::found::{settled_start, taken};
-use crate::task::{Found, Task};
+use crate::task::{Found, Origin, Task, Trapping};
 use lrc_orders::search::ExploreFault;
 use lrc_trace::act::Act;
 use std::alloc::{AllocError, Global};
+
+// The acts by which the start settles, where a node traps as it does.
+fn start_acts(alloc: Global, task: &Task<'_>) -> Result<Vec<Act>, ExploreFault>
+    requires task { IsTask task.now }
+    requires traps { StartTraps task.now }
+    ensures led { IfOk result (λ acts. LeadIntoTrap task.now acts.items) }
+    ensures faults { IfErr result (IsFault task.now) }
+{
+    let mut acts = Vec::new(alloc);
+    let _state = settled_start(alloc, task, &mut acts)?;
+    Ok(acts)
+}
 
 impl Found {
     ghost use Rattle.std.specs.Prelude.{◌≡◌, ◌<◌, ◌++◌, IfOk, IfErr, OnOk, length};
@@ -12,6 +29,8 @@ impl Found {
     ghost use Rattle.lrc_explore.specs.Reached.{AreFound, IsTask};
     ghost use Rattle.lrc_explore.specs.Answers.{IsFault};
     ghost use Rattle.lrc_explore.specs.Told.{Comes, IsParentLed, LeadTo};
+    ghost use Rattle.lrc_explore.specs.Traps.{IsTrapping, LeadIntoTrap};
+    ghost use Rattle.lrc_explore.specs.declared.task.Trapping.TheVariants.{Step};
 
     /// Returns acts that lead from the beginning to a settled state of the program that the state at this place stands
     /// for. If notes are kept, they have its notes. It fails if memory runs out.
@@ -31,6 +50,45 @@ impl Found {
         let mut acts = Vec::new(alloc);
         let _start = settled_start(alloc, task, &mut acts)?;
         self.follow(alloc, task, &path, place, &mut acts)?;
+        Ok(acts)
+    }
+
+    /// Returns acts that lead from the beginning to a settled state of the program, where a node traps there. One of them
+    /// is a trap. It fails if memory runs out.
+    pub(crate) fn acts_into_trap(
+        &self,
+        alloc: Global,
+        task: &Task<'_>,
+        there: Trapping,
+    ) -> Result<Vec<Act>, ExploreFault>
+        requires task { IsTask task.now }
+        requires found { AreFound task.now self.now }
+        requires traps { IsTrapping task.now self.now.table.rows there }
+        ensures led { IfOk result (λ acts. LeadIntoTrap task.now acts.items) }
+        ensures faults { IfErr result (IsFault task.now) }
+    {
+        match there {
+            Trapping::Start => start_acts(alloc, task),
+            Trapping::Step(origin) => self.acts_through(alloc, task, origin),
+        }
+    }
+
+    // Acts that lead to a state and on by a step, in which a node traps.
+    fn acts_through(
+        &self,
+        alloc: Global,
+        task: &Task<'_>,
+        origin: Origin,
+    ) -> Result<Vec<Act>, ExploreFault>
+        requires task { IsTask task.now }
+        requires found { AreFound task.now self.now }
+        requires traps { IsTrapping task.now self.now.table.rows (Step origin) }
+        ensures led { IfOk result (λ acts. LeadIntoTrap task.now acts.items) }
+        ensures faults { IfErr result (IsFault task.now) }
+    {
+        let mut acts = self.acts_to(alloc, task, origin.parent)?;
+        let key = self.table.rows.noted(alloc, origin.parent)?;
+        let _after = taken(alloc, task, &key.state, origin.step, &mut acts)?;
         Ok(acts)
     }
 

@@ -9,6 +9,7 @@ use Rattle.lrc_exec.specs.Plain.{Plain, plain}
 use Rattle.lrc_consistency_laws.proofs.Plainly.{facts}
 use Rattle.lrc_lines.specs.Walks.{lines_behind}
 use Rattle.lrc_orders.specs.Stuck.{GetsStuck}
+use Rattle.lrc_orders.specs.Traps.{NodeTraps}
 use Rattle.lrc_orders.specs.Verdict.{EndsInRace}
 use Rattle.lrc_trace.specs.Conflict.{Races}
 use Rattle.lrc_exec.specs.Nodes.{AreNodes}
@@ -24,6 +25,10 @@ in_range program nodes order run few e k d lt =
 -- an order that gets stuck is one of the plain machine
 pub plain_stuck : (program : Program) (nodes : ℕ) (order : List ℕ) (gets : GetsStuck program nodes order) → plain program nodes order ≡ Some gets.acts
 plain_stuck program nodes order gets = ap (option_map (λ (r : List Act × Plain). r.0)) gets.led
+
+-- so is one in which a node traps
+pub plain_traps : (program : Program) (nodes : ℕ) (order : List ℕ) (traps : NodeTraps program nodes order) → plain program nodes order ≡ Some traps.acts
+plain_traps program nodes order traps = ap (option_map (λ (r : List Act × Plain). r.0)) traps.led
 
 -- as many lines as acts
 pub as_many_lines : (program : Program) (nodes : ℕ) (lines : List ℕ) (before acts : List Act)

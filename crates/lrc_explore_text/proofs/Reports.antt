@@ -20,8 +20,7 @@ use Rattle.lrc_consistency_laws.specs.Racing.{HasNoRace}
 use Rattle.lrc_orders.specs.declared.search.Verdict.{Verdict}
 
 has_no_race : (program : Program) (nodes : ℕ) (verdict : Verdict) → IsAnswer program nodes verdict → FindsNoRace verdict → HasNoRace program nodes
-has_no_race program nodes (RaceFree None) is finds = is.0
-has_no_race program nodes (RaceFree (Some order)) is finds = is.0
+has_no_race program nodes (RaceFree findings) is finds = is.0
 has_no_race program nodes (Racy order) is finds = absurd finds
 
 none_first : (acts : List Act) (first : Option ℕ) → IsRaceFree acts → MatchOption first (IsRaceFree acts) (IsFirstRace acts) → first ≡ None

@@ -1,5 +1,5 @@
 -- What is told of a program.
-use Rattle.std.proofs.Common.{◌≡◌, ℕ, ◌+◌, ◌-◌, List, ◌++◌, Bool, true, false, Result, Ok, Err, IfOk, length, length-append, sym, subst, ◌∙◌, ap, arith}
+use Rattle.std.proofs.Common.{◌≡◌, ℕ, ◌+◌, ◌-◌, List, [], ◌++◌, Bool, true, false, Result, Ok, Err, IfOk, length, length-append, sym, subst, ◌∙◌, ap, arith}
 use Rattle.std.specs.Prelude.{◌≢◌, IfErr, Some, codes}
 use Rattle.std.proofs.lemmas.Option.{same_Some}
 use Rattle.lrc_lang.specs.declared.program.Program.{Program}
@@ -13,14 +13,17 @@ use Rattle.lrc_consistency_laws.specs.Racing.{HasNoRace}
 use Rattle.lrc_orders.specs.declared.search.ExploreFault.{ExploreFault}
 use Rattle.lrc_orders.specs.declared.search.ExploreFault.TheVariants.{TooMany}
 use Rattle.lrc_orders.specs.Stuck.{GetsStuck}
+use Rattle.lrc_orders.specs.Traps.{NodeTraps}
 use Rattle.lrc_explore_causes.specs.Told.{TellsRace}
 use Rattle.lrc_explore.specs.Answers.{FitsSettled, FitsSettledNoted, MetTooMany}
 use Rattle.lrc_explore_text.specs.declared.explored.Printout.{Printout}
 use Rattle.lrc_explore_text.specs.Explored.{Explores, MeetsFew, MeetsTooMany, tells_orders, tells_outcomes}
 use Rattle.lrc_explore_text.specs.LastRaces.{AreRacesAt}
-use Rattle.lrc_explore_text.specs.Orders.{TellsOrders, ends_text, order_text, racy, stuck}
+use Rattle.lrc_explore_text.specs.Orders.{SaysStuck, SaysTrap, TellsFindings, TellsOrders, ends_text, findings_status, free, order_text, racy, some_stuck, some_trap, tells_findings}
 use Rattle.lrc_explore_text.specs.Outcomes.{TellsOutcomes}
-use Rattle.lrc_explore_text.proofs.Led.{plain_stuck}
+use Rattle.lrc_explore_text.specs.Sections.{TellsBehind}
+use Rattle.lrc_explore_text.specs.Trapped.{trapped_text}
+use Rattle.lrc_explore_text.proofs.Led.{plain_stuck, plain_traps}
 
 -- ---- either question
 
@@ -52,13 +55,41 @@ module _ (program : Program) (nodes most : ℕ) (outcomes : Bool) (r : Result Pr
 -- ---- one order
 
 module _ (labels : List Label) (program : Program) (nodes : ℕ) (lines : List ℕ) (order : List ℕ) (acts : List Act) (led : plain program nodes order ≡ Some acts) where
-  pub of_stuck : HasNoRace program nodes → (gets : GetsStuck program nodes order) → (out : List ℕ)
-      → out ≡ codes "race free in every order\nsome order gets stuck:\n" ++ order_text program nodes lines acts ++ ends_text labels program nodes lines acts
-      → TellsOrders labels program nodes lines out 4
-  of_stuck free gets out is =
+  pub of_stuck : (gets : GetsStuck program nodes order) → (out : List ℕ)
+      → out ≡ codes "some order gets stuck:\n" ++ order_text program nodes lines acts ++ ends_text labels program nodes lines acts
+      → SaysStuck labels program nodes lines true out
+  of_stuck gets out is =
       let same : acts ≡ gets.acts = same_Some acts gets.acts (sym led ∙ plain_stuck program nodes order gets) in
-      let whole = is ∙ ap (λ a. codes "race free in every order\nsome order gets stuck:\n" ++ order_text program nodes lines a ++ ends_text labels program nodes lines a) same in
-      subst (λ o. TellsOrders labels program nodes lines o 4) (sym whole) (stuck free gets)
+      let whole = is ∙ ap (λ a. codes "some order gets stuck:\n" ++ order_text program nodes lines a ++ ends_text labels program nodes lines a) same in
+      subst (λ o. SaysStuck labels program nodes lines true o) (sym whole) (some_stuck gets)
+
+  pub of_trap : (traps : NodeTraps program nodes order) → (out : List ℕ)
+      → out ≡ codes "some order traps:\n" ++ order_text program nodes lines acts ++ trapped_text labels program nodes lines acts
+      → SaysTrap labels program nodes lines true out
+  of_trap traps out is =
+      let same : acts ≡ traps.acts = same_Some acts traps.acts (sym led ∙ plain_traps program nodes order traps) in
+      let whole = is ∙ ap (λ a. codes "some order traps:\n" ++ order_text program nodes lines a ++ trapped_text labels program nodes lines a) same in
+      subst (λ o. SaysTrap labels program nodes lines true o) (sym whole) (some_trap traps)
+
+-- ---- what is found besides races
+
+-- both sections behind a first line
+pub of_sections : (labels : List Label) (program : Program) (nodes : ℕ) (lines head first second : List ℕ) (stuck traps : Bool) (out : List ℕ) (status : ℕ)
+    → SaysStuck labels program nodes lines stuck first → SaysTrap labels program nodes lines traps second → out ≡ head ++ (first ++ second)
+    → status ≡ findings_status stuck traps → TellsBehind labels program nodes lines head out status
+of_sections labels program nodes lines head first second stuck traps out status s t is so = record {
+  text = first ++ second;
+  is = is;
+  tells = subst (λ n. TellsFindings labels program nodes lines (first ++ second) n) (sym so) (tells_findings s t);
+}
+
+module _ (labels : List Label) (program : Program) (nodes : ℕ) (lines : List ℕ) where
+  pub of_free : HasNoRace program nodes → (out : List ℕ) (status : ℕ)
+      → TellsBehind labels program nodes lines (codes "race free in every order\n") out status → TellsOrders labels program nodes lines out status
+  of_free none out status b = subst (λ o. TellsOrders labels program nodes lines o status) (sym b.is) (free none b.tells)
+
+  pub of_found : (out : List ℕ) (status : ℕ) → TellsBehind labels program nodes lines [] out status → TellsFindings labels program nodes lines out status
+  of_found out status b = subst (λ o. TellsFindings labels program nodes lines o status) (sym b.is) b.tells
 
 -- what an earliest race comes of has its last act behind the other one
 last_place : (program : Program) (nodes : ℕ) (run told : List Act) (tells : TellsRace program nodes run told) → length told - 1 ≡ length tells.before + 1

@@ -3,3 +3,5 @@ pub mod LastRaces
 pub mod Orders
 pub mod Outcomes
 pub mod OutcomeRun
+pub mod Trapped
+pub mod Sections

@@ -1,5 +1,5 @@
-//! Prints what a search of every order of a program finds. It tells whether an order races, whether one gets stuck, or
-//! which outcomes the nodes can reach.
+//! Prints what a search of every order of a program finds. It tells whether an order races, whether one gets stuck and
+//! whether a node traps in one, or which outcomes the nodes can reach.
 #![tactic(auto)]
 
 pub mod explored;
@@ -8,3 +8,4 @@ pub mod laws;
 pub mod orders;
 pub mod outcome_run;
 pub mod outcomes;
+mod trapped;

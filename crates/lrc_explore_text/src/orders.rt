@@ -1,6 +1,6 @@
-// Whether an order races or gets stuck, as it is printed.
+// Whether an order races or gets stuck, and whether a node traps in one, as it is printed.
 
-ghost use Rattle.std.specs.Prelude.{◌≡◌, ◌≢◌, ◌<◌, ◌-◌, ◌++◌, ℕ, List, IfErr, IfOk, IsSome, Some, All, false, length, map};
+ghost use Rattle.std.specs.Prelude.{◌≡◌, ◌≢◌, ◌<◌, ◌-◌, ◌++◌, ℕ, List, IfErr, IfOk, IsSome, Some, All, false, length, map, option_map};
 ghost use Rattle.lrc_judge.specs.declared.TheConstants.{NODES};
 ghost use Rattle.lrc_labels.specs.Reading.{label_seen};
 ghost use Rattle.lrc_text.specs.Parts.{whole_text};
@@ -8,23 +8,25 @@ ghost use Rattle.lrc_exec.specs.Plain.{plain};
 ghost use Rattle.lrc_exec.specs.Nodes.{AreNodes};
 ghost use Rattle.lrc_explore.specs.Answers.{FitsSettled, IsAnswer, MetTooMany};
 ghost use Rattle.lrc_orders.specs.Stuck.{GetsStuck};
-ghost use Rattle.lrc_orders.specs.Verdict.{EndsInRace, FindsNoRace, NeverStuck};
+ghost use Rattle.lrc_orders.specs.Traps.{NeverTraps, NodeTraps};
+ghost use Rattle.lrc_orders.specs.Verdict.{AreFindings, EndsInRace, FindsNoRace, NeverStuck, TellsStuck, TellsTrap};
 ghost use Rattle.lrc_explore_causes.specs.Told.{TellsRace};
 ghost use Rattle.lrc_trace.specs.declared.act.Act.{Act as ActType};
-ghost use Rattle.lrc_consistency_laws.specs.Racing.{HasNoRace};
-ghost use Rattle.lrc_explore_text.specs.Orders.{TellsOrders, ends_text, order_text};
+ghost use Rattle.lrc_explore_text.specs.Orders.{SaysStuck, SaysTrap, TellsFindings, TellsOrders, ends_text, findings_status, order_text};
+ghost use Rattle.lrc_explore_text.specs.Sections.{TellsBehind, section_text};
 
 use crate::explored::Printout;
 use crate::last_races::races_at;
+use crate::trapped::trapped_part;
 use lrc_acts_text::acts_part;
 use lrc_exec::code::Code;
 use lrc_exec::plain::plain_run;
 use lrc_explain_waits::stuck_part;
-use lrc_explore::answers::explore;
+use lrc_explore::answers::{explore, findings};
 use lrc_labels::label::Label;
 use lrc_lang::program::Program;
 use lrc_lines::walks::lines_of_acts;
-use lrc_orders::search::{ExploreFault, Verdict};
+use lrc_orders::search::{ExploreFault, Findings, Verdict};
 use lrc_text::{first_race_part, races_part};
 use lrc_trace::act::Act;
 use std::alloc::{AllocError, Global};
@@ -54,6 +56,30 @@ pub(crate) fn orders_told(
     Ok(printout)
 }
 
+/// Returns what is printed of stuck orders and of traps of a program, whether or not an order races. The lines of nodes
+/// have the labels of words and locks. Fails as `explored` does.
+pub fn findings_told(
+    alloc: Global,
+    labels: &[Label<'_>],
+    program: &Program,
+    lines: &[u32],
+    nodes: u32,
+    most: usize,
+) -> Result<Printout, ExploreFault>
+    requires { AreNodes nodes }
+    ensures ok { IfOk result (λ printout.
+        TellsFindings (map label_seen labels.now) program.now nodes lines.now
+        (whole_text printout.parts.items) printout.status) }
+    ensures fits { IfOk result (λ _. FitsSettled program.now nodes most) }
+    ensures nodes { IfErr result (λ fault. fault ≢ ExploreFault.BadNodes) }
+    ensures too_many { IfErr result (λ fault. fault ≡ ExploreFault.TooMany
+        → MetTooMany program.now nodes most false) }
+{
+    let found = findings(alloc, program, nodes, most)?;
+    let printout = found_told(alloc, b"", labels, program, lines, nodes as u8, &found)?;
+    Ok(printout)
+}
+
 fn verdict_told(
     alloc: Global,
     labels: &[Label<'_>],
@@ -70,34 +96,125 @@ fn verdict_told(
     ensures free { IfOk result (λ printout. printout.status ≢ 3 → FindsNoRace verdict.now) }
 {
     match verdict {
-        Verdict::RaceFree { stuck: None } => free_told(alloc, labels, program, lines, nodes),
-        Verdict::RaceFree { stuck: Some(order) } => {
-            stuck_told(alloc, labels, program, lines, nodes, order)
+        Verdict::RaceFree(found) => {
+            let head = b"race free in every order\n";
+            found_told(alloc, head, labels, program, lines, nodes, found)
         }
         Verdict::Racy { order } => race_told(alloc, labels, program, lines, nodes, order),
     }
 }
 
-// That no order races or gets stuck.
-fn free_told(
+// What is said of stuck orders or of traps: a line, and where an order is told its acts, and the nodes after them.
+#[derive(Drop)]
+struct Section {
+    told: bool,
+    head: Vec<u8>,
+    acts: Vec<u8>,
+    ends: Vec<u8>,
+}
+
+// What was found besides races, behind a first line.
+fn found_told(
+    alloc: Global,
+    head: &[u8],
+    labels: &[Label<'_>],
+    program: &Program,
+    lines: &[u32],
+    nodes: u8,
+    found: &Findings,
+) -> Result<Printout, AllocError>
+    requires nodes { AreNodes nodes }
+    requires found { AreFindings program.now nodes found.now }
+    ensures { IfOk result (λ printout.
+        TellsBehind (map label_seen labels.now) program.now nodes lines.now head.now
+        (whole_text printout.parts.items) printout.status) }
+{
+    let stuck = stuck_section(alloc, labels, program, lines, nodes, &found.stuck)?;
+    let traps = trap_section(alloc, labels, program, lines, nodes, &found.trap)?;
+    let status = findings_status(stuck.told, traps.told);
+    let parts = parts_of(alloc, head, stuck, traps)?;
+    Ok(Printout { parts, status })
+}
+
+// The status where an order that gets stuck is told or not, and one in which a node traps.
+fn findings_status(stuck: bool, traps: bool) -> u8
+    ensures { result ≡ findings_status stuck traps }
+{
+    if stuck || traps { 4 } else { 0 }
+}
+
+// The parts of a text of a first line and two sections.
+fn parts_of(
+    alloc: Global,
+    head: &[u8],
+    first: Section,
+    second: Section,
+) -> Result<Vec<Vec<u8>>, AllocError>
+    ensures { IfOk result (λ parts. whole_text parts.items
+        ≡ head.now ++ (section_text first ++ section_text second)) }
+{
+    let mut parts = Vec::new(alloc);
+    parts.push(Vec::from_slice(alloc, head)?)?;
+    parts.push(first.head)?;
+    parts.push(first.acts)?;
+    parts.push(first.ends)?;
+    parts.push(second.head)?;
+    parts.push(second.acts)?;
+    parts.push(second.ends)?;
+    Ok(parts)
+}
+
+// A section of a line alone.
+fn line_alone(alloc: Global, line: &[u8]) -> Result<Section, AllocError>
+    ensures told { IfOk result (λ section. section.told ≡ false) }
+    ensures text { IfOk result (λ section. section_text section ≡ line.now) }
+{
+    Ok(Section {
+        told: false,
+        head: Vec::from_slice(alloc, line)?,
+        acts: Vec::new(alloc),
+        ends: Vec::new(alloc),
+    })
+}
+
+// What is said of stuck orders.
+fn stuck_section(
     alloc: Global,
     labels: &[Label<'_>],
     program: &Program,
     lines: &[u32],
     nodes: u8,
-) -> Result<Printout, AllocError>
-    requires free { HasNoRace program.now nodes }
-    requires never { NeverStuck program.now nodes }
-    ensures { IfOk result (λ printout.
-        TellsOrders (map label_seen labels.now) program.now nodes lines.now
-        (whole_text printout.parts.items) printout.status) }
+    stuck: &Option<Vec<usize>>,
+) -> Result<Section, AllocError>
+    requires nodes { AreNodes nodes }
+    requires stuck { TellsStuck program.now nodes
+        (option_map (λ order. order.items) stuck.now) }
+    ensures { IfOk result (λ section. SaysStuck (map label_seen labels.now) program.now nodes
+        lines.now section.told (section_text section)) }
+{
+    match stuck {
+        None => none_stuck(alloc, labels, program, lines, nodes),
+        Some(order) => stuck_told(alloc, labels, program, lines, nodes, order),
+    }
+}
+
+// That no order gets stuck.
+fn none_stuck(
+    alloc: Global,
+    labels: &[Label<'_>],
+    program: &Program,
+    lines: &[u32],
+    nodes: u8,
+) -> Result<Section, AllocError>
+    requires { NeverStuck program.now nodes }
+    ensures { IfOk result (λ section. SaysStuck (map label_seen labels.now) program.now nodes
+        lines.now section.told (section_text section)) }
 {
     // For the proof: the lines are in range, and the labels are those of the others.
     let _lines = lines;
     let _labels = labels;
-    let mut parts = Vec::new(alloc);
-    parts.push(Vec::from_slice(alloc, b"race free in every order\nno order gets stuck\n")?)?;
-    Ok(Printout { parts, status: 0 })
+    let section = line_alone(alloc, b"no order gets stuck\n")?;
+    Ok(section)
 }
 
 // An order that gets stuck, and where it leaves the nodes.
@@ -108,20 +225,87 @@ fn stuck_told(
     lines: &[u32],
     nodes: u8,
     order: &[usize],
-) -> Result<Printout, AllocError>
+) -> Result<Section, AllocError>
     requires nodes { AreNodes nodes }
-    requires free { HasNoRace program.now nodes }
     requires stuck { GetsStuck program.now nodes order.now }
-    ensures { IfOk result (λ printout.
-        TellsOrders (map label_seen labels.now) program.now nodes lines.now
-        (whole_text printout.parts.items) printout.status) }
+    ensures { IfOk result (λ section. SaysStuck (map label_seen labels.now) program.now nodes
+        lines.now section.told (section_text section)) }
 {
-    let acts = acts_of(alloc, program, nodes, order)?;
-    let head = Vec::from_slice(alloc, b"race free in every order\nsome order gets stuck:\n")?;
-    let told = acts_told(alloc, program, lines, nodes, &acts)?;
-    let ends = ends_told(alloc, labels, program, lines, nodes, &acts)?;
-    let parts = three_parts(alloc, head, told, ends)?;
-    Ok(Printout { parts, status: 4 })
+    let made = acts_of(alloc, program, nodes, order)?;
+    let head = Vec::from_slice(alloc, b"some order gets stuck:\n")?;
+    let acts = acts_told(alloc, program, lines, nodes, &made)?;
+    let ends = ends_told(alloc, labels, program, lines, nodes, &made)?;
+    Ok(Section {
+        told: true,
+        head,
+        acts,
+        ends,
+    })
+}
+
+// What is said of traps.
+fn trap_section(
+    alloc: Global,
+    labels: &[Label<'_>],
+    program: &Program,
+    lines: &[u32],
+    nodes: u8,
+    trap: &Option<Vec<usize>>,
+) -> Result<Section, AllocError>
+    requires nodes { AreNodes nodes }
+    requires trap { TellsTrap program.now nodes (option_map (λ order. order.items) trap.now) }
+    ensures { IfOk result (λ section. SaysTrap (map label_seen labels.now) program.now nodes
+        lines.now section.told (section_text section)) }
+{
+    match trap {
+        None => none_traps(alloc, labels, program, lines, nodes),
+        Some(order) => trap_told(alloc, labels, program, lines, nodes, order),
+    }
+}
+
+// That no node traps in any order.
+fn none_traps(
+    alloc: Global,
+    labels: &[Label<'_>],
+    program: &Program,
+    lines: &[u32],
+    nodes: u8,
+) -> Result<Section, AllocError>
+    requires { NeverTraps program.now nodes }
+    ensures { IfOk result (λ section. SaysTrap (map label_seen labels.now) program.now nodes
+        lines.now section.told (section_text section)) }
+{
+    // For the proof: the lines are in range, and the labels are those of the others.
+    let _lines = lines;
+    let _labels = labels;
+    let section = line_alone(alloc, b"no node traps\n")?;
+    Ok(section)
+}
+
+// An order in which a node traps, and the nodes that have trapped after it.
+fn trap_told(
+    alloc: Global,
+    labels: &[Label<'_>],
+    program: &Program,
+    lines: &[u32],
+    nodes: u8,
+    order: &[usize],
+) -> Result<Section, AllocError>
+    requires nodes { AreNodes nodes }
+    requires traps { NodeTraps program.now nodes order.now }
+    ensures { IfOk result (λ section. SaysTrap (map label_seen labels.now) program.now nodes
+        lines.now section.told (section_text section)) }
+{
+    let made = acts_of(alloc, program, nodes, order)?;
+    let head = Vec::from_slice(alloc, b"some order traps:\n")?;
+    let acts = acts_told(alloc, program, lines, nodes, &made)?;
+    let ends = trapped_part(alloc, labels, program, lines, nodes, &made)?;
+    Ok(Section {
+        told: true,
+        head,
+        acts,
+        ends,
+    })
 }
 
 // What the earliest race of an order comes of.

@@ -1,5 +1,6 @@
 pub mod Meeting
 pub mod Stuck
+pub mod Traps
 pub mod Kept
 pub mod Verdict
 pub mod Notes

@@ -10,3 +10,4 @@ pub mod notes;
 pub mod outcomes;
 pub mod search;
 pub mod seen;
+pub mod traps;

@@ -3,12 +3,21 @@
 use std::alloc::AllocError;
 use thiserror::Error;
 
+/// What the search found of the orders of a program, besides races.
+#[derive(Drop)]
+pub struct Findings {
+    /// An order after which no node can make an act and some node has neither ended nor trapped, or none if no order
+    /// leads there.
+    pub stuck: Option<Vec<usize>>,
+    /// An order in which a node traps, or none if no node traps in any order.
+    pub trap: Option<Vec<usize>>,
+}
+
 /// What the search found.
 #[derive(Drop)]
 pub enum Verdict {
-    /// No order races. After the order given, no node can make an act and some node has neither ended nor trapped. None
-    /// is given if no order leads there.
-    RaceFree { stuck: Option<Vec<usize>> },
+    /// No order races. These are the findings besides.
+    RaceFree(Findings),
     /// The last two acts of the order given race.
     Racy { order: Vec<usize> },
 }

@@ -1,28 +1,39 @@
--- Acts of which each node notes the same: acts of two nodes may change places.
+-- Acts of which each node notes the same, and a node traps in both or in none: acts of two nodes may change places.
 use Rattle.std.proofs.Common.{◌≡◌, ℕ, zero, suc, List, [], ◌∷◌, ◌++◌, Bool, true, false, refl, sym, ap, ◌∙◌}
-use Rattle.std.specs.Prelude.{cond, filter, nat_eq}
+use Rattle.std.specs.Prelude.{cond, filter, nat_eq, ◌||◌}
 use Rattle.std.proofs.lemmas.Bool.{and_parts, eqb-true}
 use Rattle.lrc_trace.specs.declared.act.Act.{Act}
 use Rattle.lrc_orders.specs.Notes.{is_noted_deed, is_note_of, notes_from}
+use Rattle.lrc_orders.specs.Traps.{has_trap, is_trap}
 
 pub record Alike (xs ys : List Act) : Type 0 where
   pub same : (node : ℕ) → filter (is_note_of node) xs ≡ filter (is_note_of node) ys
+  pub traps : has_trap xs ≡ has_trap ys
 
 pub alike_here : (xs : List Act) → Alike xs xs
-alike_here xs = record { same = λ node. refl }
+alike_here xs = record { same = λ node. refl; traps = refl }
 
 pub alike_on : {xs ys zs : List Act} → Alike xs ys → Alike ys zs → Alike xs zs
-alike_on a b = record { same = λ node. a.same node ∙ b.same node }
+alike_on a b = record { same = λ node. a.same node ∙ b.same node; traps = a.traps ∙ b.traps }
 
 pub alike_behind : (act : Act) {xs ys : List Act} → Alike xs ys → Alike (act ∷ xs) (act ∷ ys)
-alike_behind act a = record { same = λ node. ap (λ l. cond (is_note_of node act) (act ∷ l) l) (a.same node) }
+alike_behind act a = record {
+  same = λ node. ap (λ l. cond (is_note_of node act) (act ∷ l) l) (a.same node);
+  traps = ap (λ b. is_trap act.deed || b) a.traps;
+}
 
 pub alike_join : (xs : List Act) {ys zs : List Act} → Alike ys zs → Alike (xs ++ ys) (xs ++ zs)
 alike_join [] a = a
 alike_join (x ∷ xs) a = alike_behind x (alike_join xs a)
 
 pub alike_is : {xs ys : List Act} → xs ≡ ys → Alike xs ys
-alike_is e = record { same = λ node. ap (filter (is_note_of node)) e }
+alike_is e = record { same = λ node. ap (filter (is_note_of node)) e; traps = ap has_trap e }
+
+either_first : (x y z : Bool) → (x || (y || z)) ≡ (y || (x || z))
+either_first true true z = refl
+either_first true false z = refl
+either_first false true z = refl
+either_first false false z = refl
 
 swapped : (x y : Bool) (a b : Act) (l : List Act) → (x ≡ true → y ≡ true → ⊥)
     → cond x (a ∷ cond y (b ∷ l) l) (cond y (b ∷ l) l) ≡ cond y (b ∷ cond x (a ∷ l) l) (cond x (a ∷ l) l)
@@ -38,6 +49,7 @@ pub alike_swap : (a b : Act) (xs : List Act) → (a.node ≡ b.node → ⊥) →
 alike_swap a b xs apart = record {
   same = λ node. swapped (is_note_of node a) (is_note_of node b) a b (filter (is_note_of node) xs)
       (λ e f. apart (noted_of node a e ∙ sym (noted_of node b f)));
+  traps = either_first (is_trap a.deed) (is_trap b.deed) (has_trap xs);
 }
 
 pub notes_alike : {xs ys : List Act} → Alike xs ys → (count first : ℕ) → notes_from first count xs ≡ notes_from first count ys

@@ -1,6 +1,6 @@
 -- In front: a run from where a node can make an act that commutes can begin with this act, and go on with the rest.
 use Rattle.std.proofs.Common.{◌≡◌, ℕ, ◌+◌, ◌<◌, List, [], ◌∷◌, ◌⊎◌, inl, inr, Bool, true, false, length, refl, sym, ap, ◌∙◌, subst, arith}
-use Rattle.std.specs.Prelude.{Option, Some, None}
+use Rattle.std.specs.Prelude.{Option, Some, None, ◌||◌}
 use Rattle.std.proofs.lemmas.Bool.{cases_eq}
 use Rattle.std.proofs.lemmas.Option.{some_pair_parts}
 use Rattle.lrc_trace.specs.declared.act.Act.{Act}
@@ -12,6 +12,7 @@ use Rattle.lrc_consistency_laws.specs.Follows.{Goes, quietly, printing, reading,
 use Rattle.lrc_consistency_laws.proofs.Plainly.{stepwise, one_more}
 use Rattle.lrc_orders.specs.Meeting.{access_of, next_access_in, next_access, Meet}
 use Rattle.lrc_orders.specs.Stuck.{IsAtRest}
+use Rattle.lrc_orders.specs.Traps.{has_trap, is_trap}
 use Rattle.lrc_orders_laws.specs.Free.{is_contended}
 use Rattle.lrc_orders_laws.proofs.Parts.{Stepped, stepped}
 use Rattle.lrc_orders_laws.proofs.Held.{Held, held_after}
@@ -28,7 +29,7 @@ Occurs node (x ∷ xs) = (x ≡ node) ⊎ Occurs node xs
 pub data Ending (node : ℕ) (deed : Deed) (order new_order : List ℕ) (acts new_acts : List Act) (final new_final : Plain) : Type 0 where
   within : length new_order + 1 ≡ length order → new_final ≡ final → Alike (act_of node deed ∷ new_acts) acts
       → Ending node deed order new_order acts new_acts final new_final
-  behind : new_order ≡ order → (Occurs node order → ⊥) → plain_step final node ≡ Some (deed, new_final)
+  behind : new_order ≡ order → new_acts ≡ acts → (Occurs node order → ⊥) → plain_step final node ≡ Some (deed, new_final)
       → Ending node deed order new_order acts new_acts final new_final
 
 -- the run that goes on behind the act
@@ -45,8 +46,8 @@ ending_on : (node x : ℕ) (deed first : Deed) (order new_order : List ℕ) (act
     → Ending node deed (x ∷ order) (x ∷ new_order) (act_of x first ∷ acts) (act_of x first ∷ new_acts) final new_final
 ending_on node x deed first order new_order acts new_acts final new_final apart (within shorter same alike) =
     within (omega arith) same (alike_on (alike_swap (act_of node deed) (act_of x first) new_acts apart) (alike_behind (act_of x first) alike))
-ending_on node x deed first order new_order acts new_acts final new_final apart (behind same absent last) =
-    behind (ap (λ l. x ∷ l) same) (λ occurs. elim occurs [
+ending_on node x deed first order new_order acts new_acts final new_final apart (behind same acts_same absent last) =
+    behind (ap (λ l. x ∷ l) same) (ap (λ l. act_of x first ∷ l) acts_same) (λ occurs. elim occurs [
       | inl e ↦ apart (sym e)
       | inr later ↦ absent later
     ]) last
@@ -61,7 +62,7 @@ in_front [] machine final acts node deed after held step steady e =
       new_acts = [];
       new_final = after;
       run = refl;
-      ending = behind refl (λ occurs. occurs) (subst (λ m. plain_step m node ≡ Some (deed, after)) parts.1 step);
+      ending = behind refl parts.0 (λ occurs. occurs) (subst (λ m. plain_step m node ≡ Some (deed, after)) parts.1 step);
     }
 in_front (x ∷ order) machine final acts node deed after held step steady e =
     let s = stepwise machine x order acts final e in
@@ -91,13 +92,20 @@ in_front (x ∷ order) machine final acts node deed after held step steady e =
           }
     ]
 
--- what is kept of where a run ends: at rest it is where it was and the notes are the same, and who meets there still does
+-- what is kept of where a run ends: at rest it is where it was and the notes are the same, who meets there still does, and where a node
+-- trapped one still does
 pub record Follows (acts new_acts : List Act) (final new_final : Plain) : Type 0 where
   pub rest : IsAtRest final → (new_final ≡ final) × Alike new_acts acts
   pub meets : (p q : ℕ) → Meet final p q → Meet new_final p q
+  pub traps : has_trap acts ≡ true → has_trap new_acts ≡ true
+
+-- what an act more shows, or what the acts behind it do
+pub either_on : (b : Bool) {x y : Bool} → (x ≡ true → y ≡ true) → (b || x) ≡ true → (b || y) ≡ true
+either_on true on e = refl
+either_on false on e = on e
 
 pub follows_here : (acts : List Act) (final : Plain) → Follows acts acts final final
-follows_here acts final = record { rest = λ still. (refl, alike_here acts); meets = λ p q meet. meet }
+follows_here acts final = record { rest = λ still. (refl, alike_here acts); meets = λ p q meet. meet; traps = λ e. e }
 
 pub follows_on : {ks ls ms : List Act} {x y z : Plain} → Follows ks ls x y → Follows ls ms y z → Follows ks ms x z
 follows_on {x = x} {y = y} {z = z} f g = record {
@@ -106,10 +114,15 @@ follows_on {x = x} {y = y} {z = z} f g = record {
       let two = g.rest (subst IsAtRest (sym one.0) still) in
       (two.0 ∙ one.0, alike_on two.1 one.1);
   meets = λ p q meet. g.meets p q (f.meets p q meet);
+  traps = λ e. g.traps (f.traps e);
 }
 
 pub follows_behind : (act : Act) {ks ls : List Act} {x y : Plain} → Follows ks ls x y → Follows (act ∷ ks) (act ∷ ls) x y
-follows_behind act f = record { rest = λ still. let one = f.rest still in (one.0, alike_behind act one.1); meets = f.meets }
+follows_behind act f = record {
+  rest = λ still. let one = f.rest still in (one.0, alike_behind act one.1);
+  meets = f.meets;
+  traps = either_on (is_trap act.deed) f.traps;
+}
 
 pub follows_is : {ks ls ms : List Act} {x y : Plain} → ks ≡ ls → Follows ks ms x y → Follows ls ms x y
 follows_is {ms = ms} {x = x} {y = y} e f = subst (λ l. Follows l ms x y) e f
@@ -147,17 +160,23 @@ meet_still machine after node p q none others meet = record {
   writes = meet.writes;
 }
 
+either_late : (b : Bool) {x : Bool} → x ≡ true → (b || x) ≡ true
+either_late true e = refl
+either_late false e = e
+
 pub ending_follows : (node : ℕ) (deed : Deed) (order new_order : List ℕ) (acts new_acts : List Act) (final new_final : Plain)
     → is_contended deed ≡ false
     → Ending node deed order new_order acts new_acts final new_final → Follows acts (act_of node deed ∷ new_acts) final new_final
 ending_follows node deed order new_order acts new_acts final new_final steady (within shorter same alike) = record {
   rest = λ still. (same, alike);
   meets = λ p q meet. subst (λ m. Meet m p q) (sym same) meet;
+  traps = λ e. alike.traps ∙ e;
 }
-ending_follows node deed order new_order acts new_acts final new_final steady (behind same absent last) =
+ending_follows node deed order new_order acts new_acts final new_final steady (behind same acts_same absent last) =
     let s = stepped final node deed new_final last in record {
       rest = λ still. let e : None ≡ Some (deed, new_final) = sym (still node) ∙ last in cc;
       meets = λ p q meet. meet_still final new_final node p q (not_its_access s steady) s.others meet;
+      traps = λ e. either_late (is_trap deed) (ap has_trap acts_same ∙ e);
     }
 
 -- the run behind an act put in front is no longer, and shorter where the node acts in it
@@ -165,4 +184,4 @@ pub ending_length : (node : ℕ) (deed : Deed) (order new_order : List ℕ) (act
     → Ending node deed order new_order acts new_acts final new_final
     → (length new_order < length order) ⊎ ((new_order ≡ order) × (Occurs node order → ⊥))
 ending_length node deed order new_order acts new_acts final new_final (within shorter same alike) = inl (omega arith)
-ending_length node deed order new_order acts new_acts final new_final (behind same absent last) = inr (same, absent)
+ending_length node deed order new_order acts new_acts final new_final (behind same acts_same absent last) = inr (same, absent)

@@ -13,6 +13,7 @@ use Rattle.lrc_exec.specs.Plain.{Plain, plain_step, plain_from, plain_start}
 use Rattle.lrc_consistency_laws.specs.Follows.{Goes, quietly, printing, reading, writing, acquiring, releasing, arriving, departing, trapping, ending}
 use Rattle.lrc_consistency_laws.proofs.Plainly.{stepwise}
 use Rattle.lrc_orders.specs.Stuck.{IsAtRest}
+use Rattle.lrc_orders.specs.Traps.{has_trap}
 use Rattle.lrc_orders_laws.specs.Free.{is_free, is_free_in, is_contended, TurnsAt}
 use Rattle.lrc_orders_laws.specs.Settling.{IsSettled, Settles, settled, settling}
 use Rattle.lrc_orders_laws.specs.Steps.{Leads, alone, together, IsSettledState, beginning, onward}
@@ -153,7 +154,7 @@ module _ (Goal : Type 0) (Good : Plain → Type 0)
         made = on.made;
         there = on.there;
         way = on.way;
-        follows = follows_on (record { rest = λ still. absurd (never still); meets = d.meets }) on.follows;
+        follows = follows_on (record { rest = λ still. absurd (never still); meets = d.meets; traps = λ t. d.traps (ap has_trap (sym acts_are) ∙ t) }) on.follows;
       }))
   -- the first depart of an episode is the step of all
   by_kind most next machine is fine x order acts final le run deed after more first rest acts_are s good then_goal false false e f =

@@ -1,7 +1,8 @@
 -- The laws: what some order leads to is what settled states have.
-use Rattle.std.proofs.Common.{◌≡◌, ℕ, List, [], ◌∷◌, ◌++◌, length, refl, sym, ap, ◌∙◌, subst}
+use Rattle.std.proofs.Common.{◌≡◌, ℕ, Bool, true, false, List, [], ◌∷◌, ◌++◌, length, refl, sym, ap, ◌∙◌, subst}
 use Rattle.std.specs.Prelude.{Some, ◌↔◌}
 use Rattle.std.specs.List.{range_with_len}
+use Rattle.std.proofs.lemmas.Bool.{true≢false}
 use Rattle.std.proofs.lemmas.List.{map-append}
 use Rattle.lrc_lang.specs.declared.program.Program.{Program}
 use Rattle.lrc_trace.specs.declared.act.Act.{Act}
@@ -13,10 +14,11 @@ use Rattle.lrc_consistency_laws.proofs.Plainly.{one_more, plain_from-joined}
 use Rattle.lrc_orders.specs.Meeting.{Meet, NeverMeets}
 use Rattle.lrc_orders.specs.Outcome.{IsOutcome}
 use Rattle.lrc_orders.specs.Stuck.{IsAtRest, GetsStuck}
+use Rattle.lrc_orders.specs.Traps.{NeverTraps, has_trap}
 use Rattle.lrc_orders.proofs.Meetings.{never_meets, no_race, racing}
 use Rattle.lrc_orders.specs.Verdict.{EndsInRace}
 use Rattle.lrc_orders_laws.specs.Settling.{IsSettled, Settles, settled, settling}
-use Rattle.lrc_orders_laws.specs.Steps.{Leads, alone, together, IsSettledState, beginning, onward, NeverMeetsSettled, GetsStuckSettled, IsSettledOutcome}
+use Rattle.lrc_orders_laws.specs.Steps.{Leads, alone, together, IsSettledState, beginning, onward, NeverMeetsSettled, GetsStuckSettled, NeverTrapsSettled, IsSettledOutcome}
 use Rattle.lrc_orders_laws.proofs.Alike.{Alike, notes_alike}
 use Rattle.lrc_orders_laws.proofs.Finishing.{finishes_by_rest, all_may_finish}
 use Rattle.lrc_orders_laws.proofs.Onward.{is_settled, from_start, settled_state}
@@ -86,6 +88,13 @@ never_settled program nodes never machine reached p q meet =
     program nodes reached.order reached.acts machine reached.led tt (λ s.
     never (s.first ++ s.made) s.there (settled_state s) p q (s.follows.meets p q meet))
 
+-- a node traps in no order where none does on a way to a settled state
+pub never_traps_settled : (program : Program) (nodes : ℕ) → NeverTrapsSettled program nodes → NeverTraps program nodes
+never_traps_settled program nodes never order t =
+    from_start ⊥ (λ m. Unit {0}) (λ a b same good. tt) (λ m o made last led good go. all_may_finish m go)
+    program nodes order t.acts t.machine t.led tt (λ s.
+    true≢false (sym (s.follows.traps t.traps) ∙ never (s.first ++ s.made) s.there (settled_state s)))
+
 -- ---- the laws
 
 pub races : (program : Program) (nodes : ℕ) → (HasNoRace program nodes ↔ NeverMeetsSettled program nodes)
@@ -105,6 +114,19 @@ stuck program nodes = (
       let r = rests_settled program nodes some.0 g.acts g.machine g.led g.stuck.0 in
       record { acts = r.new_acts; machine = g.machine; led = r.state; stuck = g.stuck },
   λ s. (nodes_of_acts s.acts, record { acts = s.acts; machine = s.machine; led = state_run s.led; stuck = s.stuck }),
+)
+
+-- the acts that lead to a settled state have no trap, where no order has one
+no_trap : (program : Program) (nodes : ℕ) → NeverTraps program nodes → (acts : List Act) (machine : Plain) → IsSettledState program nodes acts machine
+    → (b : Bool) → has_trap acts ≡ b → b ≡ false
+no_trap program nodes never acts machine state true e =
+    absurd (never (nodes_of_acts acts) (record { acts = acts; machine = machine; led = state_run state; traps = e }))
+no_trap program nodes never acts machine state false e = refl
+
+pub traps : (program : Program) (nodes : ℕ) → (NeverTraps program nodes ↔ NeverTrapsSettled program nodes)
+traps program nodes = (
+  λ never acts machine state. no_trap program nodes never acts machine state (has_trap acts) refl,
+  never_traps_settled program nodes,
 )
 
 pub outcomes : (program : Program) (nodes : ℕ) (notes : List Act) → (IsOutcome program nodes notes ↔ IsSettledOutcome program nodes notes)

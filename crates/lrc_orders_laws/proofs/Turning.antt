@@ -1,6 +1,6 @@
 -- Threads that turn for ever: what they do keeps them turning, and can be left out of a run.
 use Rattle.std.proofs.Common.{◌≡◌, ℕ, suc, ◌≤◌, List, [], ◌∷◌, inl, inr, length, refl, sym, ap, ◌∙◌, subst, arith}
-use Rattle.std.specs.Prelude.{Option, Some, None, IsSome, option_and_then, slice_set}
+use Rattle.std.specs.Prelude.{Option, Some, None, IsSome, true, false, ◌||◌, option_and_then, slice_set}
 use Rattle.std.proofs.lemmas.Bool.{cases_eq}
 use Rattle.std.proofs.lemmas.List.{get_or-set_other, set_comm, set-set, set-get_or}
 use Rattle.std.proofs.lemmas.Option.{some_pair_parts}
@@ -16,9 +16,10 @@ use Rattle.lrc_consistency_laws.proofs.Plainly.{stepwise, one_more}
 use Rattle.lrc_orders.proofs.Effects.{after_of}
 use Rattle.lrc_orders.specs.Meeting.{access_of, next_access_in, next_access, Meet}
 use Rattle.lrc_orders.specs.Stuck.{IsAtRest}
+use Rattle.lrc_orders.specs.Traps.{has_trap, is_trap}
 use Rattle.lrc_orders_laws.specs.Free.{after_quiet, after_quiets, Turns, TurnsIn, TurnsAt}
 use Rattle.lrc_orders_laws.proofs.Parts.{Stepped, stepped, can_step}
-use Rattle.lrc_orders_laws.proofs.Front.{meet_still}
+use Rattle.lrc_orders_laws.proofs.Front.{either_on, meet_still}
 
 pub no_some : {X : Type 0} → IsSome {T = Thread} None → X
 no_some e = cc
@@ -41,11 +42,12 @@ turns_on thread turns = turns_by thread (after_quiet (next_of thread)) refl (λ 
 pub record OnlyTurns (machine : Plain) (node : ℕ) (deed : Deed) (new : Option Thread) (after : Thread) : Type 0 where
   pub new_is : new ≡ Some after
   pub effect : after_of machine node deed new ≡ with_thread machine node new
+  pub no_trap : is_trap deed ≡ false
 
 only_turns : (machine : Plain) (node : ℕ) {next : Next} {deed : Deed} {new : Option Thread} → Goes next deed new → (after : Thread)
     → after_quiet next ≡ Some after → OnlyTurns machine node deed new after
-only_turns machine node quietly after e = record { new_is = e; effect = refl }
-only_turns machine node printing after e = record { new_is = e; effect = refl }
+only_turns machine node quietly after e = record { new_is = e; effect = refl; no_trap = refl }
+only_turns machine node printing after e = record { new_is = e; effect = refl; no_trap = refl }
 only_turns machine node reading after e = cc
 only_turns machine node writing after e = cc
 only_turns machine node acquiring after e = cc
@@ -56,14 +58,15 @@ only_turns machine node trapping after e = cc
 only_turns machine node ending after e = cc
 
 -- the step of a node that turns
-pub record TurnStep (machine : Plain) (node : ℕ) (after : Plain) : Type 0 where
+pub record TurnStep (machine : Plain) (node : ℕ) (deed : Deed) (after : Plain) : Type 0 where
   pub thread : Thread
   pub leads : after ≡ with_thread machine node (Some thread)
   pub own : thread_in after node ≡ Some thread
   pub turns : Turns thread
+  pub no_trap : is_trap deed ≡ false
 
 pub turn_step : (machine : Plain) (node : ℕ) (deed : Deed) (after : Plain) → Stepped machine node deed after → TurnsAt machine node
-    → TurnStep machine node after
+    → TurnStep machine node deed after
 turn_step machine node deed after s turns =
     let t = turns_on s.thread (subst TurnsIn s.there turns) in
     let only = only_turns machine node s.took.goes t.after t.is in
@@ -72,6 +75,7 @@ turn_step machine node deed after s turns =
       leads = s.took.is ∙ only.effect ∙ ap (with_thread machine node) only.new_is;
       own = s.own ∙ only.new_is;
       turns = t.on;
+      no_trap = only.no_trap;
     }
 
 pub turns_after : (machine : Plain) (x node : ℕ) (deed : Deed) (after : Plain) → plain_step machine x ≡ Some (deed, after) → TurnsAt machine node
@@ -164,17 +168,18 @@ aside machine after x node thread deed apart e =
     alike _ can = can
 
 -- the run with the node's thread another that turns too
-pub record Without (machine : Plain) (node : ℕ) (thread : Thread) (order : List ℕ) (final : Plain) : Type 0 where
+pub record Without (machine : Plain) (node : ℕ) (thread : Thread) (order : List ℕ) (acts : List Act) (final : Plain) : Type 0 where
   pub new_order : List ℕ
   pub new_acts : List Act
   pub run : plain_from (with_thread machine node (Some thread)) new_order ≡ Some (new_acts, with_thread final node (Some thread))
   pub short : length new_order ≤ length order
+  pub traps : has_trap acts ≡ true → has_trap new_acts ≡ true
 
 pub without : (order : List ℕ) (machine final : Plain) (acts : List Act) (node : ℕ) (thread : Thread) → plain_from machine order ≡ Some (acts, final)
-    → TurnsAt machine node → Without machine node thread order final
+    → TurnsAt machine node → Without machine node thread order acts final
 without [] machine final acts node thread e turns =
     let same = some_pair_parts [] acts machine final e in
-    record { new_order = []; new_acts = []; run = ap (λ (m : Plain). nothing (with_thread m node (Some thread))) same.1; short = omega arith }
+    record { new_order = []; new_acts = []; run = ap (λ (m : Plain). nothing (with_thread m node (Some thread))) same.1; short = omega arith; traps = λ e. ap has_trap same.0 ∙ e }
 without (x ∷ order) machine final acts node thread e turns =
     let s = stepwise machine x order acts final e in
     let more = without order s.after final s.more node thread s.rest (turns_after machine x node s.deed s.after s.first turns) in
@@ -191,6 +196,7 @@ without (x ∷ order) machine final acts node thread e turns =
             new_acts = more.new_acts;
             run = ap (λ m. plain_from m more.new_order) (sym back) ∙ more.run;
             short = let le = more.short in omega arith;
+            traps = λ e. more.traps (ap (λ b. b || has_trap s.more) (sym t.no_trap) ∙ ap has_trap (sym s.acts_are) ∙ e);
           }
       | inr apart ↦ record {
         new_order = x ∷ more.new_order;
@@ -198,20 +204,22 @@ without (x ∷ order) machine final acts node thread e turns =
         run = one_more (with_thread machine node (Some thread)) (with_thread s.after node (Some thread)) (with_thread final node (Some thread)) x s.deed
             more.new_order more.new_acts (aside machine s.after x node thread s.deed apart s.first) more.run;
         short = let le = more.short in omega arith;
+        traps = λ e. either_on (is_trap s.deed) more.traps (ap has_trap (sym s.acts_are) ∙ e);
       }
     ]
 
 -- a step of a node that turns left out
-pub record Dropped (machine : Plain) (order : List ℕ) (acts : List Act) (final : Plain) : Type 0 where
+pub record Dropped (machine : Plain) (node : ℕ) (deed : Deed) (order : List ℕ) (acts : List Act) (final : Plain) : Type 0 where
   pub new_order : List ℕ
   pub new_acts : List Act
   pub new_final : Plain
   pub run : plain_from machine new_order ≡ Some (new_acts, new_final)
   pub short : length new_order ≤ length order
   pub meets : (p q : ℕ) → Meet final p q → Meet new_final p q
+  pub traps : has_trap (act_of node deed ∷ acts) ≡ true → has_trap new_acts ≡ true
 
 pub dropped : (machine after final : Plain) (node : ℕ) (deed : Deed) (order : List ℕ) (acts : List Act) → plain_step machine node ≡ Some (deed, after)
-    → TurnsAt machine node → plain_from after order ≡ Some (acts, final) → Dropped machine order acts final
+    → TurnsAt machine node → plain_from after order ≡ Some (acts, final) → Dropped machine node deed order acts final
 dropped machine after final node deed order acts first turns rest =
     let s = stepped machine node deed after first in
     let t = turn_step machine node deed after s turns in
@@ -230,4 +238,5 @@ dropped machine after final node deed order acts first turns rest =
       short = w.short;
       meets = λ p q meet. meet_still final (with_thread final node (Some s.thread)) node p q (turning_meets_none final node last)
           (λ other apart. get_or-set_other final.threads node other (Some s.thread) None apart) meet;
+      traps = λ e. w.traps (ap (λ b. b || has_trap acts) (sym t.no_trap) ∙ e);
     }

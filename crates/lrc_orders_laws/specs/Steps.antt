@@ -10,6 +10,7 @@ use Rattle.lrc_exec.specs.Plain.{Plain, thread_in, plain_step, plain_from, plain
 use Rattle.lrc_orders.specs.Meeting.{IsCalm}
 use Rattle.lrc_orders.specs.Notes.{notes_of}
 use Rattle.lrc_orders.specs.Stuck.{IsAtRest, IsStuck}
+use Rattle.lrc_orders.specs.Traps.{has_trap}
 use Rattle.lrc_orders_laws.specs.Free.{is_contended}
 use Rattle.lrc_orders_laws.specs.Settling.{Settles}
 
@@ -46,6 +47,10 @@ pub record GetsStuckSettled (program : Program) (nodes : ℕ) : Type 0 where
   pub machine : Plain
   pub led : IsSettledState program nodes acts machine
   pub stuck : IsStuck machine
+
+-- by no acts that lead to a settled state a node traps
+abbrev pub NeverTrapsSettled : Program → ℕ → Type 0
+NeverTrapsSettled program nodes = (acts : List Act) (machine : Plain) → IsSettledState program nodes acts machine → has_trap acts ≡ false
 
 -- at some settled state no node can make an act, and these are the notes of the acts that lead there
 pub record IsSettledOutcome (program : Program) (nodes : ℕ) (notes : List Act) : Type 0 where

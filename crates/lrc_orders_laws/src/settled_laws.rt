@@ -11,11 +11,12 @@ ghost use Rattle.lrc_consistency_laws.specs.Racing.{HasNoRace};
 ghost use Rattle.lrc_orders.specs.Outcome.{IsOutcome};
 ghost use Rattle.lrc_orders.specs.Meeting.{Meet};
 ghost use Rattle.lrc_orders.specs.Stuck.{IsAtRest, GetsStuck};
+ghost use Rattle.lrc_orders.specs.Traps.{NeverTraps};
 ghost use Rattle.lrc_orders.specs.Verdict.{EndsInRace};
 ghost use Rattle.lrc_orders_laws.specs.Free.{after_quiets, Turns, TurnsAt};
 ghost use Rattle.lrc_orders_laws.specs.Rows.{AreAlike, GoesOnAlike};
 ghost use Rattle.lrc_orders_laws.specs.Settling.{IsSettled, Settles};
-ghost use Rattle.lrc_orders_laws.specs.Steps.{IsSettledState, NeverMeetsSettled, GetsStuckSettled, IsSettledOutcome, IsSettledCertificate};
+ghost use Rattle.lrc_orders_laws.specs.Steps.{IsSettledState, NeverMeetsSettled, NeverTrapsSettled, GetsStuckSettled, IsSettledOutcome, IsSettledCertificate};
 ghost use Rattle.lrc_orders_laws.specs.Threads.{ThreadSettles, SettlesByThreads, SettlesTogether, LocksSettle};
 
 /// A program has no race exactly if at no settled state two nodes are about to access the same word, and at least one
@@ -30,6 +31,13 @@ pub fn a_race_is_a_meeting_of_a_settled_state()
 pub fn some_order_gets_stuck_where_a_settled_state_is()
     ensures { (program : Program) (nodes : ℕ)
         → (((order : List ℕ) × GetsStuck program nodes order) ↔ GetsStuckSettled program nodes) }
+{}
+
+/// A node traps in no order exactly if in none of the acts that lead to a settled state one does. (After a trap the
+/// others can settle, and what settles has all traps that were made.)
+pub fn no_order_traps_where_no_way_to_a_settled_state_does()
+    ensures { (program : Program) (nodes : ℕ)
+        → (NeverTraps program nodes ↔ NeverTrapsSettled program nodes) }
 {}
 
 /// The outcomes are exactly those of the settled states at which no node can make an act.

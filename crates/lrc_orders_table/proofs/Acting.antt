@@ -103,7 +103,7 @@ module _ (means : Means) (old one two last : Table) (row : Row) (key : Noted) (n
     (becomes : IsSharedAt two.rows.shared.keys shared (words_then next of.stands.shared.shared.memory.items)
     (freed after.deeds.items (holders_then node next of.stands.shared.shared.holders.items)))
     (noted : means.noting ≡ true → AreNotesAt last.rows.notes.keys notes (notes_on key.notes.items (acts_by node after.deeds.items)))
-    (bare : means.noting ≡ false → notes ≡ row.notes) where
+    (bare : means.noting ≡ false → notes ≡ row.notes) (traps : Bool) (traps_are : traps ≡ after.traps) where
   the : IsAfter means one.rows.threads.keys (record { thread = slice_index row.threads node; value = value }) after
   the = known.afters place (record { thread = slice_index row.threads node; value = value }) after comes
 
@@ -144,7 +144,8 @@ module _ (means : Means) (old one two last : Table) (row : Row) (key : Noted) (n
       (λ e. subst (λ ds. AreNotesAt last.rows.notes.keys notes (notes_on key.notes.items (acts_by node ds))) the.deeds (noted e))
       (λ e. subst (λ k. AreNotesAt last.rows.notes.keys k key.notes.items) (sym (bare e)) of_last.stands.notes)
 
-  pub has_gone : HasGone means key node value last (record { threads = slice_set row.threads node thread; shared = shared; notes = notes })
+  pub has_gone : HasGone means key node value last
+      (record { row = record { threads = slice_set row.threads node thread; shared = shared; notes = notes }; traps = traps })
   has_gone = record {
     spot = spot;
     here = here;
@@ -152,6 +153,7 @@ module _ (means : Means) (old one two last : Table) (row : Row) (key : Noted) (n
     so = so;
     new = new_key means last row key node value thread shared notes spot the.settled of_last here so kept s n.acts n.are;
     of = new_of means last row key node value thread shared notes spot the.settled of_last here so kept s n.acts n.are;
+    traps = traps_are ∙ the.traps;
     memory = s.words_are;
     holders = s.holders_are;
     spots = refl;

@@ -1,7 +1,8 @@
 -- The step of one node.
 use Rattle.std.proofs.Common.{◌≡◌, ℕ, ◌<◌, Bool, true, false, List, ◌∷◌, inl, inr, length, get_or, map, refl, sym, ◌∙◌, ap, subst, arith}
-use Rattle.std.specs.Prelude.{Option, Some, None, if◌then◌else◌, option_and_then, option_map, slice_get, slice_index, slice_index_or, slice_set}
+use Rattle.std.specs.Prelude.{◌||◌, Option, Some, None, if◌then◌else◌, option_and_then, option_map, slice_get, slice_index, slice_index_or, slice_set}
 use Rattle.std.specs.Vec.{with_item}
+use Rattle.std.specs.List.{list_any}
 use Rattle.std.proofs.lemmas.Bool.{cases_eq, true≢false}
 use Rattle.std.proofs.lemmas.List.{get_or-set_other, get_or-set_same, length-map, length-set, map-set}
 use Rattle.std.proofs.lemmas.Option.{get_or_from_slice_get, same_Some, slice_get_within}
@@ -23,6 +24,7 @@ use Rattle.lrc_exec.proofs.PlainDeeds.{if_first}
 use Rattle.lrc_exec.proofs.States.{going_thread, own_deed, stopped_thread}
 use Rattle.lrc_consistency_laws.proofs.Runs.{CanDo}
 use Rattle.lrc_orders.specs.declared.noted.Noted.{Noted}
+use Rattle.lrc_orders.specs.Traps.{has_trap, is_trap}
 use Rattle.lrc_orders.specs.Notes.{notes_with}
 use Rattle.lrc_orders.proofs.Effects.{holders_after, memory_after}
 use Rattle.lrc_orders_laws.specs.Alike.{BothAlike}
@@ -41,8 +43,9 @@ use Rattle.lrc_orders_live.proofs.Like.{like_alike, like_back, like_on, like_sam
 use Rattle.lrc_orders_table.specs.declared.next.Next.TheVariants.{Stopped, Waits}
 use Rattle.lrc_orders_table.specs.Nexts.{next_by, next_in, notes_on, thread_then}
 use Rattle.lrc_orders_table.proofs.Contended.{acted, deed_of_spot, step_alone, step_made, thread_acted}
-use Rattle.lrc_orders_table.proofs.SeenNext.{notes_seen}
+use Rattle.lrc_orders_table.proofs.SeenNext.{notes_seen, traps_seen}
 use Rattle.lrc_orders_table.specs.declared.known.Means.{Means}
+use Rattle.lrc_orders_table.specs.declared.table.Led.{Led}
 use Rattle.lrc_orders_table.specs.declared.table.Table.{Table}
 use Rattle.lrc_orders_table.specs.Going.{GoesOn, HasGone}
 use Rattle.lrc_orders_table.specs.Shared.{given, holders_then, words_then}
@@ -123,6 +126,11 @@ unnoted notes node (deeds.Print value) kind = absurd (true≢false (sym kind))
 unnoted notes node (deeds.Trap cause) kind = absurd (true≢false (sym kind))
 unnoted notes node deeds.End kind = absurd (true≢false (sym kind))
 unnoted notes node _ kind = refl
+
+-- and is no trap
+contended_no_trap : (deed : Deed) → is_contended deed ≡ true → is_trap deed ≡ false
+contended_no_trap (deeds.Trap cause) kind = absurd (true≢false (sym kind))
+contended_no_trap _ kind = refl
 
 -- ---- a node of a state
 
@@ -219,7 +227,7 @@ both_is {o} {p} {q} {r} e f both = subst (λ x. BothAlike AgreeWhereItMatters x 
 
 -- ---- the step
 
-module _ (means : Means) (are : AreMeans means) (table : Table) (row : _) (key : Noted) (node value : ℕ) (g : HasGone means key node value table row)
+module _ (means : Means) (are : AreMeans means) (table : Table) (led : Led) (key : Noted) (node value : ℕ) (g : HasGone means key node value table led)
     (gives : given (next_in means.flat g.spot) key.state.memory.items key.state.holders.items ≡ Some value)
     (settled : IsSettled (plain_at means.flat key.state)) where
   abbrev mid_state : State
@@ -274,13 +282,16 @@ module _ (means : Means) (are : AreMeans means) (table : Table) (row : _) (key :
             ((like_same (plain_at flat key.state)).threads k)
       ])
 
-  pub leads_alone : LeadsToRow means table key (Alone node) row
+  pub leads_alone : LeadsToRow means table key (Alone node) led
   leads_alone =
       let all = key.notes.items in
       record {
         next = g.new;
         of = g.of;
         acts = act_of node (deed_of_spot means.flat g.spot value) ∷ acts_by node g.so.deeds;
+        traps =
+            g.traps ∙ ap (list_any is_trap) g.so.seen ∙ traps_seen node g.so.deeds
+            ∙ ap (λ b. b || has_trap (acts_by node g.so.deeds)) (sym (contended_no_trap (deed_of_spot means.flat g.spot value) m.gives.kind));
         takes = record { there = taken.there; takes = taken.takes; alike = like_on (like_alike taken.alike) (like_back like_mid) };
         noted = λ e.
             g.noted e ∙ ap (λ ds. notes_on all (acts_by node ds)) g.so.seen ∙ notes_seen node g.so.deeds all

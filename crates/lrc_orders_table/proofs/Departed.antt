@@ -1,6 +1,6 @@
 -- All nodes depart, one after another.
 use Rattle.std.proofs.Common.{◌≡◌, ℕ, zero, suc, ◌<◌, ◌≤◌, Bool, true, false, List, [], ◌∷◌, ◌++◌, add-one, inl, inr, length, get_or, map, refl, sym, ◌∙◌, ap, subst, arith}
-use Rattle.std.specs.Prelude.{Option, Some, None, if◌then◌else◌, is_some, option_and_then, option_map, slice_get, slice_index_or, slice_set}
+use Rattle.std.specs.Prelude.{Option, Some, None, ◌||◌, if◌then◌else◌, is_some, option_and_then, option_map, slice_get, slice_index_or, slice_set}
 use Rattle.std.specs.Vec.{with_item}
 use Rattle.std.proofs.lemmas.Bool.{cases_eq}
 use Rattle.std.proofs.lemmas.List.{get_or-set_other, get_or-set_same, length-map, map-set}
@@ -18,6 +18,7 @@ use Rattle.lrc_exec.specs.Plain.{Plain, all_arrived, deed_done, plain_step, thre
 use Rattle.lrc_exec.specs.Spots.{spot_thread, thread_at}
 use Rattle.lrc_exec.specs.States.{plain_at, IsStateOf}
 use Rattle.lrc_exec.proofs.Spots.{goes_blank, left, runs_on, state_set}
+use Rattle.lrc_orders.specs.Traps.{has_trap}
 use Rattle.lrc_orders.proofs.Keeping.{item_at}
 use Rattle.lrc_orders_laws.specs.Steps.{AllWait}
 use Rattle.lrc_orders_laws.proofs.Aligned.{waiter}
@@ -25,7 +26,7 @@ use Rattle.lrc_orders_settling.specs.Taking.{IsCounted}
 use Rattle.lrc_orders_settling.proofs.Departing.{Departing, can_depart, departing_first, departing_on}
 use Rattle.lrc_orders_table.specs.Nexts.{notes_on}
 use Rattle.lrc_orders_table.proofs.Gone.{item_other}
-use Rattle.lrc_orders_table.proofs.Noting.{notes_again}
+use Rattle.lrc_orders_table.proofs.Noting.{notes_again, traps_again}
 
 -- the nodes before one have departed
 pub record Departed (flat : Flat) (start : State) (node : ℕ) : Type 0 where
@@ -33,6 +34,7 @@ pub record Departed (flat : Flat) (start : State) (node : ℕ) : Type 0 where
   pub acts : List Act
   pub so : Departing flat start now node [] acts
   pub unnoted : (notes : List Act) → notes_on notes acts ≡ notes
+  pub no_trap : has_trap acts ≡ false
   pub memory : now.memory.items ≡ start.memory.items
   pub holders : now.holders.items ≡ start.holders.items
   pub before : (k : ℕ) (spot : Spot) → k < node → slice_get start.spots.items k ≡ Some spot → thread_in (plain_at flat now) k ≡ Some (thread_at flat spot)
@@ -50,6 +52,7 @@ module _ (flat : Flat) (start : State) (valid : IsStateOf flat start) (counted :
     acts = [];
     so = departing_first flat start [] valid all;
     unnoted = λ notes. refl;
+    no_trap = refl;
     memory = refl;
     holders = refl;
     before = λ k spot lt here. absurd (omega (arith, lt));
@@ -90,6 +93,7 @@ module _ (flat : Flat) (start : State) (valid : IsStateOf flat start) (counted :
           acts = d.acts ++ act_of node Depart ∷ [];
           so = subst (λ n. Departing flat start new n [] (d.acts ++ act_of node Depart ∷ [])) (add-one node) more;
           unnoted = λ notes. notes_again notes d.acts (act_of node Depart ∷ []) ∙ d.unnoted notes;
+          no_trap = traps_again d.acts (act_of node Depart ∷ []) ∙ ap (λ b. b || has_trap (act_of node Depart ∷ [])) d.no_trap;
           memory = d.memory;
           holders = d.holders;
           before = λ k s less at. elim (cases_eq k node) [

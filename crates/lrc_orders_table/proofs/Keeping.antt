@@ -40,6 +40,7 @@ after_grown means old new asked after g a = record {
   so = a.so;
   kept = stands_on after.thread _ g a.kept;
   deeds = a.deeds;
+  traps = a.traps;
 }
 
 pub shared_grown : (old new : List Shared) (number : ℕ) (words : List ℕ) (holders : List (Option ℕ)) → Grows old new → IsSharedAt old number words holders

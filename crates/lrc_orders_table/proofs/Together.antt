@@ -1,6 +1,7 @@
 -- The step of all nodes.
 use Rattle.std.proofs.Common.{◌≡◌, ℕ, zero, suc, ◌+◌, ◌<◌, ◌≤◌, Bool, true, false, List, [], ◌++◌, add-one, inl, inr, length, refl, sym, ◌∙◌, ap, subst, arith}
-use Rattle.std.specs.Prelude.{◌&&◌, Option, Some, None, if◌then◌else◌, nat_eq, not, slice_get, slice_index_or, slice_set}
+use Rattle.std.specs.Prelude.{◌&&◌, ◌||◌, Option, Some, None, if◌then◌else◌, nat_eq, not, slice_get, slice_index_or, slice_set}
+use Rattle.std.specs.List.{list_any}
 use Rattle.std.proofs.lemmas.Bool.{cases_eq, cases_lt, true≢false}
 use Rattle.std.proofs.lemmas.List.{get_or-set_other, get_or-set_same, get_or_past, length-map, length-set}
 use Rattle.std.proofs.lemmas.Option.{get_or_from_slice_get, same_Some, slice_get_within}
@@ -15,6 +16,7 @@ use Rattle.lrc_exec.specs.States.{plain_at, IsStateOf}
 use Rattle.lrc_exec.proofs.Spots.{thread_there}
 use Rattle.lrc_exec.proofs.States.{no_thread}
 use Rattle.lrc_orders.specs.declared.noted.Noted.{Noted}
+use Rattle.lrc_orders.specs.Traps.{has_trap, is_trap}
 use Rattle.lrc_orders.proofs.Keeping.{item_at}
 use Rattle.lrc_orders.proofs.KeptAlike.{nat_itself}
 use Rattle.lrc_orders_laws.specs.Alike.{stopped}
@@ -37,9 +39,10 @@ use Rattle.lrc_orders_table.specs.declared.next.Next.{Next}
 use Rattle.lrc_orders_table.specs.declared.next.Next.TheVariants.{Waits}
 use Rattle.lrc_orders_table.specs.All.{acts_of_all, gone_all}
 use Rattle.lrc_orders_table.specs.Nexts.{next_in, notes_on, thread_then}
-use Rattle.lrc_orders_table.proofs.SeenNext.{freed_seen, notes_seen}
+use Rattle.lrc_orders_table.proofs.SeenNext.{freed_seen, notes_seen, traps_seen}
 use Rattle.lrc_orders_table.proofs.Stepping.{all_settle}
 use Rattle.lrc_orders_table.specs.declared.known.Means.{Means}
+use Rattle.lrc_orders_table.specs.declared.table.Led.{Led}
 use Rattle.lrc_orders_table.specs.declared.table.Table.{Table}
 use Rattle.lrc_orders_table.specs.Going.{GoesOn, HasGone}
 use Rattle.lrc_orders_table.specs.Shared.{holders_then, is_waiting, words_then}
@@ -47,7 +50,7 @@ use Rattle.lrc_orders_table.specs.Tables.{AreMeans, IsRowOf, LeadsToRow}
 use Rattle.lrc_orders_table.proofs.Alone.{both_is}
 use Rattle.lrc_orders_table.proofs.Departed.{Departed, departed}
 use Rattle.lrc_orders_table.proofs.Gone.{item_other, item_set, settled_within}
-use Rattle.lrc_orders_table.proofs.Noting.{notes_again}
+use Rattle.lrc_orders_table.proofs.Noting.{notes_again, traps_again}
 use Rattle.lrc_orders_table.proofs.NextActs.{waiting_is, waits_is}
 
 -- ---- what each node does
@@ -109,7 +112,7 @@ module _ (machine : Plain) (deeds : ℕ → List Deed) (there : ℕ → Option T
 -- ---- nodes that have departed and settled, one after another
 
 -- those before one have
-pub record AllGone (means : Means) (key : Noted) (node : ℕ) (table : Table) (row : Row) : Type 0 where
+pub record AllGone (means : Means) (key : Noted) (node : ℕ) (table : Table) (row : Row) (traps : Bool) : Type 0 where
   pub deeds : ℕ → List Deed
   pub there : ℕ → Spot
   pub settles : (k : ℕ) (spot : Spot) → k < node → slice_get key.state.spots.items k ≡ Some spot
@@ -121,10 +124,11 @@ pub record AllGone (means : Means) (key : Noted) (node : ℕ) (table : Table) (r
   pub holders : new.state.holders.items ≡ freed_all deeds node key.state.holders.items
   pub done : (k : ℕ) → k < node → slice_get new.state.spots.items k ≡ Some (forgot means.live.now (there k))
   pub rest : (k : ℕ) → node ≤ k → slice_get new.state.spots.items k ≡ slice_get key.state.spots.items k
+  pub traps_are : traps ≡ has_trap (acts_of_all deeds node)
   pub noted : means.noting ≡ true → new.notes.items ≡ notes_on key.notes.items (acts_of_all deeds node)
   pub bare : means.noting ≡ false → new.notes.items ≡ key.notes.items
 
-pub all_gone_first : (means : Means) (key : Noted) (table : Table) (row : Row) → IsRowOf means table row key → AllGone means key 0 table row
+pub all_gone_first : (means : Means) (key : Noted) (table : Table) (row : Row) → IsRowOf means table row key → AllGone means key 0 table row false
 all_gone_first means key table row of = record {
   deeds = λ k. [];
   there = λ k. record { me = 0; place = 0; privates = []; held = []; arrived = false; stopped = false };
@@ -136,6 +140,7 @@ all_gone_first means key table row of = record {
   holders = refl;
   done = λ k lt. absurd (omega (arith, lt));
   rest = λ k le. refl;
+  traps_are = refl;
   noted = λ e. refl;
   bare = λ e. refl;
 }
@@ -149,8 +154,8 @@ waiting_holders node Waits holders e = refl
 waiting_holders node _ holders e = absurd (true≢false (sym e))
 
 -- one node more
-module _ (means : Means) (key : Noted) (node : ℕ) (old new : Table) (row after : Row) (a : AllGone means key node old row)
-    (g : HasGone means a.new node 0 new after) (waits : is_waiting (next_in means.flat g.spot) ≡ true) where
+module _ (means : Means) (key : Noted) (node : ℕ) (old new : Table) (row : Row) (traps : Bool) (led : Led) (a : AllGone means key node old row traps)
+    (g : HasGone means a.new node 0 new led) (waits : is_waiting (next_in means.flat g.spot) ≡ true) where
   abbrev deeds' : ℕ → List Deed
   deeds' = put_at a.deeds node g.so.deeds
 
@@ -213,7 +218,7 @@ module _ (means : Means) (key : Noted) (node : ℕ) (old new : Table) (row after
   less_apart : (k : ℕ) → k < node → k ≡ node → ⊥
   less_apart k lt e = omega (arith, lt, e)
 
-  pub all_gone_next : AllGone means key (suc node) new after
+  pub all_gone_next : AllGone means key (suc node) new led.row (traps || led.traps)
   all_gone_next =
       let next : Next = next_in means.flat g.spot in
       let holders = key.state.holders.items in
@@ -239,6 +244,10 @@ module _ (means : Means) (key : Noted) (node : ℕ) (old new : Table) (row after
         rest = λ k le.
             ap (λ l. slice_get l k) g.spots
             ∙ item_other a.new.state.spots.items node k (forgot means.live.now g.settled.spot) (λ e. omega (arith, le, e)) ∙ a.rest k (omega (arith, le));
+        traps_are =
+            ap (λ b. b || led.traps) a.traps_are
+            ∙ ap (λ b. has_trap (acts_of_all a.deeds node) || b) (g.traps ∙ ap (list_any is_trap) g.so.seen ∙ traps_seen node g.so.deeds)
+            ∙ sym (traps_again (acts_of_all a.deeds node) (acts_by node g.so.deeds)) ∙ ap has_trap (sym acts_so);
         noted = λ e.
             g.noted e ∙ ap (λ ds. notes_on a.new.notes.items (acts_by node ds)) g.so.seen ∙ notes_seen node g.so.deeds a.new.notes.items
             ∙ ap (λ n. notes_on n (acts_by node g.so.deeds)) (a.noted e)
@@ -246,8 +255,8 @@ module _ (means : Means) (key : Noted) (node : ℕ) (old new : Table) (row after
         bare = λ e. g.bare e ∙ a.bare e;
       }
 
-  pub all_gone_on : AllGone means key (node + 1) new after
-  all_gone_on = subst (λ n. AllGone means key n new after) (sym (add-one node)) all_gone_next
+  pub all_gone_on : AllGone means key (node + 1) new led.row (traps || led.traps)
+  all_gone_on = subst (λ n. AllGone means key n new led.row (traps || led.traps)) (sym (add-one node)) all_gone_next
 
 -- ---- the step
 
@@ -301,7 +310,7 @@ module _ (means : Means) (key : Noted) (valid : IsStateOf means.flat key.state) 
       long_together flat key.state d.now [] d.acts means.looked have (node, subst (MakesFree means.looked) (sym (thread_departed node spot here)) makes)
 
   -- all have settled
-  module _ (are : AreMeans means) (table : Table) (row : Row) (a : AllGone means key (length key.state.spots.items) table row) where
+  module _ (are : AreMeans means) (table : Table) (row : Row) (traps : Bool) (a : AllGone means key (length key.state.spots.items) table row traps) where
     abbrev settled : ℕ → Option Thread
     settled k = spot_thread flat (a.there k)
 
@@ -352,7 +361,7 @@ module _ (means : Means) (key : Noted) (valid : IsStateOf means.flat key.state) 
           ];
         }
 
-    pub leads_together : LeadsToRow means table key Together row
+    pub leads_together : LeadsToRow means table key Together (record { row = row; traps = traps })
     leads_together =
         let n = length (plain_at flat key.state).threads in
         let all_notes = key.notes.items in
@@ -361,6 +370,10 @@ module _ (means : Means) (key : Noted) (valid : IsStateOf means.flat key.state) 
           next = a.new;
           of = a.of;
           acts = have.departs ++ acts_of_all a.deeds n;
+          traps =
+              a.traps_are ∙ ap (λ k. has_trap (acts_of_all a.deeds k)) (sym long)
+              ∙ ap (λ b. b || has_trap (acts_of_all a.deeds n)) (sym (ap has_trap departs ∙ d.no_trap))
+              ∙ sym (traps_again have.departs (acts_of_all a.deeds n));
           takes = record { there = taken.there; takes = taken.takes; alike = like_back like_new };
           noted = λ e.
               a.noted e ∙ ap (λ k. notes_on all_notes (acts_of_all a.deeds k)) (sym long)

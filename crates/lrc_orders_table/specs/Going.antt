@@ -1,5 +1,6 @@
 -- What a node does that goes on, and what comes of it.
 use Rattle.std.specs.Prelude.{◌≡◌, ◌≢◌, ℕ, false, true, Some, slice_get, slice_set}
+use Rattle.std.specs.List.{list_any}
 use Rattle.lrc_exec.specs.declared.spot.Spot.{Spot}
 use Rattle.lrc_exec.specs.Ask.{TakesAnswer, ask_of}
 use Rattle.lrc_exec.specs.Meaning.{next_of as next_of_thread}
@@ -7,6 +8,7 @@ use Rattle.lrc_exec.specs.Spots.{thread_at}
 use Rattle.lrc_orders.specs.declared.noted.Noted.{Noted}
 use Rattle.lrc_orders.specs.declared.search.ExploreFault.{ExploreFault}
 use Rattle.lrc_orders.specs.declared.search.ExploreFault.TheVariants.{BadNodes, TooMany}
+use Rattle.lrc_orders.specs.Traps.{is_trap}
 use Rattle.lrc_orders_settling.specs.Settling.{MakesFree}
 use Rattle.lrc_orders_settling.specs.Gone.{acts_by, freed}
 use Rattle.lrc_orders_live.specs.Live.{forgot}
@@ -17,6 +19,7 @@ use Rattle.lrc_orders_table.specs.Nexts.{SettlesSo, next_in, notes_on, thread_th
 use Rattle.lrc_orders_table.specs.declared.known.Means.{Means}
 use Rattle.lrc_orders_table.specs.declared.table.After.{After}
 use Rattle.lrc_orders_table.specs.declared.table.Asked.{Asked}
+use Rattle.lrc_orders_table.specs.declared.table.Led.{Led}
 use Rattle.lrc_orders_table.specs.declared.table.Table.{Table}
 use Rattle.lrc_orders_table.specs.Shared.{holders_then, words_then}
 use Rattle.lrc_orders_table.specs.Tables.{IsRowOf, next_of}
@@ -71,14 +74,16 @@ pub record IsLongAct (means : Means) (key : Noted) (node value : ℕ) (fault : E
   pub many : fault ≡ TooMany → (spot : Spot) → slice_get key.state.spots.items node ≡ Some spot
       → MakesFree means.looked (Some (thread_then means.flat spot value))
 
--- the row stands for what a state becomes by a node's next act, which gives this value, once the node has settled
-pub record HasGone (means : Means) (key : Noted) (node value : ℕ) (table : Table) (row : Row) : Type 0 where
+-- the row stands for what a state becomes by a node's next act, which gives this value, once the node has settled; and it is said whether
+-- the node then trapped
+pub record HasGone (means : Means) (key : Noted) (node value : ℕ) (table : Table) (led : Led) : Type 0 where
   pub spot : Spot
   pub here : slice_get key.state.spots.items node ≡ Some spot
   pub settled : Settled
   pub so : SettlesSo means.flat spot value settled
   pub new : Noted
-  pub of : IsRowOf means table row new
+  pub of : IsRowOf means table led.row new
+  pub traps : led.traps ≡ list_any is_trap settled.deeds.items
   pub memory : new.state.memory.items ≡ words_then (next_in means.flat spot) key.state.memory.items
   pub holders : new.state.holders.items ≡ freed settled.deeds.items (holders_then node (next_in means.flat spot) key.state.holders.items)
   pub spots : new.state.spots.items ≡ slice_set key.state.spots.items node (forgot means.live.now settled.spot)

@@ -1,5 +1,6 @@
 -- What is known of the threads of rows, and to what steps from a row lead.
 use Rattle.std.specs.Prelude.{◌≡◌, ◌≢◌, ℕ, ◌≤◌, false, true, All, List, Some, length, map, slice_get, slice_index, slice_index_or}
+use Rattle.std.specs.List.{list_any}
 use Rattle.lrc_trace.specs.declared.act.Act.{Act}
 use Rattle.lrc_exec.specs.declared.spot.Spot.{Spot}
 use Rattle.lrc_exec.specs.Plain.{Plain}
@@ -8,6 +9,7 @@ use Rattle.lrc_exec.specs.States.{IsStateOf, plain_at}
 use Rattle.lrc_orders.specs.declared.noted.Noted.{Noted}
 use Rattle.lrc_orders.specs.declared.search.ExploreFault.{ExploreFault}
 use Rattle.lrc_orders.specs.declared.search.ExploreFault.TheVariants.{BadNodes, TooMany}
+use Rattle.lrc_orders.specs.Traps.{has_trap, is_trap}
 use Rattle.lrc_orders_laws.specs.Settling.{IsSettled}
 use Rattle.lrc_orders_settling.specs.declared.step.Step.{Step}
 use Rattle.lrc_orders_settling.specs.Gone.{freed}
@@ -26,6 +28,7 @@ use Rattle.lrc_orders_table.specs.declared.known.Means.{Means}
 use Rattle.lrc_orders_table.specs.declared.table.After.{After}
 use Rattle.lrc_orders_table.specs.declared.table.Asked.{Asked}
 use Rattle.lrc_orders_table.specs.declared.table.Change.{Change}
+use Rattle.lrc_orders_table.specs.declared.table.Led.{Led}
 use Rattle.lrc_orders_table.specs.declared.table.Table.{Table}
 
 -- the code is sound, and of each place of it the names are known that matter there
@@ -33,7 +36,8 @@ pub record AreMeans (means : Means) : Type 0 where
   pub flat : IsFlat means.flat
   pub live : AreLive means.flat.code.now means.live.now
 
--- a thread settles so after its next act, if that gives this value; the values are forgotten that are dead there
+-- a thread settles so after its next act, if that gives this value; the values are forgotten that are dead there, and it is known
+-- whether it traps
 pub record IsAfter (means : Means) (keys : List Spot) (asked : Asked) (after : After) : Type 0 where
   pub spot : Spot
   pub there : slice_get keys asked.thread ≡ Some spot
@@ -41,6 +45,7 @@ pub record IsAfter (means : Means) (keys : List Spot) (asked : Asked) (after : A
   pub so : SettlesSo means.flat spot asked.value settled
   pub kept : slice_get keys after.thread ≡ Some (forgot means.live.now settled.spot)
   pub deeds : after.deeds.items ≡ settled.deeds.items
+  pub traps : after.traps ≡ list_any is_trap settled.deeds.items
 
 -- what a thread with this number does next
 abbrev pub next_of : Table → (number : ℕ) → Next
@@ -108,11 +113,12 @@ abbrev pub CannotTakeFrom : Means → Noted → Step → Type 0
 CannotTakeFrom means key step = (acts : List Act) (after : Plain) → ¬ Takes (plain_at means.flat key.state) step acts after
 
 -- what a step leads to: the row stands for a state like the one that the step makes, but for values that are dead, and
--- for its notes if notes are kept
-pub record LeadsToRow (means : Means) (table : Table) (key : Noted) (step : Step) (row : Row) : Type 0 where
+-- for its notes if notes are kept; and it is said whether one of its acts is a trap
+pub record LeadsToRow (means : Means) (table : Table) (key : Noted) (step : Step) (led : Led) : Type 0 where
   pub next : Noted
-  pub of : IsRowOf means table row next
+  pub of : IsRowOf means table led.row next
   pub acts : List Act
+  pub traps : led.traps ≡ has_trap acts
   pub takes : TakesLike (plain_at means.flat key.state) step acts (plain_at means.flat next.state)
   pub noted : means.noting ≡ true → next.notes.items ≡ notes_on key.notes.items acts
   pub bare : means.noting ≡ false → next.notes.items ≡ key.notes.items

@@ -1,15 +1,18 @@
 // What a settled thread does next, and what comes of it.
 
 ghost use Rattle.std.specs.Prelude.{◌≡◌, ◌≤◌, IfOk, MatchOption, Some, false, filter, length};
+ghost use Rattle.std.specs.List.{list_any};
 ghost use Rattle.lrc_exec.specs.Ask.{ask_of, TakesAnswer};
 ghost use Rattle.lrc_exec.specs.Meaning.{next_of as next_of_thread};
 ghost use Rattle.lrc_exec.specs.Spots.{spot_thread, thread_at, IsFlat};
+ghost use Rattle.lrc_orders.specs.Traps.{is_trap};
 ghost use Rattle.lrc_orders_settling.specs.Settling.{MakesFree};
 ghost use Rattle.lrc_orders_settling.specs.Gone.{kept_spot};
 ghost use Rattle.lrc_orders_table.specs.Nexts.{SettlesSo, is_seen, next_in, thread_then};
 
 use lrc_exec::machine::Ask;
 use lrc_exec::spot::{Flat, Spot};
+use lrc_orders::traps::is_trap;
 use lrc_orders_settling::settling::{Settling, settle_thread};
 use lrc_trace::act::Deed;
 use std::alloc::{AllocError, Global};
@@ -36,6 +39,13 @@ pub enum Next {
 pub struct Settled {
     pub spot: Spot,
     pub deeds: Vec<Deed>,
+}
+
+/// Returns whether one of the deeds is a trap.
+pub(crate) fn has_trap_deed(deeds: &[Deed]) -> bool
+    ensures { result ≡ list_any is_trap deeds.now }
+{
+    deeds.iter().any(|deed| is_trap(*deed))
 }
 
 /// Returns what a settled thread does next.

@@ -1,13 +1,22 @@
 // Steps from a row. What was worked out before is known.
 
+ghost use Rattle.std.specs.Prelude.{◌≡◌, ◌||◌};
+
 use crate::known::Means;
-use crate::next::{Next, Settled, settled_after};
+use crate::next::{Next, Settled, has_trap_deed, settled_after};
 use crate::noted::notes_after;
 use crate::rows::Row;
-use crate::table::{After, Asked, Table};
+use crate::table::{After, Asked, Led, Table};
 use lrc_orders::search::ExploreFault;
 use lrc_orders_live::forget_spot;
 use std::alloc::{AllocError, Global};
+
+// Whether a node has trapped, one before or this one.
+fn either(before: bool, here: bool) -> bool
+    ensures { result ≡ (before || here) }
+{
+    before || here
+}
 
 impl Table {
     ghost use Rattle.std.specs.Prelude.{◌≡◌, ◌<◌, IfErr, IfOk, List, MatchOption, None, OnOk, Some, false, length, slice_get, true};
@@ -27,15 +36,15 @@ impl Table {
     ghost use Rattle.lrc_orders_table.specs.Tables.{AreMeans, CannotTakeFrom, IsKnown, IsLongFault, IsRowOf, IsTable, IsTakenFrom, IsTakenFromSome, KeepsRows, LeadsToRow, next_at};
     ghost use Rattle.lrc_orders_table.specs.Going.{CanGo, HasAfter, HasGone, IsAskable, IsAskedSettled, IsLongAct, IsLongAsk};
 
-    /// Returns the row that the step of one node leads to, or none if the node cannot take one. It fails if memory runs
-    /// out, or if a thread makes as many free acts as are looked at.
+    /// Returns the row that the step of one node leads to, and whether the node traps in it, or none if the node cannot
+    /// take one. It fails if memory runs out, or if a thread makes as many free acts as are looked at.
     pub fn alone(
         &mut self,
         alloc: Global,
         means: &Means<'_>,
         row: &Row,
         node: usize,
-    ) -> Result<Option<Row>, ExploreFault>
+    ) -> Result<Option<Led>, ExploreFault>
         requires means { AreMeans means.now }
         requires table { IsTable means.now self.old }
         requires from { IsTakenFromSome means.now self.old row.now }
@@ -52,8 +61,8 @@ impl Table {
         let Some(value) = self.given(row, node) else {
             return Ok(None);
         };
-        let new = self.gone(alloc, means, row, node, value)?;
-        Ok(Some(new))
+        let led = self.gone(alloc, means, row, node, value)?;
+        Ok(Some(led))
     }
 
     // The value that a node's read, write or acquire gives, if it makes one of these next and can.
@@ -74,14 +83,14 @@ impl Table {
         }
     }
 
-    /// Returns the row that the step of all nodes leads to, or none if they cannot take one. It fails if memory runs
-    /// out, or if a thread makes as many free acts as are looked at.
+    /// Returns the row that the step of all nodes leads to, and whether one of them traps in it, or none if they cannot
+    /// take one. It fails if memory runs out, or if a thread makes as many free acts as are looked at.
     pub fn together(
         &mut self,
         alloc: Global,
         means: &Means<'_>,
         row: &Row,
-    ) -> Result<Option<Row>, ExploreFault>
+    ) -> Result<Option<Led>, ExploreFault>
         requires means { AreMeans means.now }
         requires table { IsTable means.now self.old }
         requires from { IsTakenFromSome means.now self.old row.now }
@@ -98,13 +107,16 @@ impl Table {
             return Ok(None);
         }
         let mut new = *row;
+        let mut traps = false;
         for node in 0..self.rows.nodes {
-            new = self.gone(alloc, means, &new, node, 0)?;
+            let led = self.gone(alloc, means, &new, node, 0)?;
+            new = led.row;
+            traps = either(traps, led.traps);
         }
-        Ok(Some(new))
+        Ok(Some(Led { row: new, traps }))
     }
 
-    // The row after a node's next act, which gives this value, once the node has settled.
+    // The row after a node's next act, which gives this value, once the node has settled, and whether it then trapped.
     fn gone(
         &mut self,
         alloc: Global,
@@ -112,14 +124,14 @@ impl Table {
         row: &Row,
         node: usize,
         value: u64,
-    ) -> Result<Row, ExploreFault>
+    ) -> Result<Led, ExploreFault>
         requires means { AreMeans means.now }
         requires table { IsTable means.now self.old }
         requires row { CanGo means.now self.old row.now node }
         ensures table { OnOk result (IsTable means.now self.new) }
         ensures keeps { OnOk result (KeepsRows self.old self.new) }
-        ensures gone { IfOk result (λ new. (key : Key) → IsRowOf means.now self.old row.now key
-            → HasGone means.now key node value self.new new) }
+        ensures gone { IfOk result (λ led. (key : Key) → IsRowOf means.now self.old row.now key
+            → HasGone means.now key node value self.new led) }
         ensures faults { IfErr result (λ fault. (key : Key)
             → IsRowOf means.now self.old row.now key
             → IsLongAct means.now key node value fault) }
@@ -133,11 +145,16 @@ impl Table {
         let shared = self.shared_after(alloc, row.shared, node, next, place)?;
         let notes = self.notes(alloc, means.noting, row.notes, node, place)?;
         let mut threads = row.threads;
-        threads[node] = self.afters[place].thread;
-        Ok(Row {
+        let after = &self.afters[place];
+        threads[node] = after.thread;
+        let row = Row {
             threads,
             shared,
             notes,
+        };
+        Ok(Led {
+            row,
+            traps: after.traps,
         })
     }
 
@@ -219,9 +236,11 @@ impl Table {
         forget_spot(means.live, &mut spot);
         let thread = self.number(means, spot)?;
         let place = self.afters.len();
+        let traps = has_trap_deed(&settled.deeds);
         let after = After {
             thread,
             deeds: settled.deeds,
+            traps,
         };
         self.afters.insert(asked, after)?;
         Ok(place)

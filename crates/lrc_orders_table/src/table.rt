@@ -2,7 +2,7 @@
 
 use crate::next::Next;
 use crate::parts::Shared;
-use crate::rows::Rows;
+use crate::rows::{Row, Rows};
 use indexmap::IndexMap;
 use lrc_trace::act::Deed;
 use std::alloc::Global;
@@ -14,11 +14,13 @@ pub struct Asked {
     pub value: u64,
 }
 
-/// The number of the thread that it settles to, and those of its deeds that others can see or that are noted.
+/// The number of the thread that it settles to, those of its deeds that others can see or that are noted, and whether it
+/// traps.
 #[derive(Drop)]
 pub struct After {
     pub thread: u32,
     pub deeds: Vec<Deed>,
+    pub traps: bool,
 }
 
 /// The number of what nodes share, and the place of what comes of a thread.
@@ -26,6 +28,13 @@ pub struct After {
 pub struct Change {
     pub shared: u32,
     pub after: u32,
+}
+
+/// Where a step leads: the row, and whether a node traps in the step.
+#[derive(Clone, Copy)]
+pub struct Led {
+    pub row: Row,
+    pub traps: bool,
 }
 
 /// Rows, and what is known of the steps from them: what each thread does next (`nexts`), what came of a thread after

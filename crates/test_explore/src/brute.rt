@@ -2,13 +2,13 @@
 
 use crate::checks::passes;
 use lrc_exec::plain::plain_run;
-use lrc_explore::answers::{explore, outcomes};
+use lrc_explore::answers::{explore, findings, outcomes};
 use lrc_judge::are_in_range;
 use lrc_judge::first::first_race;
 use lrc_lang::parse;
 use lrc_lang::program::Program;
 use lrc_orders::outcomes::Outcome;
-use lrc_orders::search::Verdict;
+use lrc_orders::search::{Findings, Verdict};
 use lrc_trace::act::{Act, Deed};
 use std::alloc::{AllocError, Global};
 
@@ -20,6 +20,7 @@ const MOST_ORDERS: usize = 200_000;
 struct Looked {
     races: bool,
     gets_stuck: bool,
+    traps: bool,
     /// The prints, traps and ends of each order after which no node can make an act, node by node, each list once.
     outcomes: Vec<Vec<Act>>,
 }
@@ -67,6 +68,11 @@ fn stopped_by(notes: &[Act]) -> usize {
         .count()
 }
 
+/// Whether a node has trapped.
+fn has_trap(acts: &[Act]) -> bool {
+    acts.iter().any(|act| matches!(act.deed, Deed::Trap(_)))
+}
+
 /// Notes what an order came to after which no node can make an act.
 fn note_end(alloc: Global, looked: &mut Looked, nodes: u8, acts: &[Act]) -> Result<(), AllocError> {
     if race_in(alloc, acts)?.is_some() {
@@ -78,6 +84,9 @@ fn note_end(alloc: Global, looked: &mut Looked, nodes: u8, acts: &[Act]) -> Resu
 fn note_outcome(looked: &mut Looked, nodes: u8, notes: Vec<Act>) -> Result<(), AllocError> {
     if stopped_by(&notes) < usize::from(nodes) {
         looked.gets_stuck = true;
+    }
+    if has_trap(&notes) {
+        looked.traps = true;
     }
     if !looked.outcomes.contains(&notes) {
         looked.outcomes.push(notes)?;
@@ -228,6 +237,54 @@ fn ends_stuck(alloc: Global, program: &Program, nodes: u8, order: &[usize]) -> b
     is_stuck && is_end(alloc, program, nodes, order)
 }
 
+/// Whether a node traps in the order.
+fn traps_in(alloc: Global, program: &Program, nodes: u8, order: &[usize]) -> bool {
+    match acts_of(alloc, program, nodes, order) {
+        Ok(Some(acts)) => has_trap(&acts),
+        _ => false,
+    }
+}
+
+/// Whether what is said of stuck orders is what the orders say.
+fn is_stuck_right(
+    alloc: Global,
+    program: &Program,
+    nodes: u8,
+    looked: &Looked,
+    stuck: &Option<Vec<usize>>,
+) -> bool {
+    match stuck {
+        None => !looked.gets_stuck,
+        Some(order) => looked.gets_stuck && ends_stuck(alloc, program, nodes, order),
+    }
+}
+
+/// Whether what is said of traps is.
+fn is_trap_right(
+    alloc: Global,
+    program: &Program,
+    nodes: u8,
+    looked: &Looked,
+    trap: &Option<Vec<usize>>,
+) -> bool {
+    match trap {
+        None => !looked.traps,
+        Some(order) => looked.traps && traps_in(alloc, program, nodes, order),
+    }
+}
+
+/// Whether the findings are what the orders say.
+fn are_right(
+    alloc: Global,
+    program: &Program,
+    nodes: u8,
+    looked: &Looked,
+    found: &Findings,
+) -> bool {
+    is_stuck_right(alloc, program, nodes, looked, &found.stuck)
+        && is_trap_right(alloc, program, nodes, looked, &found.trap)
+}
+
 /// Whether the verdict is what the orders say.
 fn is_right(
     alloc: Global,
@@ -237,9 +294,8 @@ fn is_right(
     verdict: &Verdict,
 ) -> bool {
     match verdict {
-        Verdict::RaceFree { stuck: None } => !looked.races && !looked.gets_stuck,
-        Verdict::RaceFree { stuck: Some(order) } => {
-            !looked.races && looked.gets_stuck && ends_stuck(alloc, program, nodes, order)
+        Verdict::RaceFree(found) => {
+            !looked.races && are_right(alloc, program, nodes, looked, found)
         }
         Verdict::Racy { order } => looked.races && ends_in_race(alloc, program, nodes, order),
     }
@@ -255,6 +311,14 @@ fn are_same(looked: &Looked, found: &[Outcome]) -> bool {
 fn is_verdict_right(alloc: Global, program: &Program, nodes: u8, looked: &Looked) -> bool {
     match explore(alloc, program, u32::from(nodes), 10_000) {
         Ok(verdict) => is_right(alloc, program, nodes, looked, &verdict),
+        Err(_) => false,
+    }
+}
+
+/// Whether the findings of a search that looks for no race are what the orders say.
+fn are_findings_right(alloc: Global, program: &Program, nodes: u8, looked: &Looked) -> bool {
+    match findings(alloc, program, u32::from(nodes), 10_000) {
+        Ok(found) => are_right(alloc, program, nodes, looked, &found),
         Err(_) => false,
     }
 }
@@ -279,10 +343,12 @@ fn agree(alloc: Global, program: &Program, nodes: u8) -> bool {
     let mut looked = Looked {
         races: false,
         gets_stuck: false,
+        traps: false,
         outcomes: Vec::new(alloc),
     };
     look_from_start(alloc, program, nodes, &mut looked)
         && is_verdict_right(alloc, program, nodes, &looked)
+        && are_findings_right(alloc, program, nodes, &looked)
         && are_outcomes_right(alloc, program, nodes, &looked)
 }
 

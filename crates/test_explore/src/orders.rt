@@ -4,7 +4,7 @@
 use crate::checks::passes;
 use lrc_explore::answers::explore;
 use lrc_lang::parse;
-use lrc_orders::search::{ExploreFault, Verdict};
+use lrc_orders::search::{ExploreFault, Findings, Verdict};
 use std::alloc::Global;
 
 // What should be found.
@@ -12,16 +12,28 @@ use std::alloc::Global;
 enum Wanted<'a> {
     Free,
     Stuck(&'a [usize]),
+    Traps(&'a [usize]),
     Racy(&'a [usize]),
     Fault(ExploreFault),
 }
 
+fn is_order(found: &Option<Vec<usize>>, wanted: Option<&[usize]>) -> bool {
+    match (found, wanted) {
+        (Some(order), Some(least)) => order.as_slice() == least,
+        (None, None) => true,
+        _ => false,
+    }
+}
+
+fn are_found(found: &Findings, stuck: Option<&[usize]>, trap: Option<&[usize]>) -> bool {
+    is_order(&found.stuck, stuck) && is_order(&found.trap, trap)
+}
+
 fn agrees(found: &Result<Verdict, ExploreFault>, wanted: Wanted<'_>) -> bool {
     match (found, wanted) {
-        (Ok(Verdict::RaceFree { stuck: None }), Wanted::Free) => true,
-        (Ok(Verdict::RaceFree { stuck: Some(order) }), Wanted::Stuck(least)) => {
-            order.as_slice() == least
-        }
+        (Ok(Verdict::RaceFree(found)), Wanted::Free) => are_found(found, None, None),
+        (Ok(Verdict::RaceFree(found)), Wanted::Stuck(least)) => are_found(found, Some(least), None),
+        (Ok(Verdict::RaceFree(found)), Wanted::Traps(least)) => are_found(found, None, Some(least)),
         (Ok(Verdict::Racy { order }), Wanted::Racy(least)) => order.as_slice() == least,
         (Err(fault), Wanted::Fault(other)) => *fault == other,
         _ => false,
@@ -68,6 +80,13 @@ const CROSSED: &[u8] = b"words 2; locks 2;
 const SOMETIMES: &[u8] = b"words 1; locks 1;
     acquire 0; x = [0]; [0] = 1 + me; release 0; if x == 2 { barrier; }";
 
+const DOUBTS: &[u8] = b"words 1; locks 1;
+    acquire 0; a = [0]; [0] = 1; release 0; ok = 1 / (a == 0);";
+
+const FEWEST: &[u8] = b"words 4; locks 0;
+    if me == 0 { [0] = 1; [0] = 2; x = [4]; }
+    if me == 2 { [2] = 1; x = [5]; }";
+
 const NO_NODES: Wanted = Wanted::Fault(ExploreFault::BadNodes);
 
 const ROWS: &[Row] = &[
@@ -94,6 +113,20 @@ const ROWS: &[Row] = &[
         2,
         1000,
         Wanted::Stuck(&[1, 1, 1, 1, 1, 1, 0, 0, 0, 0, 0, 0]),
+    ),
+    (
+        "the second of two traps, whichever comes first",
+        DOUBTS,
+        2,
+        1000,
+        Wanted::Traps(&[0, 0, 0, 0, 0, 0, 1, 1, 1, 1, 1]),
+    ),
+    (
+        "a trap after the fewest steps",
+        FEWEST,
+        3,
+        1000,
+        Wanted::Traps(&[0, 1, 1, 1, 2, 2, 2, 2]),
     ),
     ("no node", COUNTER, 0, 1000, NO_NODES),
     ("seventeen nodes", COUNTER, 17, 1000, NO_NODES),

@@ -12,7 +12,8 @@ returns-clause-app c =
     let four = c.taking-command-4.ensures.app _ _ c.memory.ensures.local c.memory.ensures.rule three in
     let five = c.taking-command-5.ensures.app _ _ c.flag_option.ensures.local c.flag_option.ensures.rule four in
     let six = c.taking-command-6.ensures.app _ _ c.bare_number.ensures.local c.bare_number.ensures.rule five in
-    c.taking.ensures.app _ _ c.bare_number-2.ensures.local c.bare_number-2.ensures.rule six
+    let seven = c.taking-command-7.ensures.app _ _ c.bare_number-2.ensures.local c.bare_number-2.ensures.rule six in
+    c.taking.ensures.app _ _ c.flag_option-2.ensures.local c.flag_option-2.ensures.rule seven
 
 pub returns-clause-local : goal.returns-clause-local
 returns-clause-local c =
@@ -23,4 +24,5 @@ returns-clause-local c =
     let four = c.taking-command-4.ensures.local c.memory.ensures.local three in
     let five = c.taking-command-5.ensures.local c.flag_option.ensures.local four in
     let six = c.taking-command-6.ensures.local c.bare_number.ensures.local five in
-    c.taking.ensures.local c.bare_number-2.ensures.local six
+    let seven = c.taking-command-7.ensures.local c.bare_number-2.ensures.local six in
+    c.taking.ensures.local c.flag_option-2.ensures.local seven

@@ -1,6 +1,5 @@
 -- Where the answer is that no order races, no run that reads lazily does.
 use Rattle.std.proofs.Common.{ℕ}
-use Rattle.std.specs.Prelude.{Some, None}
 use Rattle.lrc_lang.specs.declared.program.Program.{Program}
 use Rattle.lrc_consistency_laws.specs.Racing.{HasNoRace}
 use Rattle.lrc_consistency_laws.proofs.Racing.{race_free}
@@ -12,8 +11,7 @@ use Rattle.lrc_explore.specs.Answers.{IsAnswer}
 use Rattle.lrc_explore.proofs.laws.runs_of_explored_programs_are_plain.Goals as goal
 
 has_no_race : (program : Program) (nodes : ℕ) (verdict : Verdict) → IsAnswer program nodes verdict → FindsNoRace verdict → HasNoRace program nodes
-has_no_race program nodes (RaceFree None) is free = is.0
-has_no_race program nodes (RaceFree (Some order)) is free = is.0
+has_no_race program nodes (RaceFree findings) is free = is.0
 has_no_race program nodes (Racy order) is free = absurd free
 
 pub returns : goal.returns

@@ -21,7 +21,7 @@ returns-clause-all c =
     let found = c.gather.new.outcomes.keys in
     let e = c.gather.ensures in
     let say = λ (f : AreFound task new) (m : IsMore old new) (s : AreSound task found) (d : AreGathered task new.table.rows found (row_count new.table.rows)).
-    all_found task new f (start_grown task old.table.rows new.table.rows m.rows c.in_ok-begin.ensures.start) (λ k lt key at. (d k lt key at).expanded) in
+    all_found task new f (start_grown task old.table.rows new.table.rows m.rows c.in_ok-_traps.ensures.start) (λ k lt key at. (d k lt key at).expanded) in
     ok_four {A = AreFound task new} {B = IsMore old new} {C = AreSound task found} {D = AreGathered task new.table.rows found (row_count new.table.rows)}
     {P = AreAllFound task new} c.gather.result say e.found e.more e.sound e.done
 
@@ -33,7 +33,7 @@ returns-clause-exact c =
     let found = c.gather.new.outcomes.keys in
     let e = c.gather.ensures in
     let say = λ (f : AreFound task new) (m : IsMore old new) (s : AreSound task found) (d : AreGathered task new.table.rows found (row_count new.table.rows)) (notes : List Act).
-    exact task new.table.rows found f.reached (start_grown task old.table.rows new.table.rows m.rows c.in_ok-begin.ensures.start) s d c.requires.noting notes in
+    exact task new.table.rows found f.reached (start_grown task old.table.rows new.table.rows m.rows c.in_ok-_traps.ensures.start) s d c.requires.noting notes in
     ok_four {A = AreFound task new} {B = IsMore old new} {C = AreSound task found} {D = AreGathered task new.table.rows found (row_count new.table.rows)}
     {P = (notes : List Act) → (HasOutcome found notes ↔ IsOutcome task.program.now task.flat.nodes notes)} c.gather.result say e.found e.more e.sound e.done
 
@@ -46,7 +46,7 @@ returns-clause-fits c =
     let e = c.gather.ensures in
     let say = λ (f : AreFound task new) (m : IsMore old new) (d : AreGathered task new.table.rows found (row_count new.table.rows))
     (few : row_count new.table.rows ≤ task.most).
-    fits_settled_noted task new.table.rows task.most f.reached (start_grown task old.table.rows new.table.rows m.rows c.in_ok-begin.ensures.start)
+    fits_settled_noted task new.table.rows task.most f.reached (start_grown task old.table.rows new.table.rows m.rows c.in_ok-_traps.ensures.start)
     (λ k lt key at. (d k lt key at).expanded) few c.requires.noting in
     ok_four {A = AreFound task new} {B = IsMore old new} {C = AreGathered task new.table.rows found (row_count new.table.rows)} {D = row_count new.table.rows ≤ task.most}
     {P = FitsSettledNoted task.program.now task.flat.nodes task.most} c.gather.result say e.found e.more e.done e.fits

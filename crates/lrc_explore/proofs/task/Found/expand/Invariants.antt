@@ -1,7 +1,8 @@
--- What the steps of the nodes so far lead to is there.
+-- What the steps of the nodes so far lead to is there, and in which of them a node traps first.
 use Rattle.std.proofs.Common.{ℕ, ◌<◌}
 use Rattle.lrc_orders_settling.specs.declared.step.Step.TheVariants.{Alone, Together}
 use Rattle.lrc_explore.specs.Reached.{AreFound, HasAfterAt, IsMore}
+use Rattle.lrc_explore.proofs.Trapping.{IsTrapAmong}
 use Rattle.lrc_explore.proofs.task.Found.expand.Given as goal
 
 abbrev pub invariant-loop-node : goal.invariant-loop-node
@@ -10,4 +11,5 @@ invariant-loop-node l = record {
   more : IsMore l.fn.self l.self;
   all : HasAfterAt l.task l.self.table.rows l.place Together;
   each : (k : ℕ) → k < l.node → HasAfterAt l.task l.self.table.rows l.place (Alone k);
+  trap : IsTrapAmong l.task l.self.table.rows l.place l.node l.trap;
 }

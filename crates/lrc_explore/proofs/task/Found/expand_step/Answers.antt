@@ -1,25 +1,42 @@
 use Rattle.std.proofs.Common.{subst}
 use Rattle.std.specs.Prelude.{Option, MatchOption}
-use Rattle.lrc_orders_table.specs.declared.rows.Row.{Row}
+use Rattle.lrc_orders_table.specs.declared.table.Led.{Led}
 use Rattle.lrc_explore.specs.Reached.{CannotTakeAt, LeadsTo}
-use Rattle.lrc_explore.proofs.Keys.{has_after, more_again}
+use Rattle.lrc_explore.specs.Traps.{ShowsTrapAt, led_traps}
+use Rattle.lrc_explore.proofs.Keys.{has_after, more_again, within_more}
+use Rattle.lrc_explore.proofs.Trapping.{trap_grown}
 use Rattle.lrc_explore.proofs.task.Found.expand_step.Goals as goal
 
 pub put-requires-clause-next : goal.put-requires-clause-next
 put-requires-clause-next c =
     let task = c.args.task.now in
     let all = c.row_after.new.self.table.rows in
-    let P : Option Row → Type 0 = λ o. MatchOption o (CannotTakeAt task all c.args.place c.args.step) (LeadsTo task all c.args.place c.args.step) in
-    subst P c.in-Some.is c.in_ok-row.ensures.taken
+    let P : Option Led → Type 0 = λ o. MatchOption o (CannotTakeAt task all c.args.place c.args.step) (λ led. LeadsTo task all c.args.place c.args.step led.row) in
+    subst P c.in-Some.is c.in_ok-led.ensures.taken
 
 pub returns-clause-after : goal.returns-clause-after
 returns-clause-after c =
     let task = c.args.task.now in
     let all = c.row_after.new.self.table.rows in
-    let P : Option Row → Type 0 = λ o. MatchOption o (CannotTakeAt task all c.args.place c.args.step) (LeadsTo task all c.args.place c.args.step) in
-    let n = subst P c.in-Some.is c.in_ok-row.ensures.taken in
+    let P : Option Led → Type 0 = λ o. MatchOption o (CannotTakeAt task all c.args.place c.args.step) (λ led. LeadsTo task all c.args.place c.args.step led.row) in
+    let n = subst P c.in-Some.is c.in_ok-led.ensures.taken in
     let e = c.in_ok-put.ensures in
     has_after task all c.put.new.self.table.rows c.args.place c.args.step n.key n.from e.more.rows (e.has n.key n.stands)
 
 pub returns-clause-more : goal.returns-clause-more
-returns-clause-more c = more_again c.in_ok-row.ensures.more c.in_ok-put.ensures.more
+returns-clause-more c = more_again c.in_ok-led.ensures.more c.in_ok-put.ensures.more
+
+pub returns-in_default-clause-traps : goal.returns-in_default-clause-traps
+returns-in_default-clause-traps c =
+    let P : Option Led → Type 0 = λ o. ShowsTrapAt c.args.task.now c.row_after.new.self.table.rows c.args.place c.args.step (led_traps o) in
+    subst P c.in_default.is c.in_ok-led.ensures.traps
+
+pub returns-clause-traps : goal.returns-clause-traps
+returns-clause-traps c =
+    let task = c.args.task.now in
+    let place = c.args.place in
+    let mid = c.row_after.new.self in
+    let e = c.in_ok-led.ensures in
+    let P : Option Led → Type 0 = λ o. ShowsTrapAt task mid.table.rows place c.args.step (led_traps o) in
+    trap_grown task mid.table.rows c.put.new.self.table.rows place c.args.step c.in-Some.led.traps c.in_ok-put.ensures.more.rows
+    (e.found.reached.full place (within_more task c.args.self.now mid place c.requires.found e.more c.requires.within)) (subst P c.in-Some.is e.traps)

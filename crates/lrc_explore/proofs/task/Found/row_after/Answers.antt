@@ -3,7 +3,8 @@ use Rattle.std.specs.Prelude.{IfOk, MatchOption}
 use Rattle.lrc_orders_settling.specs.declared.step.Step.{Step}
 use Rattle.lrc_orders_settling.specs.declared.step.Step.TheVariants.{Alone, Together}
 use Rattle.lrc_explore.specs.Reached.{CannotTakeAt, LeadsTo}
-use Rattle.lrc_explore.proofs.Stepping.{faults_on, found_on, key_at, taken_from, taken_on}
+use Rattle.lrc_explore.specs.Traps.{ShowsTrapAt, led_traps}
+use Rattle.lrc_explore.proofs.Stepping.{faults_on, found_on, key_at, taken_from, taken_on, traps_on}
 use Rattle.lrc_explore.proofs.task.Found.row_after.Goals as goal
 
 pub alone-requires-clause-table : goal.alone-requires-clause-table
@@ -31,10 +32,22 @@ returns-in-Alone-clause-taken c =
     let new = c.alone.new.self in
     let place = c.args.place in
     let out = c.alone.result in
-    let P : Step → Type 0 = λ s. IfOk out (λ o. MatchOption o (CannotTakeAt task new.rows place s) (LeadsTo task new.rows place s)) in
+    let P : Step → Type 0 = λ s. IfOk out (λ o. MatchOption o (CannotTakeAt task new.rows place s) (λ led. LeadsTo task new.rows place s led.row)) in
     subst P (sym c.in-Alone.is)
     (taken_on task c.means-means.result c.args.self.now new place c.row-row.result (Alone c.in-Alone.node) c.means-means.ensures r.found r.within c.row-row.ensures out
     e.keeps e.taken)
+
+pub returns-in-Alone-clause-traps : goal.returns-in-Alone-clause-traps
+returns-in-Alone-clause-traps c =
+    let r = c.requires in
+    let e = c.alone.ensures in
+    let task = c.args.task.now in
+    let new = c.alone.new.self in
+    let place = c.args.place in
+    let out = c.alone.result in
+    let P : Step → Type 0 = λ s. IfOk out (λ o. ShowsTrapAt task new.rows place s (led_traps o)) in
+    subst P (sym c.in-Alone.is)
+    (traps_on task c.means-means.result c.args.self.now new place c.row-row.result (Alone c.in-Alone.node) c.means-means.ensures r.found r.within c.row-row.ensures out e.keeps e.taken)
 
 pub returns-in-Alone-clause-faults : goal.returns-in-Alone-clause-faults
 returns-in-Alone-clause-faults c =
@@ -68,10 +81,22 @@ returns-in-Together-clause-taken c =
     let new = c.together.new.self in
     let place = c.args.place in
     let out = c.together.result in
-    let P : Step → Type 0 = λ s. IfOk out (λ o. MatchOption o (CannotTakeAt task new.rows place s) (LeadsTo task new.rows place s)) in
+    let P : Step → Type 0 = λ s. IfOk out (λ o. MatchOption o (CannotTakeAt task new.rows place s) (λ led. LeadsTo task new.rows place s led.row)) in
     subst P (sym c.in-Together.is)
     (taken_on task c.means-means.result c.args.self.now new place c.row-row.result Together c.means-means.ensures r.found r.within c.row-row.ensures out
     e.keeps e.taken)
+
+pub returns-in-Together-clause-traps : goal.returns-in-Together-clause-traps
+returns-in-Together-clause-traps c =
+    let r = c.requires in
+    let e = c.together.ensures in
+    let task = c.args.task.now in
+    let new = c.together.new.self in
+    let place = c.args.place in
+    let out = c.together.result in
+    let P : Step → Type 0 = λ s. IfOk out (λ o. ShowsTrapAt task new.rows place s (led_traps o)) in
+    subst P (sym c.in-Together.is)
+    (traps_on task c.means-means.result c.args.self.now new place c.row-row.result Together c.means-means.ensures r.found r.within c.row-row.ensures out e.keeps e.taken)
 
 pub returns-in-Together-clause-faults : goal.returns-in-Together-clause-faults
 returns-in-Together-clause-faults c =

@@ -1,10 +1,18 @@
-use Rattle.std.proofs.Common.{◌+◌, ◌<◌, ◌∙◌, sym, subst, arith}
+use Rattle.std.proofs.Common.{◌≡◌, ◌+◌, ◌<◌, ◌∙◌, sym, subst, arith}
+use Rattle.std.specs.Prelude.{None}
 use Rattle.lrc_orders_table.specs.Rows.{row_count}
 use Rattle.lrc_explore.specs.Answers.{IsVisit}
+use Rattle.lrc_explore.specs.Traps.{first_trap}
 use Rattle.lrc_explore.proofs.Keys.{more_again}
-use Rattle.lrc_explore.proofs.Seeking.{Seeking, seeking_past, seeking_stuck, stuck_end, too_many_states}
-use Rattle.lrc_explore.proofs.task.Found.seek.Goals.{in-Stuck, in-Past}
+use Rattle.lrc_explore.proofs.Seeking.{Seeking, seeking_first, seeking_on, through, too_many_states}
 use Rattle.lrc_explore.proofs.task.Found.seek.Goals as goal
+
+pub loop-place-init : goal.loop-place-init
+loop-place-init c = (
+  subst (λ t. Seeking c.args.task.now c.args.self.now c.args.self.now 0 c.args.races None t) (sym c.start_trap-trap.ensures)
+      (seeking_first c.args.task.now c.args.self.now c.args.races c.args.start c.requires.found c.requires.start),
+  λ le. omega (arith, le),
+)
 
 pub returns-then-len-task-clause-faults : goal.returns-then-len-task-clause-faults
 returns-then-len-task-clause-faults c =
@@ -21,29 +29,18 @@ loop-place-preserved c =
     let old = c.loop-place.self in
     let new = c.visit.new.self in
     let place = c.loop-place.place in
-    let stuck = c.loop-place.stuck in
+    let races = c.args.races in
     let i = c.loop-place.invariant.0 in
     let e = c.in_ok-p.ensures in
-    let lt : place < row_count old.table.rows = omega (arith, c.loop-place-test.true, c.len.ensures.len) in (
-      elim c.match-branch-2.branch [
-        | in-Stuck w ↦
-            let v = subst (IsVisit task new place) w.in-Stuck.is e.visit in
-            subst (Seeking task first new (place + 1)) (sym (w.stuck-is ∙ w.or-stuck.ensures))
-            (seeking_stuck task first old new place stuck i e.found e.more lt v.0 v.1)
-        | in-Past w ↦
-            let v = subst (IsVisit task new place) w.in-Past.is e.visit in
-            subst (Seeking task first new (place + 1)) (sym w.stuck-is) (seeking_past task first old new place stuck i e.found e.more lt v.0 v.1)
-      ],
+    let lt : place < row_count old.table.rows = omega (arith, c.loop-place-test.true, c.len.ensures.len) in
+    let v = subst (IsVisit task new place races) c.in-Past.is e.visit in (
+      subst (λ t. Seeking task first new (place + 1) races c.first_stuck-stuck.result t) (sym c.first_trap-trap.ensures)
+          (subst (λ o. Seeking task first new (place + 1) races o (first_trap c.loop-place.trap c.in-Past.step place)) (sym c.first_stuck-stuck.ensures)
+          (seeking_on task first old new place races c.loop-place.stuck c.loop-place.trap i e.found e.more lt c.in-Past.halts c.in-Past.step v)),
       (λ le. omega (arith, le, c.if-len-task.false, c.len-in-loop-place.ensures.len, c.loop-place-test.true, c.len.ensures.len)),
     )
 
 pub returns-clause-end : goal.returns-clause-end
 returns-clause-end c =
-    let i = c.loop-place.invariant.0 in
-    let all = c.loop-place.self.table.rows in
-    let past = c.loop-place-test.false in
-    let long = c.len.ensures.len in (
-      (λ k key lt at. i.calm k key (omega (arith, lt, past, long)) at),
-      (λ k lt key at. i.expanded k (omega (arith, lt, past, long)) key at),
-      stuck_end c.args.task.now all c.loop-place.place (omega (arith, past, long)) c.loop-place.stuck i.halted,
-    )
+    through c.args.task.now c.args.self.now c.loop-place.self c.loop-place.place c.args.races c.loop-place.stuck c.loop-place.trap c.loop-place.invariant.0
+    (omega (arith, c.loop-place-test.false, c.len.ensures.len))

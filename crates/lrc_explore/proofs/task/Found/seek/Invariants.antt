@@ -6,7 +6,7 @@ use Rattle.lrc_explore.proofs.task.Found.seek.Given as goal
 
 abbrev pub invariant-loop-place : goal.invariant-loop-place
 invariant-loop-place l =
-    Seeking l.task l.initial.self l.self l.place l.stuck × (row_count l.self.table.rows ≤ l.place → row_count l.self.table.rows ≤ l.task.most)
+    Seeking l.task l.initial.self l.self l.place l.races l.stuck l.trap × (row_count l.self.table.rows ≤ l.place → row_count l.self.table.rows ≤ l.task.most)
 
 abbrev pub decreases-loop-place : goal.decreases-loop-place
 decreases-loop-place l = l.task.most - l.place

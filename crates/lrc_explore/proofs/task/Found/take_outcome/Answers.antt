@@ -13,7 +13,7 @@ is_still-still-requires c = known_at c.args.task.now c.args.self.now c.args.plac
 
 pub noted-requires : goal.noted-requires
 noted-requires c =
-    let e = c.in_ok-expand.ensures in
+    let e = c.in_ok-_trap.ensures in
     e.found.reached.full c.args.place
     (within_more c.args.task.now c.args.self.now c.expand.new.self c.args.place c.requires.found e.more c.requires.within)
 
@@ -31,7 +31,7 @@ returns-in_ok-keep-clause-sound c =
     let means = means_of task in
     let known = f.table means (means_are task) in
     let of = row_of task old place row f within there means (means_are task) in
-    let e = c.in_ok-expand.ensures in
+    let e = c.in_ok-_trap.ensures in
     let new = c.expand.new.self.table.rows in
     let other = c.in_ok-key.key in
     let copy = row_copy new place key other (row_grown old.table.rows new place key e.more.rows at) c.in_ok-key.ensures in
@@ -44,7 +44,7 @@ returns-in_ok-keep-clause-done c =
     let new = c.expand.new.self.table.rows in
     let key = c.in_ok-key.key in
     gathered_at c.args.task.now new new c.keep.new.outcomes.keys c.args.place key (rows_not new) c.in_ok-key.ensures
-    (c.in_ok-expand.ensures.expanded key c.in_ok-key.ensures) (λ still. c.in_ok-keep.ensures.has)
+    (c.in_ok-_trap.ensures.expanded key c.in_ok-key.ensures) (λ still. c.in_ok-keep.ensures.has)
 
 pub returns-else-still-clause-done : goal.returns-else-still-clause-done
 returns-else-still-clause-done c =
@@ -60,7 +60,7 @@ returns-else-still-clause-done c =
     let means = means_of task in
     let known = f.table means (means_are task) in
     let of = row_of task old place row f within there means (means_are task) in
-    let e = c.in_ok-expand.ensures in
+    let e = c.in_ok-_trap.ensures in
     let new = c.expand.new.self.table.rows in
     gathered_at task old.table.rows new c.args.outcomes.now.keys place key e.more.rows at
     (e.expanded key (row_grown old.table.rows new place key e.more.rows at))

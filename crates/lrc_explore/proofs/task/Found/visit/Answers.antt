@@ -1,4 +1,3 @@
-use Rattle.std.proofs.Common.{◌≡◌, ◌∙◌, sym, true, false}
 use Rattle.lrc_orders_table.proofs.RowLaws.{row_grown}
 use Rattle.lrc_explore.proofs.MeansOf.{means_are, means_of}
 use Rattle.lrc_explore.proofs.Stepping.{key_at, known_at, row_at, row_of}
@@ -24,10 +23,11 @@ returns-in-Some-clause-visit c =
     let means = means_of task in
     let known = f.table means (means_are task) in
     let of = row_of task old place row f within there means (means_are task) in
-    (key, at, (c.in-Some.ensures means key known of).1)
+    let met = c.in-Some.ensures means key known of in
+    (key, at, met.1, met.0)
 
-pub returns-then-stuck-clause-visit : goal.returns-then-stuck-clause-visit
-returns-then-stuck-clause-visit c =
+pub returns-clause-visit : goal.returns-clause-visit
+returns-clause-visit c =
     let task = c.args.task.now in
     let old = c.args.self.now in
     let place = c.args.place in
@@ -40,28 +40,13 @@ returns-then-stuck-clause-visit c =
     let means = means_of task in
     let known = f.table means (means_are task) in
     let of = row_of task old place row f within there means (means_are task) in
-    let e = c.in_ok-expand.ensures in
-    let later = row_grown old.table.rows c.expand.new.self.table.rows place key e.more.rows at in (
-      record { key = key; there = later; calm = c.in_default.ensures means key known of; expanded = e.expanded key later },
-      (c.is_stuck-stuck.ensures means key known of).0 c.if-stuck.true,
-    )
-
-pub returns-else-stuck-clause-visit : goal.returns-else-stuck-clause-visit
-returns-else-stuck-clause-visit c =
-    let task = c.args.task.now in
-    let old = c.args.self.now in
-    let place = c.args.place in
-    let f = c.requires.found in
-    let within = c.requires.within in
-    let there = c.row-row.ensures in
-    let row = c.row-row.result in
-    let key = key_at task old place row f within there in
-    let at = row_at task old place row f within there in
-    let means = means_of task in
-    let known = f.table means (means_are task) in
-    let of = row_of task old place row f within there means (means_are task) in
-    let e = c.in_ok-expand.ensures in
-    let later = row_grown old.table.rows c.expand.new.self.table.rows place key e.more.rows at in (
-      record { key = key; there = later; calm = c.in_default.ensures means key known of; expanded = e.expanded key later },
-      λ stuck. let t = (c.is_stuck-stuck.ensures means key known of).1 stuck in let x : true ≡ false = sym t ∙ c.if-stuck.false in cc,
-    )
+    let e = c.in_ok-trap.ensures in
+    let later = row_grown old.table.rows c.expand.new.self.table.rows place key e.more.rows at in
+    record {
+      key = key;
+      there = later;
+      calm = c.in_default.ensures means key known of;
+      expanded = e.expanded key later;
+      halted = c.is_stuck-stuck.ensures means key known of;
+      traps = e.trap key later;
+    }

@@ -34,19 +34,19 @@ gone-requires-clause-row c =
           (given_there means table row key c.requires.table from.of c.args.node at.spot at.here ∙ sym (c.given.ensures s.shared s.there) ∙ c.in-Some.is));
     }
 
-pub returns-in_err-new-clause-faults : goal.returns-in_err-new-clause-faults
-returns-in_err-new-clause-faults c =
+pub returns-in_err-led-clause-faults : goal.returns-in_err-led-clause-faults
+returns-in_err-led-clause-faults c =
     let means = c.args.means.now in
     let table = c.args.self.now in
     let row = c.args.row.now in
-    let fault = c.in_err-new.field-0.0 in
+    let fault = c.in_err-led.field-0.0 in
     fault_up c.from_residual.result fault (λ f. (key : Noted) → IsTakenFrom means table row key → IsLongFault means key f) c.from_residual.ensures.1
     (λ key from.
     let s = from.of.stands.shared in
     let at = node_at table row key c.args.node from.of.stands c.requires.node in
     let made = makes means key c.args.node at.spot at.here c.in-Some.value
     (given_there means table row key c.requires.table from.of c.args.node at.spot at.here ∙ sym (c.given.ensures s.shared s.there) ∙ c.in-Some.is) in
-    let long = c.in_err-new.ensures.faults key from.of in
+    let long = c.in_err-led.ensures.faults key from.of in
     record {
       nodes = long.nodes;
       many = λ e. long_from means key c.args.node at.spot at.here c.in-Some.value made (long.many e at.spot at.here);
@@ -58,6 +58,6 @@ returns-clause-taken c = λ key from.
     let table = c.args.self.now in
     let row = c.args.row.now in
     let s = from.of.stands.shared in
-    let g = c.in_ok-new.ensures.gone key from.of in
-    leads_alone means c.requires.means c.gone.new.self c.in_ok-new.new key c.args.node c.in-Some.value g
+    let g = c.in_ok-led.ensures.gone key from.of in
+    leads_alone means c.requires.means c.gone.new.self c.in_ok-led.led key c.args.node c.in-Some.value g
     (given_there means table row key c.requires.table from.of c.args.node g.spot g.here ∙ sym (c.given.ensures s.shared s.there) ∙ c.in-Some.is) from.settled

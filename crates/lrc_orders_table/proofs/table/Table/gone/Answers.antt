@@ -75,8 +75,8 @@ notes-requires-clause-place c =
     let within = slice_get_within c.after.new.self.afters.entries c.in_ok-place.place _ there.1 in
     omega (arith, within, same)
 
-pub index-requires : goal.index-requires
-index-requires c =
+pub index-after-requires : goal.index-after-requires
+index-after-requires c =
     let there = c.in_ok-place.ensures.there in
     let same = ap (λ (t : Table). length t.afters.entries) c.in_ok-shared.ensures.others in
     let again = ap (λ (t : Table). length t.afters.entries) c.in_ok-notes.ensures.others in
@@ -136,10 +136,10 @@ returns-clause-gone c = λ key of.
     let notes = of.stands.notes in
     let entries_two = ap (λ (t : Table). slice_get t.afters.entries place) s.others in
     let entries_last = ap (λ (t : Table). slice_get t.afters.entries place) n.others in
-    let comes : c.index.result.now ≡ after =
-    same_Some c.index.result.now after
-    (sym c.index.ensures ∙ value_at last.afters.entries place _ after (entries_last ∙ entries_two ∙ e.there.1)) in
-    has_gone means old one two last row key node c.args.value place c.in_ok-shared.shared c.in_ok-notes.notes c.index.result.now.thread at.spot
+    let comes : c.index-after.result.now ≡ after =
+    same_Some c.index-after.result.now after
+    (sym c.index-after.ensures ∙ value_at last.afters.entries place _ after (entries_last ∙ entries_two ∙ e.there.1)) in
+    has_gone means old one two last row key node c.args.value place c.in_ok-shared.shared c.in_ok-notes.notes c.index-after.result.now.thread at.spot
     c.next-next.result known e.keeps second third of at.here after e.there.1 (ap (λ (a : After). a.thread) comes)
     (c.next-next.ensures.at ∙ next_here means old row key node at.spot c.requires.table of at.here)
     (s.there shared.shared _ after (stands_on row.shared shared.shared e.keeps.widens.shared shared.there) e.there.1)
@@ -149,4 +149,4 @@ returns-clause-gone c = λ key of.
       there = stands_on row.notes notes.notes e.keeps.widens.notes notes.there;
       acts_are = notes.acts_are;
     })) (entries_two ∙ e.there.1))
-    n.bare
+    n.bare c.index-after.result.now.traps (ap (λ (a : After). a.traps) comes)

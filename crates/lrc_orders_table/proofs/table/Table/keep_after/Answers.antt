@@ -1,8 +1,10 @@
 use Rattle.std.proofs.Common.{◌≡◌, ◌∙◌, [], ◌∷◌, ◌++◌, refl, sym, ap, subst}
 use Rattle.std.specs.Prelude.{Some, slice_get}
+use Rattle.std.specs.List.{list_any}
 use Rattle.indexmap.specs.IndexMap.{get}
 use Rattle.indexmap.proofs.CallerLemmas.{insert_entry-new}
 use Rattle.lrc_exec.specs.declared.spot.Spot.{Spot}
+use Rattle.lrc_orders.specs.Traps.{is_trap}
 use Rattle.lrc_orders.proofs.Keeping.{grows_not, stands_on}
 use Rattle.lrc_orders_live.specs.Live.{forgot}
 use Rattle.lrc_orders_table.specs.declared.table.After.{After}
@@ -25,7 +27,7 @@ returns-clause-table c =
     let e = c.in_ok-thread.ensures in
     let known = e.table in
     let asked = c.args.asked in
-    let after : After = record { thread = c.in_ok-thread.thread; deeds = c.args.settled.deeds } in
+    let after : After = record { thread = c.in_ok-thread.thread; deeds = c.args.settled.deeds; traps = c.has_trap_deed-traps.result } in
     let new : Table = record old { afters = c.insert.new.self } in
     let entries : new.afters.entries ≡ old.afters.entries ++ (asked, after) ∷ [] =
     c.in_ok-insert.ensures.entries
@@ -38,6 +40,7 @@ returns-clause-table c =
       so = s.so;
       kept = e.there ∙ ap (λ (x : Spot). Some x) c.forget_spot.ensures;
       deeds = refl;
+      traps = c.has_trap_deed-traps.ensures ∙ ap (list_any is_trap) c.deref.ensures.value;
     } in
     table_same means old new refl refl known refl known.distinct (afters_more means old new known asked after entries is)
     (changes_same means old new refl refl (grows_not old.rows.shared.keys old.rows.shared.keys refl) (record { more = (asked, after) ∷ []; is = entries })
@@ -48,7 +51,7 @@ returns-clause-there c =
     let old = c.number.new.self in
     let e = c.in_ok-thread.ensures in
     let asked = c.args.asked in
-    let after : After = record { thread = c.in_ok-thread.thread; deeds = c.args.settled.deeds } in
+    let after : After = record { thread = c.in_ok-thread.thread; deeds = c.args.settled.deeds; traps = c.has_trap_deed-traps.result } in
     let entries : c.insert.new.self.entries ≡ old.afters.entries ++ (asked, after) ∷ [] =
     c.in_ok-insert.ensures.entries
     ∙ insert_entry-new asked_eq.it old.afters asked after (ap (λ m. get asked_eq.it m asked) e.afters ∙ c.requires.absent) in (

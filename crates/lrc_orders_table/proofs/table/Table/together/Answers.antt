@@ -1,4 +1,4 @@
-use Rattle.std.proofs.Common.{◌≡◌, ◌∙◌, sym, subst, arith}
+use Rattle.std.proofs.Common.{◌≡◌, ◌+◌, ◌∙◌, sym, subst, arith}
 use Rattle.lrc_orders.specs.declared.noted.Noted.{Noted}
 use Rattle.lrc_orders.proofs.Faults.{fault_up}
 use Rattle.lrc_orders_table.specs.Tables.{IsLongFault, IsTakenFrom}
@@ -34,20 +34,20 @@ gone-requires-clause-row c =
       goes = goes_here means key of.valid of.stands.counted all node at.spot at.here;
     }
 
-pub returns-in_err-new-clause-faults : goal.returns-in_err-new-clause-faults
-returns-in_err-new-clause-faults c =
+pub returns-in_err-led-clause-faults : goal.returns-in_err-led-clause-faults
+returns-in_err-led-clause-faults c =
     let means = c.args.means.now in
     let old = c.args.self.now in
     let row = c.args.row.now in
     let node = c.loop-node.node in
-    fault_up c.from_residual.result c.in_err-new.field-0.0 (λ f. (key : Noted) → IsTakenFrom means old row key → IsLongFault means key f)
+    fault_up c.from_residual.result c.in_err-led.field-0.0 (λ f. (key : Noted) → IsTakenFrom means old row key → IsLongFault means key f)
     c.from_residual.ensures.1
     (λ key from.
     let of = from.of in
     let all = (c.all_wait.ensures means key c.requires.table of).0 c.if-not-all_wait.false in
     let a = c.loop-node.invariant.gone key of in
     let at = node_at old row key node of.stands c.loop-node-test.true in
-    let long = c.in_err-new.ensures.faults a.new a.of in
+    let long = c.in_err-led.ensures.faults a.new a.of in
     record {
       nodes = long.nodes;
       many = λ e. long_together_from means key of.valid of.stands.counted all node at.spot at.here
@@ -58,7 +58,7 @@ pub loop-node-preserved : goal.loop-node-preserved
 loop-node-preserved c =
     let means = c.args.means.now in
     let i = c.loop-node.invariant in
-    let e = c.in_ok-new.ensures in
+    let e = c.in_ok-led.ensures in
     let node = c.loop-node.node in
     record {
       known = e.table;
@@ -67,8 +67,9 @@ loop-node-preserved c =
           let all = (c.all_wait.ensures means key c.requires.table of).0 c.if-not-all_wait.false in
           let a = i.gone key of in
           let g = e.gone a.new a.of in
-          all_gone_on means key node c.loop-node.self c.gone.new.self c.loop-node.new c.in_ok-new.new a g
-          (waiting_here means key of.valid of.stands.counted all node g.spot (sym (a.rest node (omega arith)) ∙ g.here));
+          subst (AllGone means key (node + 1) c.gone.new.self c.in_ok-led.led.row) (sym c.either-traps.ensures)
+          (all_gone_on means key node c.loop-node.self c.gone.new.self c.loop-node.new c.loop-node.traps c.in_ok-led.led a g
+          (waiting_here means key of.valid of.stands.counted all node g.spot (sym (a.rest node (omega arith)) ∙ g.here)));
     }
 
 pub returns-clause-taken : goal.returns-clause-taken
@@ -80,6 +81,6 @@ returns-clause-taken c = λ key from.
     let of = from.of in
     let all = (c.all_wait.ensures means key c.requires.table of).0 c.if-not-all_wait.false in
     let past : node ≡ old.rows.nodes = omega (arith, c.loop-node-test.false, c.loop-node.auto.node-end) in
-    let a = subst (λ k. AllGone means key k c.loop-node.self c.loop-node.new) (past ∙ sym (spots_count means old row key c.requires.table of))
+    let a = subst (λ k. AllGone means key k c.loop-node.self c.loop-node.new c.loop-node.traps) (past ∙ sym (spots_count means old row key c.requires.table of))
     (c.loop-node.invariant.gone key of) in
-    leads_together means key of.valid of.stands.counted all c.requires.means c.loop-node.self c.loop-node.new a
+    leads_together means key of.valid of.stands.counted all c.requires.means c.loop-node.self c.loop-node.new c.loop-node.traps a

@@ -8,5 +8,5 @@ abbrev pub invariant-loop-node : goal.invariant-loop-node
 invariant-loop-node l = record {
   known : IsTable l.means l.self;
   keeps : KeepsRows l.initial.self l.self;
-  gone : (key : Noted) → IsRowOf l.means l.initial.self l.row key → AllGone l.means key l.node l.self l.new;
+  gone : (key : Noted) → IsRowOf l.means l.initial.self l.row key → AllGone l.means key l.node l.self l.new l.traps;
 }

@@ -1,0 +1,28 @@
+-- The lines of nodes that have trapped.
+use Rattle.std.specs.Prelude.{ℕ, None, List, []}
+use Rattle.lrc_lang.specs.declared.program.Program.{Program}
+use Rattle.lrc_trace.specs.declared.act.Act.{Act}
+use Rattle.lrc_text.specs.Each.{each}
+use Rattle.lrc_labels.specs.Reading.{Label}
+use Rattle.lrc_explain_waits.specs.declared.stand.Fate.{Fate}
+use Rattle.lrc_explain_waits.specs.declared.stand.Fate.TheVariants.{Trapped}
+use Rattle.lrc_explain_waits.specs.declared.stand.Stand.{Stand}
+use Rattle.lrc_explain_waits.specs.Stand.{stands_of}
+use Rattle.lrc_explain_waits.specs.Stuck.{end_text}
+
+-- how a node ended, if it has trapped
+abbrev pub trapped_as : Fate → List ℕ → List ℕ
+trapped_as (Trapped cause) text = text
+trapped_as _ text = []
+
+-- how node `me` ended, and why, if it has trapped
+abbrev pub trapped_line : List Label → List Stand → (me : ℕ) → Stand → List ℕ
+trapped_line labels stands me stand = trapped_as stand.fate (end_text labels stands me stand)
+
+-- the same of all nodes, ascending
+abbrev pub trapped_lines : List Label → List Stand → List ℕ
+trapped_lines labels stands = each (λ me stand. trapped_line labels stands me stand) stands
+
+-- the same after acts
+abbrev pub trapped_text : List Label → Program → (nodes : ℕ) → (lines : List ℕ) → List Act → List ℕ
+trapped_text labels program nodes lines acts = trapped_lines labels (stands_of program nodes lines None acts)

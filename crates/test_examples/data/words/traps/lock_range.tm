@@ -1,0 +1,3 @@
+words 1; locks 1;
+acquire me;
+release me;

@@ -1,0 +1,3 @@
+words 1; locks 0;
+if me == 0 { x = 1 / 0; }
+barrier;

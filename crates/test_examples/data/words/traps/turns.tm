@@ -1,0 +1,4 @@
+words 1; locks 0;
+if me == 0 { while 1 { print 1; } }
+[0] = 1;
+x = [1];
