@@ -1,0 +1,3 @@
+pub mod Allowing
+pub mod Memory
+pub mod Telling
