@@ -1,3 +1,5 @@
 pub mod Allowing
+pub mod LastOne
 pub mod Memory
+pub mod Reads
 pub mod Telling

@@ -86,7 +86,8 @@ fn tell_at(
     let Deed::Read(word, value) = acts[position].deed else {
         return Ok(());
     };
-    if may_read(alloc, acts, order, position, word, value)? {
+    let may = may_read(alloc, acts, order, position, word, value)?;
+    if may {
         return Ok(());
     }
     let allowed = values_allowed(alloc, acts, position, word)?;
@@ -107,9 +108,10 @@ fn may_read(
     ensures { IfOk result (λ may. IsTrue may ↔ MayRead acts.now position word value) }
 {
     let known = known_writes(alloc, acts, order, position, word)?;
-    match first_crossing(order, &known) {
-        Some(_) => Ok(is_some_write(acts, &known, value)),
-        None => Ok(value == last_value(acts, &known)),
+    let writes = known.as_slice();
+    match first_crossing(order, writes) {
+        Some(_) => Ok(is_some_write(acts, writes, value)),
+        None => Ok(value == last_value(acts, writes)),
     }
 }
 
@@ -135,7 +137,8 @@ fn is_some_write(acts: &[Act], known: &[usize], value: u64) -> bool
         return true;
     }
     for write in known {
-        if written_at(acts, *write) == value {
+        let written = written_at(acts, *write);
+        if written == value {
             return true;
         }
     }
