@@ -59,7 +59,7 @@ fn push_head(text: &mut Vec<u8>, line: &Line<'_>) -> Result<(), AllocError>
 #[tactic(auto, unfolding(crate::specs::BytesText::take_member))]
 fn push_take(alloc: Global, text: &mut Vec<u8>, taken: Option<&Envelope>) -> Result<(), AllocError>
     ensures { OnOk result (text.new.items
-        ≡ text.old.items ++ take_member (option_map (λ envelope. envelope.now) taken)) }
+        ≡ text.old.items ++ take_member (option_map (λ envelope. envelope.now) taken.entry)) }
 {
     text.extend_from_slice(b",\"take\":")?;
     push_taken(alloc, text, taken)

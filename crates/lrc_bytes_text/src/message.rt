@@ -67,7 +67,7 @@ pub(crate) fn push_taken(
     taken: Option<&Envelope>,
 ) -> Result<(), AllocError>
     ensures { OnOk result (text.new.items
-        ≡ text.old.items ++ taken_or_null (option_map (λ envelope. envelope.now) taken)) }
+        ≡ text.old.items ++ taken_or_null (option_map (λ envelope. envelope.now) taken.entry)) }
 {
     match taken {
         Some(envelope) => push_object(alloc, text, b"{\"from\":", envelope.from, envelope),

@@ -1,14 +1,16 @@
 -- Turns that are told one after another.
-use Rattle.std.proofs.Common.{◌≡◌, ◌∙◌, ◌+◌, ◌<◌, ◌++◌, ◌∷◌, [], ℕ, List, Option, ap, sym, subst, get_or, length, refl, take}
+use Rattle.std.proofs.Common.{◌≡◌, ◌∙◌, ◌+◌, ◌<◌, ◌++◌, ◌∷◌, [], ℕ, List, Option, ap, append-nil, sym, subst, get_or, length, refl, take}
+use Rattle.std.specs.Prelude.{Bool, false, true, None, if◌then◌else◌, slice_get}
 use Rattle.std.proofs.lemmas.List.{take_more}
 use Rattle.lrc_protocol.specs.declared.event.Event.{Event}
 use Rattle.lrc_text.specs.Each.{each}
 use Rattle.lrc_text.proofs.Each.{each_more}
 use Rattle.lrc_turns_text.specs.Told.{holds_key}
 use Rattle.lrc_turns_text.specs.Turns.{Made}
+use Rattle.lrc_turns_text.specs.TurnsText.{acts_in}
 use Rattle.lrc_bytes_turns.specs.declared.seen.Seen.{Seen}
 use Rattle.lrc_bytes_turns.specs.Seen.{Sees}
-use Rattle.lrc_bytes_turns.specs.Turns.{shown_line}
+use Rattle.lrc_bytes_turns.specs.Turns.{event_line, is_shown, shown_line}
 
 -- nothing is known before the first turn
 pub sees_none : (seen : Seen) → seen.acts ≡ 0 → seen.taken.keys ≡ [] → Sees [] seen
@@ -16,6 +18,18 @@ sees_none seen acts none = record {
   acts = acts;
   taken = λ node from number. ap (λ keys. holds_key keys node from number) none;
 }
+
+-- a turn without an event has no line
+no_line : (b : Bool) (o : Option Event) (before : List Made) (place : ℕ) (turn : Made) → o ≡ None
+    → (if b then event_line before place o turn else []) ≡ []
+no_line true o before place turn is = ap (λ (e : Option Event). event_line before place e turn) is
+no_line false o before place turn is = refl
+
+pub eventless : (from to : Option ℕ) (events : List Event) (before after : List Made) (place : ℕ) (turn : Made) (text : List ℕ)
+    → slice_get events place ≡ None → text ≡ text ++ shown_line from to events before after place turn
+eventless from to events before after place turn text none =
+    sym (ap (λ (l : List ℕ). text ++ l) (no_line (is_shown from to (acts_in before) (acts_in after)) (slice_get events place) before place turn none)
+    ∙ append-nil text)
 
 module _ (turns : List Made) (k : ℕ) (turn : Made) (within : k < length turns) (is : turn ≡ get_or turns k turn) where
   -- the turns so far, with one more

@@ -31,7 +31,7 @@ pub fn bytes_part(
     section: Section<'_>,
     turns: &[TurnOf<'_>],
 ) -> Result<Vec<u8>, AllocError>
-    ensures { IfOk result (λ part. part.items ≡ bytes_text section.from section.to
+    ensures { IfOk result (λ part. part.items ≡ bytes_text section.entry.from section.entry.to
         section.entry.events.now turns.now) }
 {
     let mut text = Vec::new(alloc);

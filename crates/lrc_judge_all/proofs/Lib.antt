@@ -1,5 +1,5 @@
 pub mod Allowing
 pub mod LastOne
 pub mod Memory
-pub mod Reads
+pub mod GivenReads
 pub mod Telling

@@ -7,7 +7,7 @@ use Rattle.lrc_trace.proofs.Positions.{Does-deed, Does-one_deed, Does-read}
 use Rattle.lrc_judge.specs.Allowed.{AreAllowed}
 use Rattle.lrc_acts.specs.JudgeLines.{unlazy_line}
 use Rattle.lrc_judge_all.specs.Steps.{told, untold}
-use Rattle.lrc_judge_all.proofs.Reads.{not_misread}
+use Rattle.lrc_judge_all.proofs.GivenReads.{not_misread}
 use Rattle.lrc_judge_all.proofs.misreads.tell_at.Goals as goal
 
 abbrev quiet : Act
