@@ -15,8 +15,8 @@ returns-in-Some c =
     let some = c.is_some_write.ensures n word exact in
     (λ t. may.1 (some.0 t), λ m. some.1 (may.0 m))
 
-pub returns-in-None : goal.returns-in-None
-returns-in-None c =
+pub returns : goal.returns
+returns c =
     let run = c.args.acts.now in
     let n = c.args.position in
     let word = c.args.word in
