@@ -22,7 +22,7 @@ _treadmarks_options() {
 _treadmarks_values() {
     case $1,$2 in
     run,--order) echo "oldest newest twice" ;;
-    trace,--as) echo "acts events json rapid states" ;;
+    trace,--as) echo "acts bytes events json rapid states" ;;
     races,--as) echo "std acts" ;;
     *,--order) echo "oldest newest twice random" ;;
     *,--page) echo "64 256" ;;

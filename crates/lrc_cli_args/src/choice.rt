@@ -103,6 +103,8 @@ pub enum Form {
     Rapid,
     /// A JSON object for each turn of a part of the run, with its node's state.
     States(Part),
+    /// A JSON object for each turn of a part of the run, with the bytes of its messages.
+    Bytes(Part),
 }
 
 /// The part of a run that a chart shows, and how the chart shows it.
