@@ -1,0 +1,5 @@
+pub mod Back
+pub mod From
+pub mod Options
+pub mod Stops
+pub mod Turns
