@@ -2,3 +2,4 @@
 -- expression is: that is the grammar.
 pub mod Link
 pub mod Partial
+pub mod Run
