@@ -6,7 +6,7 @@ use Rattle.lrc_explore.specs.Answers.{FitsSettled, FitsSettledNoted, MetTooMany}
 use Rattle.lrc_explore_text.specs.Orders.{TellsOrders}
 use Rattle.lrc_explore_text.specs.Outcomes.{TellsOutcomes}
 
--- whether an order races or gets stuck; where outcomes are asked for, the outcomes
+-- whether an order races or gets stuck, and whether a node traps in one; where outcomes are asked for, the outcomes
 pub data Explores (labels : List Label) (program : Program) (nodes : ℕ) (lines : List ℕ) : (outcomes : Bool) → (out : List ℕ) → (status : ℕ) → Type 0 where
   tells_orders : {out : List ℕ} {status : ℕ} → TellsOrders labels program nodes lines out status → Explores labels program nodes lines false out status
   tells_outcomes : {out : List ℕ} → TellsOutcomes program nodes out → Explores labels program nodes lines true out 0

@@ -18,16 +18,16 @@ use std::alloc::Global;
 pub struct Printout {
     /// The parts of the text.
     pub parts: Vec<Vec<u8>>,
-    /// 0, or 3 after a race, or 4 if some order gets stuck.
+    /// 0, or 3 after a race, or 4 if some order gets stuck or a node traps in one.
     pub status: u8,
 }
 
 /// Searches every order in which `nodes` nodes can run a program, and returns what is printed: whether an order races,
-/// and if none does, whether one gets stuck. If `outcomes` is true, it prints every outcome instead. `lines` has the
-/// lines of the program's statements, and of the text's end behind them. In the lines of stuck nodes, the labels of
-/// words and locks follow their numbers. There must be 1 to 16 nodes. Gives up with `TooMany` only if there are more
-/// than `most` states to tell apart, or if a thread makes 1,000,000 + 20 * `most` free acts one after another. Fails if
-/// memory runs out.
+/// and if none does, whether one gets stuck and whether a node traps in one. If `outcomes` is true, it prints every
+/// outcome instead. `lines` has the lines of the program's statements, and of the text's end behind them. In the lines
+/// of stuck nodes, the labels of words and locks follow their numbers. There must be 1 to 16 nodes. Gives up with
+/// `TooMany` only if there are more than `most` states to tell apart, or if a thread makes 1,000,000 + 20 * `most` free
+/// acts one after another. Fails if memory runs out.
 pub fn explored(
     alloc: Global,
     labels: &[Label<'_>],

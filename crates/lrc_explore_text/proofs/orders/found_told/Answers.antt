@@ -1,5 +1,4 @@
 use Rattle.std.proofs.Common.{map}
-use Rattle.std.specs.Prelude.{codes}
 use Rattle.lrc_labels.specs.Reading.{label_seen}
 use Rattle.lrc_text.specs.Parts.{whole_text}
 use Rattle.lrc_explore_text.specs.Sections.{section_text}

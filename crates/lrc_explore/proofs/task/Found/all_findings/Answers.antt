@@ -1,4 +1,4 @@
-use Rattle.std.proofs.Common.{◌≡◌, false, subst}
+use Rattle.std.proofs.Common.{false, subst}
 use Rattle.lrc_explore.specs.Answers.{FitsEnd, FitsSettled, IsEnd}
 use Rattle.lrc_explore.proofs.Fitting.{fits_settled, ok_all}
 use Rattle.lrc_explore.proofs.Keys.{start_grown}

@@ -1,4 +1,4 @@
-use Rattle.std.proofs.Common.{◌≡◌, ◌+◌, ◌<◌, ◌∙◌, sym, subst, arith}
+use Rattle.std.proofs.Common.{◌+◌, ◌<◌, sym, subst, arith}
 use Rattle.std.specs.Prelude.{None}
 use Rattle.lrc_orders_table.specs.Rows.{row_count}
 use Rattle.lrc_explore.specs.Answers.{IsVisit}

@@ -1,5 +1,4 @@
 use Rattle.std.proofs.Common.{◌∙◌, ◌++◌, [], ℕ, List, ap, subst}
-use Rattle.std.specs.Prelude.{Some, None, option_map}
 use Rattle.lrc_consistency_laws.specs.Follows.{nodes_of_acts}
 use Rattle.lrc_orders_table.proofs.RowLaws.{row_within}
 use Rattle.lrc_explore.specs.Answers.{IsStuckFirst}

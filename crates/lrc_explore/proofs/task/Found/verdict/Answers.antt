@@ -1,4 +1,4 @@
-use Rattle.std.proofs.Common.{◌≡◌, true, refl, subst}
+use Rattle.std.proofs.Common.{true, refl, subst}
 use Rattle.std.proofs.lemmas.Result.{IfOk-weaker}
 use Rattle.lrc_orders.specs.declared.search.Verdict.{Verdict}
 use Rattle.lrc_orders.specs.Verdict.{FindsNoRace}
