@@ -146,10 +146,26 @@ fn bytes_of(alloc: Global, part: Part, run: &Run) -> Result<Vec<u8>, AllocError>
     ensures { IfOk result (λ bytes. IsBytes part run.now.report run.now.turned.items bytes.items) }
 {
     let turned = run.turned.as_slice();
-    let events: Vec<Event> = turned.iter().map(|turn| turn.event).collect(alloc)?;
-    let order: Vec<u8> = turned.iter().map(|turn| turn.node).collect(alloc)?;
+    let events = events_in(alloc, turned)?;
+    let order = nodes_in(alloc, turned)?;
     let turns = turns_of(alloc, &run.report.logs, &order)?;
     bytes_part(alloc, section_of(part, &events), &turns)
+}
+
+// The events that these turns answer.
+fn events_in(alloc: Global, turns: &[Turned]) -> Result<Vec<Event>, AllocError>
+    ensures { IfOk result (λ events. events.items ≡ map (λ turn. turn.event) turns.now) }
+{
+    let events = turns.iter().map(|turn| turn.event).collect(alloc)?;
+    Ok(events)
+}
+
+// The nodes that make these turns.
+fn nodes_in(alloc: Global, turns: &[Turned]) -> Result<Vec<u8>, AllocError>
+    ensures { IfOk result (λ nodes. nodes.items ≡ map (λ turn. turn.node) turns.now) }
+{
+    let nodes = turns.iter().map(|turn| turn.node).collect(alloc)?;
+    Ok(nodes)
 }
 
 // The part of a run with these events.
