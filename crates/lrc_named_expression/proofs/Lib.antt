@@ -1,0 +1,10 @@
+pub mod Back
+pub mod Completed
+pub mod From
+pub mod Negated
+pub mod Options
+pub mod Stops
+pub mod Trees
+pub mod Turns
+pub mod Runs
+pub mod Taken

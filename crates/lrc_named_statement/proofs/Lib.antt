@@ -1,0 +1,4 @@
+pub mod From
+pub mod Turns
+pub mod Back
+pub mod Completed
