@@ -1,0 +1,3 @@
+pub mod Expressions
+pub mod Labels
+pub mod Statements

@@ -1,0 +1,6 @@
+pub mod Added
+pub mod Address
+pub mod Made
+pub mod Statements
+pub mod Turn
+pub mod View
