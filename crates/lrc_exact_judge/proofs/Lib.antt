@@ -1,0 +1,4 @@
+pub mod Among
+pub mod Collecting
+pub mod Keeping
+pub mod Next

@@ -1,0 +1,5 @@
+pub mod Collecting
+pub mod First
+pub mod Keepers
+pub mod LookedAt
+pub mod Memory
