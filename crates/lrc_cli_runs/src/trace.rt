@@ -32,30 +32,31 @@ use lrc_lang::program::Program;
 use lrc_lines::statements::lines_of_statements;
 use lrc_node::Entry;
 use lrc_protocol::Event;
+use lrc_source::source::Source;
 use lrc_turns_text::messages_part;
 use lrc_world::run::Run;
 use lrc_world::turned::Turned;
 use std::alloc::{AllocError, Global};
 
-/// Returns a trace of a run of the program in this text, in the chosen form.
+/// Returns a trace of a run of the program of this source, in the chosen form.
 pub(crate) fn traced(
     alloc: Global,
     form: Form,
-    text: &[u8],
-    program: &Program,
+    source: &Source<'_>,
     options: &RunOptions<'_>,
     run: &Run,
 ) -> Result<Vec<Vec<u8>>, Fault>
-    requires text { IsTextOf text.now program.now }
-    requires ran { IsRunFor (Trace form) program.now options.now run.now }
-    ensures ok { IfOk result (λ parts. IsTraceShown form text.now program.now options.now run.now
-        (whole_text parts.items)) }
-    ensures err { IfErr result (IsTraceFault form text.now program.now options.now run.now) }
+    requires { IsRunFor (Trace form) source.now.program options.now run.now }
+    ensures ok { IfOk result (λ parts. IsTraceShown form source.now.text source.now.program
+        options.now run.now (whole_text parts.items)) }
+    ensures err { IfErr result (IsTraceFault form source.now.text source.now.program options.now
+        run.now) }
 {
     match form {
-        Form::States(part) => stated(alloc, part, text, program, options, run),
+        Form::States(part) => stated(alloc, part, source, options, run),
         Form::Acts | Form::Messages | Form::Events | Form::Json | Form::Rapid => {
-            Ok(trace_parts(alloc, form, text, program, options, run)?)
+            let text = source.text();
+            Ok(trace_parts(alloc, form, text, source.program(), options, run)?)
         }
     }
 }
