@@ -13,7 +13,7 @@ _treadmarks_options() {
     stats) echo "--nodes --steps --collect --order --page --events --seed --threads" ;;
     chart) echo "--nodes --steps --collect --order --page --events --seed --threads --acts --text --from --to --hide --source" ;;
     judge) echo "--nodes --pairs" ;;
-    races) echo "--as --group" ;;
+    races) echo "--as --group --sure --json" ;;
     explore) echo "--nodes --most --outcomes --outcome --memory --tries" ;;
     esac
 }
@@ -29,7 +29,7 @@ _treadmarks_values() {
     *,--hide) echo "quiet" ;;
     *,--memory) echo "flat lazy" ;;
     *,--events | *,--acts) echo FILE ;;
-    *,--threads | *,--messages | *,--text | *,--source | *,--pairs | *,--group | *,--outcomes) ;;
+    *,--threads | *,--messages | *,--text | *,--source | *,--pairs | *,--group | *,--sure | *,--json | *,--outcomes) ;;
     *,--*) echo NUMBER ;;
     esac
 }

@@ -189,6 +189,8 @@ pub record IsRacing (rows : List Row) (racing : Racing) : Type 0 where
   pub file : first_of (codes "FILE") rows ≡ Some racing.file.now
   pub form : IsTraceForm (first_of (codes "as") rows) racing.form
   pub group : IsFlag (codes "group") racing.group rows
+  pub sure : IsFlag (codes "sure") racing.sure rows
+  pub json : IsFlag (codes "json") racing.json rows
 
 -- what the command that clap found asks for, with its matches
 abbrev pub IsRequest : Text × List Row → Request → Type 0

@@ -158,6 +158,8 @@ pub record IsRacesTaken (rows : List Row) : Type 0 where
   pub file : HasValue (codes "FILE") rows
   pub form : HasValue (codes "as") rows
   pub group : IsFlagOption (codes "group") rows
+  pub sure : IsFlagOption (codes "sure") rows
+  pub json : IsFlagOption (codes "json") rows
 
 -- of `why`: a FILE need not be there
 pub record IsWhyTaken (rows : List Row) : Type 0 where

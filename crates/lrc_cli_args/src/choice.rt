@@ -204,6 +204,10 @@ pub struct Racing<'w> {
     pub form: TraceForm,
     /// Whether the races are reported by groups, after the trace has ended.
     pub group: bool,
+    /// Whether only the sure races are reported: those that another trace of the same program shows, too.
+    pub sure: bool,
+    /// Whether each line is a JSON object.
+    pub json: bool,
 }
 
 /// A text of acts for the command `why`. The acts may come from any system.

@@ -123,6 +123,8 @@ fn races_request<'w>(options: &ArgMatches<'w>) -> Result<Request<'w>, Misfit>
         file: text_of(options, "FILE"),
         form: trace_form_named(text_of(options, "as"))?,
         group: is_named(options, "group"),
+        sure: is_named(options, "sure"),
+        json: is_named(options, "json"),
     }))
 }
 

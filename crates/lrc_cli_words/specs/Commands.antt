@@ -132,7 +132,8 @@ abbrev pub trace_form : Rule
 trace_form = defaulted (codes "as") (codes "std")
 
 abbrev pub races_command : App
-races_command = with_rule (with_rule (with_rule (new_app (codes "races")) file) trace_form) (flag_option (codes "group"))
+races_command = with_rule (with_rule (with_rule (with_rule (with_rule (new_app (codes "races")) file) trace_form) (flag_option (codes "group")))
+    (flag_option (codes "sure"))) (flag_option (codes "json"))
 
 -- what help is wanted on need not be given
 abbrev pub help_command : App

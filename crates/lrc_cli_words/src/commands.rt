@@ -106,6 +106,11 @@ const TRACE_FORM_HELP: &str =
 const GROUP_HELP: &str =
     "Tells the races by their locations, with how often each was told, when the trace has ended";
 
+const SURE_HELP: &str =
+    "Tells only the sure races: those of which another trace of the same program shows the two accesses side by side";
+
+const JSON_HELP: &str = "Prints each line as a JSON object";
+
 const COMMAND_HELP: &str = "The command. Left out, the commands are listed";
 
 // The version of the program. The message bytes have versions of their own.
@@ -394,7 +399,9 @@ fn races_command<'w>(alloc: Global) -> Result<Command<'w>, AllocError>
     );
     let command = taking(Ok(command), file(alloc, TRACE_HELP));
     let command = taking(command, trace_form(alloc));
-    taking(command, flag_option(alloc, "group", GROUP_HELP))
+    let command = taking(command, flag_option(alloc, "group", GROUP_HELP));
+    let command = taking(command, flag_option(alloc, "sure", SURE_HELP));
+    taking(command, flag_option(alloc, "json", JSON_HELP))
 }
 
 fn help_command<'w>(alloc: Global) -> Result<Command<'w>, AllocError>

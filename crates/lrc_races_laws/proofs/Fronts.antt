@@ -1,7 +1,8 @@
 -- Where whole lines are good, no front of them is bad.
-use Rattle.std.proofs.Common.{◌≡◌, ℕ, ◌<◌, ◌≤◌, Bool, List, [], ◌∷◌, ◌++◌, length, inl, inr, sym, subst, refl, ◌∙◌, ap, arith, append_assoc}
+use Rattle.std.proofs.Common.{◌≡◌, ℕ, ◌<◌, ◌≤◌, List, [], ◌∷◌, ◌++◌, length, inl, inr, sym, subst, refl, ◌∙◌, ap, arith, append_assoc}
 use Rattle.std.proofs.Common.{append-nil}
 use Rattle.std.specs.Prelude.{flat_map}
+use Rattle.lrc_races_text.specs.declared.asked.Asked.{Asked}
 use Rattle.lrc_races_text.specs.declared.form.Form.{Form}
 use Rattle.lrc_races_text.specs.declared.form.Form.TheVariants.{Std, Acts}
 use Rattle.lrc_races_text.specs.Says.{Said, Say, no_line, blank_line, event_line, SaysNothing}
@@ -73,8 +74,8 @@ module _ (form : Form) (bytes : List ℕ) (lines : List (List ℕ)) (said : List
       let short = behind_say form before line behind (subst (λ ls. Say form 1 ls said) whole good.says) in
       omega arith
 
-  pub front_good : (front more : List ℕ) (group : Bool) (line : ℕ) (told : List ℕ) → bytes ≡ front ++ more → IsBadEvent form group front line told → ⊥
-  front_good front more group line told e bad =
+  pub front_good : (front more : List ℕ) (asked : Asked) (line : ℕ) (told : List ℕ) → bytes ≡ front ++ more → IsBadEvent form asked front line told → ⊥
+  front_good front more asked line told e bad =
       let c = bad.cut in
       let parted : flat_map ended bad.lines ++ (bad.rest ++ more) ≡ flat_map ended lines =
       sym (append_assoc (flat_map ended bad.lines) bad.rest more) ∙ ap (λ b. b ++ more) (sym c.whole) ∙ sym e ∙ good.whole in
@@ -87,8 +88,8 @@ module _ (form : Form) (bytes : List ℕ) (lines : List (List ℕ)) (said : List
         | inr (says, counted, long) ↦ not_long behind bad.rest more c.last is bad.lines are long
       ]
 
-  pub whole_good : (group : Bool) (line : ℕ) (told : List ℕ) → IsBadTrace form group bytes line told → ⊥
-  whole_good group line told bad =
+  pub whole_good : (asked : Asked) (line : ℕ) (told : List ℕ) → IsBadTrace form asked bytes line told → ⊥
+  whole_good asked line told bad =
       let (same, none) = one_cut cut bad.cut in
       let first = bad.first in
       let all : lines ++ [] ∷ [] ≡ first.before ++ first.line ∷ first.after =

@@ -4,6 +4,10 @@ use Rattle.std.specs.Prelude.{AllPairs, Contains}
 use Rattle.lrc_races_trace.specs.declared.event.Event.{Event}
 use Rattle.lrc_races_trace.specs.declared.event.Pair.{Pair}
 use Rattle.lrc_races_trace.specs.Races.{ComesFirst, AreTold}
+use Rattle.lrc_races_sure.specs.Sure.{AreSureTold}
+use Rattle.lrc_races_text.specs.declared.asked.Sought.{Sought}
+use Rattle.lrc_races_text.specs.declared.asked.Sought.TheVariants.{AllRaces, SureRaces}
+use Rattle.lrc_races_text.specs.Sought.{AreSought}
 
 module _ {X : Type 0} where
   pub first_or : (y x : X) (xs : List X) → Contains (y ∷ xs) x → (y ≡ x) ⊎ Contains xs x
@@ -61,9 +65,26 @@ told_apart p q (inl a) (inr b) = omega arith
 told_apart p q (inr a) (inl b) = omega arith
 told_apart p q (inr a) (inr b) = omega arith
 
+in_order_same : (one other : List Pair) → AllPairs ComesFirst one → AllPairs ComesFirst other → ((p : Pair) → Contains one p ↔ Contains other p)
+    → one ≡ other
+in_order_same one other a b same = in_order_one ComesFirst told_apart one other a b same
+
 pub one_told : (events : List Event) (one other : List Pair) → AreTold events one → AreTold events other → one ≡ other
 one_told events one other a b =
-    in_order_one ComesFirst told_apart one other a.in_order b.in_order (λ p. (
+    in_order_same one other a.in_order b.in_order (λ p. (
       λ h. (b.exact p).1 ((a.exact p).0 h),
       λ h. (a.exact p).1 ((b.exact p).0 h),
     ))
+
+pub one_sure_told : (events : List Event) (one other : List Pair) → AreSureTold events one → AreSureTold events other → one ≡ other
+one_sure_told events one other a b =
+    in_order_same one other a.in_order b.in_order (λ p. (
+      λ h. (b.exact p).1 ((a.exact p).0 h),
+      λ h. (a.exact p).1 ((b.exact p).0 h),
+    ))
+
+-- so are those of the races that are asked for
+pub one_sought : (sought : Sought) (events : List Event) (one other : List Pair) → AreSought sought events one → AreSought sought events other
+    → one ≡ other
+one_sought AllRaces events one other a b = one_told events one other a b
+one_sought SureRaces events one other a b = one_sure_told events one other a b

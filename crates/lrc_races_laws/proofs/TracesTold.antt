@@ -1,23 +1,24 @@
 -- Of bytes one text is told.
-use Rattle.std.proofs.Common.{◌≡◌, ℕ, ◌+◌, ◌<◌, ◌≤◌, ◌⊎◌, ◌==◌, Bool, cond, List, [], ◌∷◌, ◌++◌, length, inl, inr, sym, subst, refl, ◌∙◌, ap, ap₂}
+use Rattle.std.proofs.Common.{◌≡◌, ℕ, ◌+◌, ◌<◌, ◌≤◌, ◌⊎◌, ◌==◌, cond, List, [], ◌∷◌, ◌++◌, length, inl, inr, sym, subst, refl, ◌∙◌, ap, ap₂}
 use Rattle.std.proofs.Common.{arith}
 use Rattle.std.specs.Prelude.{Option}
 use Rattle.lrc_races_trace.specs.declared.event.Event.{Event}
 use Rattle.lrc_races_trace.specs.declared.event.Pair.{Pair}
 use Rattle.lrc_races_trace.specs.declared.fault.Fault.{Fault as IllFormed}
 use Rattle.lrc_races_trace.specs.declared.group.Group.{Group}
-use Rattle.lrc_races_trace.specs.Races.{AreTold}
 use Rattle.lrc_races_trace.specs.Formed.{IsFirstFault}
 use Rattle.lrc_races_trace.specs.Groups.{AreGroups}
+use Rattle.lrc_races_text.specs.declared.asked.Asked.{Asked}
 use Rattle.lrc_races_text.specs.declared.form.Form.{Form}
+use Rattle.lrc_races_text.specs.Sought.{AreSought}
 use Rattle.lrc_races_text.specs.Naming.{Naming}
 use Rattle.lrc_races_text.specs.Says.{Said, Say, blank_line, event_line, IsBad, IsFirstBad}
-use Rattle.lrc_races_text.specs.Spelled.{race_lines, group_lines, fault_line, counts_line}
+use Rattle.lrc_races_text.specs.Layouts.{end_lines, pair_lines}
 use Rattle.lrc_races_text.specs.Told.{IsToldOf, IsWholeOf, Tells, IsBadEvent, Ends, IsBadTrace}
 use Rattle.lrc_races_laws.proofs.Cuts.{one_cut}
 use Rattle.lrc_races_laws.proofs.Sayings.{one_say}
 use Rattle.lrc_races_laws.proofs.Namings.{one_trace}
-use Rattle.lrc_races_laws.proofs.Pairs.{one_told}
+use Rattle.lrc_races_laws.proofs.Pairs.{one_sought}
 use Rattle.lrc_races_laws.proofs.Groupings.{one_grouping}
 use Rattle.lrc_races_laws.proofs.Faults.{one_fault}
 
@@ -64,24 +65,24 @@ not_bad_too {form} {also = also} a says = no_bad a.before a.line a.after (subst 
 
 -- ---- what is told of what is said
 
-told_one : {form : Form} {group : Bool} {said : List Said} {one other : List ℕ} → IsToldOf form group said one → IsToldOf form group said other
+told_one : {form : Form} {asked : Asked} {said : List Said} {one other : List ℕ} → IsToldOf form asked said one → IsToldOf form asked said other
     → one ≡ other
-told_one {form} {group} {said} a b =
+told_one {form} {asked} {said} a b =
     let (names, events) = one_trace said a.naming b.naming a.events b.events a.trace b.trace in
-    let pairs = one_told b.events a.pairs b.pairs (subst (λ es. AreTold es a.pairs) events a.are_told) b.are_told in
-    a.text ∙ ap₂ (λ (n : Naming) (ps : List Pair). cond group [] (race_lines form n ps)) names pairs ∙ sym b.text
+    let pairs = one_sought asked.sought b.events a.pairs b.pairs (subst (λ es. AreSought asked.sought es a.pairs) events a.are_told) b.are_told in
+    a.text ∙ ap₂ (λ (n : Naming) (ps : List Pair). cond asked.group [] (pair_lines asked.layout form n ps)) names pairs ∙ sym b.text
 
-whole_one : {form : Form} {group : Bool} {said : List Said} {one other : List ℕ} {status code : ℕ} → IsWholeOf form group said status one
-    → IsWholeOf form group said code other → (one ≡ other) × (status ≡ code)
-whole_one {form} {group} {said} a b =
+whole_one : {form : Form} {asked : Asked} {said : List Said} {one other : List ℕ} {status code : ℕ} → IsWholeOf form asked said status one
+    → IsWholeOf form asked said code other → (one ≡ other) × (status ≡ code)
+whole_one {form} {asked} {said} a b =
     let (names, events) = one_trace said a.naming b.naming a.events b.events a.trace b.trace in
-    let pairs = one_told b.events a.pairs b.pairs (subst (λ es. AreTold es a.pairs) events a.are_told) b.are_told in
-    let groups = one_grouping (cond group b.pairs []) a.groups b.groups
-    (subst (λ ps. AreGroups (cond group ps []) a.groups) pairs a.are_groups) b.are_groups in
+    let pairs = one_sought asked.sought b.events a.pairs b.pairs (subst (λ es. AreSought asked.sought es a.pairs) events a.are_told) b.are_told in
+    let groups = one_grouping (cond asked.group b.pairs []) a.groups b.groups
+    (subst (λ ps. AreGroups (cond asked.group ps []) a.groups) pairs a.are_groups) b.are_groups in
     let fault = one_fault b.events (length b.events) a.fault b.fault
     (subst (λ es. IsFirstFault es (length es) a.fault) events a.first_fault) b.first_fault in
     let text : Naming → List Pair → List Group → Option IllFormed → List Event → List ℕ =
-    λ n ps gs f es. cond group [] (race_lines form n ps) ++ (group_lines form n gs ++ (fault_line n f ++ counts_line n (length ps) (length es))) in (
+    λ n ps gs f es. cond asked.group [] (pair_lines asked.layout form n ps) ++ end_lines asked.layout form n gs f (length ps) (length es) in (
       a.text
           ∙ ap₂ (λ n ps. text n ps a.groups a.fault a.events) names pairs
           ∙ ap₂ (λ gs f. text b.naming b.pairs gs f a.events) groups fault
@@ -92,19 +93,19 @@ whole_one {form} {group} {said} a b =
 
 -- ---- what is told of bytes
 
-module _ (form : Form) (group : Bool) (bytes one other : List ℕ) where
-  pub so_far : Tells form group bytes one → Tells form group bytes other → one ≡ other
+module _ (form : Form) (asked : Asked) (bytes one other : List ℕ) where
+  pub so_far : Tells form asked bytes one → Tells form asked bytes other → one ≡ other
   so_far a b =
       let (lines, rest) = one_cut a.cut b.cut in
       let said = one_say (subst (λ ls. Say form 1 ls a.said) lines a.says) b.says in
-      told_one (subst (λ s. IsToldOf form group s one) said a.tells) b.tells
+      told_one (subst (λ s. IsToldOf form asked s one) said a.tells) b.tells
 
-  pub whole : (status code : ℕ) → Ends form group bytes status one → Ends form group bytes code other → (one ≡ other) × (status ≡ code)
+  pub whole : (status code : ℕ) → Ends form asked bytes status one → Ends form asked bytes code other → (one ≡ other) × (status ≡ code)
   whole status code a b =
       let (lines, rest) = one_cut a.cut b.cut in
       let all = ap₂ (λ (ls : List (List ℕ)) (r : List ℕ). ls ++ r ∷ []) lines rest in
       let said = one_say (subst (λ ls. Say form 1 ls a.said) all a.says) b.says in
-      whole_one (subst (λ s. IsWholeOf form group s status one) said a.tells) b.tells
+      whole_one (subst (λ s. IsWholeOf form asked s status one) said a.tells) b.tells
 
   one_stop : (lines : List (List ℕ)) (rest : List ℕ) (line number : ℕ) (said also : List Said)
       → IsFirstBad form lines line said ⊎ (Say form 1 lines said × (line ≡ length lines + 1) × (4096 < length rest))
@@ -115,35 +116,35 @@ module _ (form : Form) (group : Bool) (bytes one other : List ℕ) where
   one_stop lines rest line number said also (inr (says, e, long)) (inl b) = absurd (not_bad_too b says)
   one_stop lines rest line number said also (inr (says, e, long)) (inr (others, f, too)) = (e ∙ sym f, one_say says others)
 
-  pub stopped : (line number : ℕ) → IsBadEvent form group bytes line one → IsBadEvent form group bytes number other
+  pub stopped : (line number : ℕ) → IsBadEvent form asked bytes line one → IsBadEvent form asked bytes number other
       → (one ≡ other) × (line ≡ number)
   stopped line number a b =
       let (lines, rest) = one_cut a.cut b.cut in
       let first = subst (λ r. IsFirstBad form b.lines line a.said ⊎ (Say form 1 b.lines a.said × (line ≡ length b.lines + 1) × (4096 < length r))) rest
       (subst (λ ls. IsFirstBad form ls line a.said ⊎ (Say form 1 ls a.said × (line ≡ length ls + 1) × (4096 < length a.rest))) lines a.first) in
       let (numbers, said) = one_stop b.lines b.rest line number a.said b.said first b.first in
-      (told_one (subst (λ s. IsToldOf form group s one) said a.tells) b.tells, numbers)
+      (told_one (subst (λ s. IsToldOf form asked s one) said a.tells) b.tells, numbers)
 
-  pub failed : (line number : ℕ) → IsBadTrace form group bytes line one → IsBadTrace form group bytes number other
+  pub failed : (line number : ℕ) → IsBadTrace form asked bytes line one → IsBadTrace form asked bytes number other
       → (one ≡ other) × (line ≡ number)
   failed line number a b =
       let (lines, rest) = one_cut a.cut b.cut in
       let all = ap₂ (λ (ls : List (List ℕ)) (r : List ℕ). ls ++ r ∷ []) lines rest in
       let (numbers, said) = one_first_bad (subst (λ ls. IsFirstBad form ls line a.said) all a.first) b.first in
-      (told_one (subst (λ s. IsToldOf form group s one) said a.tells) b.tells, numbers)
+      (told_one (subst (λ s. IsToldOf form asked s one) said a.tells) b.tells, numbers)
 
   stop_not : (lines : List (List ℕ)) (rest : List ℕ) (line : ℕ) (said also : List Said) → Say form 1 lines said → length rest ≤ 4096
       → IsFirstBad form lines line also ⊎ (Say form 1 lines also × (line ≡ length lines + 1) × (4096 < length rest)) → ⊥
   stop_not lines rest line said also says short (inl bad) = not_bad_too bad says
   stop_not lines rest line said also says short (inr (others, e, long)) = omega arith
 
-  pub not_stopped : (line : ℕ) → Tells form group bytes one → IsBadEvent form group bytes line other → ⊥
+  pub not_stopped : (line : ℕ) → Tells form asked bytes one → IsBadEvent form asked bytes line other → ⊥
   not_stopped line a b =
       let (lines, rest) = one_cut a.cut b.cut in
       let short : length b.rest ≤ 4096 = subst (λ r. length r ≤ 4096) rest a.short in
       stop_not b.lines b.rest line a.said b.said (subst (λ ls. Say form 1 ls a.said) lines a.says) short b.first
 
-  pub not_failed : (status line : ℕ) → Ends form group bytes status one → IsBadTrace form group bytes line other → ⊥
+  pub not_failed : (status line : ℕ) → Ends form asked bytes status one → IsBadTrace form asked bytes line other → ⊥
   not_failed status line a b =
       let (lines, rest) = one_cut a.cut b.cut in
       let all = ap₂ (λ (ls : List (List ℕ)) (r : List ℕ). ls ++ r ∷ []) lines rest in

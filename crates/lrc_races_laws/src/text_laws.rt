@@ -6,12 +6,14 @@ ghost use Rattle.lrc_lang.specs.declared.program.Program.{Program};
 ghost use Rattle.lrc_trace.specs.declared.act.Act.{Act};
 ghost use Rattle.lrc_acts_text.specs.ActsText.{acts_text};
 ghost use Rattle.lrc_acts_text.specs.Rapid.{rapid_of, rapid_text};
+ghost use Rattle.lrc_races_text.specs.declared.asked.Asked.{Asked};
+ghost use Rattle.lrc_races_text.specs.declared.asked.Layout.{Layout};
 ghost use Rattle.lrc_races_text.specs.declared.form.Form.TheVariants.{Acts, Std};
 ghost use Rattle.lrc_races_text.specs.Says.{Said, Say};
 ghost use Rattle.lrc_races_text.specs.Told.{Ends, IsBadEvent, IsBadTrace, IsCut};
 ghost use Rattle.lrc_races_laws.specs.Runs.{IsLinedRun};
 ghost use Rattle.lrc_races_laws.specs.Said.{acts_said, AreSaid};
-ghost use Rattle.lrc_races_laws.specs.Telling.{TellsActs, TellsRapid};
+ghost use Rattle.lrc_races_laws.specs.Telling.{all_races, TellsActs, TellsRapid};
 
 /// Take any run, of any program on at most 16 nodes and with any events, that has fewer than 2^64 acts, as every run in
 /// memory has. Its RAPID trace is read as exactly its steps, and no front of the trace is bad. The races told are the
@@ -24,19 +26,19 @@ pub fn rapid_text_of_every_run_is_told()
         → IsCut (rapid_text program.locks nodes acts lines) parts rest
         → Say Std 1 parts said ↔ AreSaid lines (rapid_of program.locks nodes acts) said }
     ensures told { (program : Program) (nodes : ℕ) (acts : List Act) (lines : List ℕ) (group : Bool)
-        (status : ℕ) (told : List ℕ)
+        (layout : Layout) (status : ℕ) (told : List ℕ)
         → IsLinedRun program nodes acts lines → length acts < 2 ^ 64
-        → Ends Std group (rapid_text program.locks nodes acts lines) status told
-        → TellsRapid program nodes acts lines group status told }
+        → Ends Std (all_races group layout) (rapid_text program.locks nodes acts lines) status told
+        → TellsRapid program nodes acts lines group layout status told }
     ensures good { (program : Program) (nodes : ℕ) (acts : List Act) (lines front more : List ℕ)
-        (group : Bool) (line : ℕ) (told : List ℕ)
+        (asked : Asked) (line : ℕ) (told : List ℕ)
         → IsLinedRun program nodes acts lines → length acts < 2 ^ 64
         → rapid_text program.locks nodes acts lines ≡ front ++ more
-        → ¬ IsBadEvent Std group front line told }
+        → ¬ IsBadEvent Std asked front line told }
     ensures whole { (program : Program) (nodes : ℕ) (acts : List Act) (lines : List ℕ)
-        (group : Bool) (line : ℕ) (told : List ℕ)
+        (asked : Asked) (line : ℕ) (told : List ℕ)
         → IsLinedRun program nodes acts lines → length acts < 2 ^ 64
-        → ¬ IsBadTrace Std group (rapid_text program.locks nodes acts lines) line told }
+        → ¬ IsBadTrace Std asked (rapid_text program.locks nodes acts lines) line told }
 {}
 
 /// Take any run, of any program on at most 16 nodes and with any events. The text of its acts is read as exactly its
@@ -48,15 +50,15 @@ pub fn acts_text_of_every_run_is_told()
         → IsLinedRun program nodes acts lines → IsCut (acts_text acts lines) parts rest
         → Say Acts 1 parts said ↔ (said ≡ acts_said 0 lines acts) }
     ensures told { (program : Program) (nodes : ℕ) (acts : List Act) (lines : List ℕ) (group : Bool)
-        (status : ℕ) (told : List ℕ)
-        → IsLinedRun program nodes acts lines → Ends Acts group (acts_text acts lines) status told
-        → TellsActs acts lines group status told }
+        (layout : Layout) (status : ℕ) (told : List ℕ)
+        → IsLinedRun program nodes acts lines → Ends Acts (all_races group layout) (acts_text acts lines) status told
+        → TellsActs acts lines group layout status told }
     ensures good { (program : Program) (nodes : ℕ) (acts : List Act) (lines front more : List ℕ)
-        (group : Bool) (line : ℕ) (told : List ℕ)
+        (asked : Asked) (line : ℕ) (told : List ℕ)
         → IsLinedRun program nodes acts lines → acts_text acts lines ≡ front ++ more
-        → ¬ IsBadEvent Acts group front line told }
+        → ¬ IsBadEvent Acts asked front line told }
     ensures whole { (program : Program) (nodes : ℕ) (acts : List Act) (lines : List ℕ)
-        (group : Bool) (line : ℕ) (told : List ℕ)
+        (asked : Asked) (line : ℕ) (told : List ℕ)
         → IsLinedRun program nodes acts lines
-        → ¬ IsBadTrace Acts group (acts_text acts lines) line told }
+        → ¬ IsBadTrace Acts asked (acts_text acts lines) line told }
 {}

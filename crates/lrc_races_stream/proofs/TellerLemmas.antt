@@ -2,12 +2,12 @@
 use Rattle.std.proofs.Common.{◌≡◌, ◌∙◌, ◌++◌, ◌+◌, ◌≤◌, ℕ, List, [], ◌∷◌, Option, None, Some, ap, arith, length, length-append, refl, suc, subst, sym, take, zero}
 use Rattle.std.proofs.Math.Seq.{take-append-add}
 use Rattle.std.proofs.lemmas.List.{append_assoc, append-nil, take-append-le}
-use Rattle.std.proofs.Common.{Bool}
 use Rattle.std.specs.Io.KnownBytes.{Appends, Keeps}
 use Rattle.std.specs.declared.io.ErrorKind.{ErrorKind}
-use Rattle.lrc_races_text.specs.Session.{HasEnded, HasFailed, HasGoneOn, HasRead, IsStoppedAt}
+use Rattle.lrc_races_text.specs.Session.{HasEnded, HasFailed, HasGoneOn, HasRead, IsStoppedAt, Text}
 use Rattle.lrc_races_text.specs.declared.fault.Fault.{Fault}
 use Rattle.lrc_races_text.specs.declared.fault.Fault.TheVariants as faults
+use Rattle.lrc_races_text.specs.declared.asked.Asked.{Asked}
 use Rattle.lrc_races_text.specs.declared.form.Form.{Form}
 use Rattle.lrc_races_text.specs.declared.session.Session.{Session}
 use Rattle.lrc_report.specs.Output.{AppendsFront}
@@ -53,13 +53,13 @@ front_on out mid now told more one two = (
 added : (old new more : List ℕ) → old ≡ [] → new ≡ old ++ more → new ≡ more
 added old new more empty is = is ∙ ap (λ front. front ++ more) empty
 
-module _ (form : Form) (group : Bool) (held left : Held) (start out : Option (List ℕ)) (session : Session)
-    (u : IsUnderWay form group held left start out session) where
+module _ (form : Form) (asked : Asked) (held left : Held) (start out : Option (List ℕ)) (session : Session)
+    (u : IsUnderWay form asked held left start out session) where
   -- a block is read, and what is told of it is written, or a front of that
   pub gone_on : (after : Held) (now : Option (List ℕ)) (next : Session) (block old new text : List ℕ) → IsReadOff left block after → old ≡ []
-      → HasGoneOn session block old new next → text ≡ new → Appends out now text → IsUnderWay form group held after start now next
+      → HasGoneOn session block old new next → text ≡ new → Appends out now text → IsUnderWay form asked held after start now next
   gone_on after now next block old new text off empty gone text_is wrote =
-      let g = gone form group u.bytes u.told u.said in
+      let g = gone form asked u.bytes u.told u.said in
       let new_is = text_is ∙ added old new g.0 empty g.1 in
       record {
         bytes = u.bytes ++ block;
@@ -70,73 +70,73 @@ module _ (form : Form) (group : Bool) (held left : Held) (start out : Option (Li
       }
 
   pub gone_unwritten : (after : Held) (now : Option (List ℕ)) (next : Session) (block old new text : List ℕ) → IsReadOff left block after → old ≡ []
-      → HasGoneOn session block old new next → text ≡ new → AppendsFront out now text → Comes form group held start now Unwritten
+      → HasGoneOn session block old new next → text ≡ new → AppendsFront out now text → Comes form asked held start now Unwritten
   gone_unwritten after now next block old new text off empty gone text_is wrote =
-      let g = gone form group u.bytes u.told u.said in
+      let g = gone form asked u.bytes u.told u.said in
       let new_is = text_is ∙ added old new g.0 empty g.1 in
       unwritten (u.bytes ++ block) (u.told ++ g.0) after (read_on held left after u.bytes block u.read off) (so_far g.2.tells)
       (front_on start out now u.told g.0 u.written (subst (AppendsFront out now) new_is wrote))
 
   -- a line of the block is bad
-  pub broken_at : (after : Held) (now : Option (List ℕ)) (line : ℕ) (fault : Fault) (block old new text : List ℕ) → IsReadOff left block after → old ≡ []
-      → fault ≡ faults.BadEvent line → IsStoppedAt session block old new fault → text ≡ new → Appends out now text
-      → Comes form group held start now (BadEvent line)
-  broken_at after now line fault block old new text off empty fault_is gone text_is wrote =
-      let g = subst (IsStoppedAt session block old new) fault_is gone form group u.bytes u.told u.said in
+  pub broken_at : (after : Held) (now : Option (List ℕ)) (line : ℕ) (why : Text) (fault : Fault) (block old new text : List ℕ) → IsReadOff left block after → old ≡ []
+      → fault ≡ faults.BadEvent line why → IsStoppedAt session block old new fault → text ≡ new → Appends out now text
+      → Comes form asked held start now (BadEvent line why)
+  broken_at after now line why fault block old new text off empty fault_is gone text_is wrote =
+      let g = subst (IsStoppedAt session block old new) fault_is gone form asked u.bytes u.told u.said in
       let new_is = text_is ∙ added old new g.0 empty g.1 in
       stopped (u.bytes ++ block) (u.told ++ g.0) after (read_on held left after u.bytes block u.read off) g.2
       (write_on start out now u.told g.0 u.written (subst (Appends out now) new_is wrote))
 
-  pub broken_unwritten : (after : Held) (now : Option (List ℕ)) (line : ℕ) (fault : Fault) (block old new text : List ℕ) → IsReadOff left block after → old ≡ []
-      → fault ≡ faults.BadEvent line → IsStoppedAt session block old new fault → text ≡ new → AppendsFront out now text → Comes form group held start now Unwritten
-  broken_unwritten after now line fault block old new text off empty fault_is gone text_is wrote =
-      let g = subst (IsStoppedAt session block old new) fault_is gone form group u.bytes u.told u.said in
+  pub broken_unwritten : (after : Held) (now : Option (List ℕ)) (line : ℕ) (why : Text) (fault : Fault) (block old new text : List ℕ) → IsReadOff left block after → old ≡ []
+      → fault ≡ faults.BadEvent line why → IsStoppedAt session block old new fault → text ≡ new → AppendsFront out now text → Comes form asked held start now Unwritten
+  broken_unwritten after now line why fault block old new text off empty fault_is gone text_is wrote =
+      let g = subst (IsStoppedAt session block old new) fault_is gone form asked u.bytes u.told u.said in
       let new_is = text_is ∙ added old new g.0 empty g.1 in
       unwritten (u.bytes ++ block) (u.told ++ g.0) after (read_on held left after u.bytes block u.read off) (broken g.2)
       (front_on start out now u.told g.0 u.written (subst (AppendsFront out now) new_is wrote))
 
   -- the trace has ended
   pub ended_so : (now : Option (List ℕ)) (status : ℕ) (old new text : List ℕ) → IsAtEnd left → old ≡ [] → HasEnded session old new status
-      → text ≡ new → Appends out now text → Comes form group held start now (Ended status)
+      → text ≡ new → Appends out now text → Comes form asked held start now (Ended status)
   ended_so now status old new text end empty gone text_is wrote =
-      let g = gone form group u.bytes u.told u.said in
+      let g = gone form asked u.bytes u.told u.said in
       let new_is = text_is ∙ added old new g.0 empty g.1 in
       ended u.bytes (u.told ++ g.0) left u.read end g.2 (write_on start out now u.told g.0 u.written (subst (Appends out now) new_is wrote))
 
   pub ended_unwritten : (now : Option (List ℕ)) (status : ℕ) (old new text : List ℕ) → IsAtEnd left → old ≡ [] → HasEnded session old new status
-      → text ≡ new → AppendsFront out now text → Comes form group held start now Unwritten
+      → text ≡ new → AppendsFront out now text → Comes form asked held start now Unwritten
   ended_unwritten now status old new text end empty gone text_is wrote =
-      let g = gone form group u.bytes u.told u.said in
+      let g = gone form asked u.bytes u.told u.said in
       let new_is = text_is ∙ added old new g.0 empty g.1 in
       unwritten u.bytes (u.told ++ g.0) left u.read (whole g.2) (front_on start out now u.told g.0 u.written (subst (AppendsFront out now) new_is wrote))
 
   -- its last line is bad
-  pub cut_at : (now : Option (List ℕ)) (line : ℕ) (fault : Fault) (old new text : List ℕ) → IsAtEnd left → old ≡ []
-      → fault ≡ faults.BadEvent line → HasFailed session old new fault → text ≡ new → Appends out now text → Comes form group held start now (BadEvent line)
-  cut_at now line fault old new text end empty fault_is gone text_is wrote =
-      let g = subst (HasFailed session old new) fault_is gone form group u.bytes u.told u.said in
+  pub cut_at : (now : Option (List ℕ)) (line : ℕ) (why : Text) (fault : Fault) (old new text : List ℕ) → IsAtEnd left → old ≡ []
+      → fault ≡ faults.BadEvent line why → HasFailed session old new fault → text ≡ new → Appends out now text → Comes form asked held start now (BadEvent line why)
+  cut_at now line why fault old new text end empty fault_is gone text_is wrote =
+      let g = subst (HasFailed session old new) fault_is gone form asked u.bytes u.told u.said in
       let new_is = text_is ∙ added old new g.0 empty g.1 in
       cut u.bytes (u.told ++ g.0) left u.read end g.2 (write_on start out now u.told g.0 u.written (subst (Appends out now) new_is wrote))
 
-  pub cut_unwritten : (now : Option (List ℕ)) (line : ℕ) (fault : Fault) (old new text : List ℕ) → IsAtEnd left → old ≡ []
-      → fault ≡ faults.BadEvent line → HasFailed session old new fault → text ≡ new → AppendsFront out now text → Comes form group held start now Unwritten
-  cut_unwritten now line fault old new text end empty fault_is gone text_is wrote =
-      let g = subst (HasFailed session old new) fault_is gone form group u.bytes u.told u.said in
+  pub cut_unwritten : (now : Option (List ℕ)) (line : ℕ) (why : Text) (fault : Fault) (old new text : List ℕ) → IsAtEnd left → old ≡ []
+      → fault ≡ faults.BadEvent line why → HasFailed session old new fault → text ≡ new → AppendsFront out now text → Comes form asked held start now Unwritten
+  cut_unwritten now line why fault old new text end empty fault_is gone text_is wrote =
+      let g = subst (HasFailed session old new) fault_is gone form asked u.bytes u.told u.said in
       let new_is = text_is ∙ added old new g.0 empty g.1 in
       unwritten u.bytes (u.told ++ g.0) left u.read (failed g.2) (front_on start out now u.told g.0 u.written (subst (AppendsFront out now) new_is wrote))
 
   -- memory ran out, and nothing more is written
-  pub out_of_memory : Comes form group held start out NoMemory
+  pub out_of_memory : Comes form asked held start out NoMemory
   out_of_memory = exhausted u.bytes u.told left u.read u.said.tells u.written
 
   -- no more can be read
-  pub read_no_more : (kind : ErrorKind) → IsCause left kind → Comes form group held start out (Unread kind)
+  pub read_no_more : (kind : ErrorKind) → IsCause left kind → Comes form asked held start out (Unread kind)
   read_no_more kind cause = unread u.bytes u.told left u.read cause u.said.tells u.written
 
 -- before any byte is read
-pub begun : (form : Form) (group : Bool) (held : Held) (out : Option (List ℕ)) (session : Session) → HasRead form group [] [] session
-    → IsUnderWay form group held held out out session
-begun form group held out session said =
+pub begun : (form : Form) (asked : Asked) (held : Held) (out : Option (List ℕ)) (session : Session) → HasRead form asked [] [] session
+    → IsUnderWay form asked held held out out session
+begun form asked held out session said =
     record { bytes = []; told = []; read = nothing_read held; said = said; written = nothing_written out }
 
 take_front : (n m : ℕ) (xs : List ℕ) → n ≤ m → take n (take m xs) ≡ take n xs

@@ -1,7 +1,8 @@
 -- What comes of the races of a file.
-use Rattle.std.specs.Prelude.{◌≡◌, ◌≢◌, ◌⊎◌, ◌++◌, ℕ, Bool, List, Option, codes, decimal}
+use Rattle.std.specs.Prelude.{◌≡◌, ◌≢◌, ◌⊎◌, ◌++◌, ℕ, List, Option, codes, decimal}
 use Rattle.std.specs.Io.KnownBytes.{Keeps}
 use Rattle.std.specs.declared.io.ErrorKind.{ErrorKind}
+use Rattle.lrc_races_text.specs.declared.asked.Asked.{Asked}
 use Rattle.lrc_races_text.specs.declared.form.Form.{Form}
 use Rattle.lrc_shell_sources.specs.Known.{Held, IsCause, Known}
 use Rattle.lrc_shell_sources.specs.Lines.{IsTold, memory_line, read_line}
@@ -9,14 +10,14 @@ use Rattle.lrc_races_stream.specs.Comes.{Comes}
 use Rattle.lrc_races_stream.specs.declared.outcome.Outcome.{Outcome}
 use Rattle.lrc_races_stream.specs.declared.outcome.Outcome.TheVariants.{Ended, BadEvent, NoMemory, Unread, Unwritten}
 
--- the line on the first line of a trace that is bad
-abbrev pub bad_line : ℕ → List ℕ
-bad_line line = codes "treadmarks: trace line " ++ decimal line ++ codes ": bad event\n"
+-- the line on the first line of a trace that is bad, and why
+abbrev pub bad_line : ℕ → List ℕ → List ℕ
+bad_line line why = codes "treadmarks: trace line " ++ decimal line ++ codes ": bad event: " ++ why ++ codes "\n"
 
 -- What is said on standard error where a trace came to this, and the status. The line on a bad line may lack memory.
 abbrev pub IsConcluded : Outcome → Option (List ℕ) → Option (List ℕ) → ℕ → Type 0
 IsConcluded (Ended ended) err err' status = Keeps err err' × (status ≡ ended)
-IsConcluded (BadEvent line) err err' status = (IsTold err err' (bad_line line) ⊎ IsTold err err' memory_line) × (status ≡ 1)
+IsConcluded (BadEvent line why) err err' status = (IsTold err err' (bad_line line why.items) ⊎ IsTold err err' memory_line) × (status ≡ 1)
 IsConcluded NoMemory err err' status = IsTold err err' memory_line × (status ≡ 1)
 IsConcluded (Unread kind) err err' status = IsTold err err' (read_line kind) × (status ≡ 1)
 IsConcluded Unwritten err err' status = Keeps err err' × (status ≡ 1)
@@ -26,8 +27,8 @@ abbrev pub IsNamed : Known → List ℕ → Held → Type 0
 IsNamed known path held = ((path ≡ codes "-") × (held ≡ known.input)) ⊎ ((path ≢ codes "-") × (held ≡ known.files path))
 
 -- What comes of the races of a file, by what `out` and `err` have before and after: it cannot be opened, or it is told as it is read.
-pub data IsRacesPlayed (known : Known) (path : List ℕ) (form : Form) (group : Bool) (out out' err err' : Option (List ℕ)) (status : ℕ) : Type 0 where
+pub data IsRacesPlayed (known : Known) (path : List ℕ) (form : Form) (asked : Asked) (out out' err err' : Option (List ℕ)) (status : ℕ) : Type 0 where
   unopened : (kind : ErrorKind) → path ≢ codes "-" → IsCause (known.files path) kind → IsTold err err' (read_line kind) → Keeps out out'
-      → status ≡ 1 → IsRacesPlayed known path form group out out' err err' status
-  told : (held : Held) (outcome : Outcome) → IsNamed known path held → Comes form group held out out' outcome
-      → IsConcluded outcome err err' status → IsRacesPlayed known path form group out out' err err' status
+      → status ≡ 1 → IsRacesPlayed known path form asked out out' err err' status
+  told : (held : Held) (outcome : Outcome) → IsNamed known path held → Comes form asked held out out' outcome
+      → IsConcluded outcome err err' status → IsRacesPlayed known path form asked out out' err err' status

@@ -1,13 +1,15 @@
 // Reads a trace block by block, and writes what is told of each before the next is waited for.
 
-ghost use Rattle.std.specs.Prelude.{◌<◌, ◌≤◌, ℕ, Bool, IfOk, List, MatchOption, OnErr, OnOk, Option, take, vec_len};
+ghost use Rattle.std.specs.Prelude.{◌<◌, ◌≤◌, ℕ, IfOk, List, MatchOption, OnErr, OnOk, Option, take, vec_len};
 ghost use Rattle.std.specs.Io.KnownBytes.{Appends};
+ghost use Rattle.lrc_races_text.specs.declared.asked.Asked.{Asked as AnyAsked};
 ghost use Rattle.lrc_races_text.specs.declared.form.Form.{Form as AnyForm};
 ghost use Rattle.lrc_report.specs.Output.{AppendsFront};
 ghost use Rattle.lrc_shell_sources.specs.Known.{Held, IsAtEnd, IsReadOff};
 ghost use Rattle.lrc_races_stream.specs.Comes.{Comes, IsUnderWay};
 
 use crate::outcome::Outcome;
+use lrc_races_text::asked::Asked;
 use lrc_races_text::fault::Fault;
 use lrc_races_text::form::Form;
 use lrc_races_text::session::Session;
@@ -29,17 +31,17 @@ struct Teller {
     ghost room: { 0 < vec_len block },
 }
 
-/// Reports the races of a trace in this form, while it is read, by groups if asked.
+/// Reports the races of a trace in this form that are asked for, while it is read.
 pub fn tell_races<B: Blocks, W: Write>(
     alloc: Global,
     form: Form,
-    group: bool,
+    asked: Asked,
     trace: &mut B,
     out: &mut W,
 ) -> Outcome
-    ensures { Comes form group (B.left trace.old) (W.contents out.old) (W.contents out.new) result }
+    ensures { Comes form asked (B.left trace.old) (W.contents out.old) (W.contents out.new) result }
 {
-    let session = Session::new(alloc, form, group);
+    let session = Session::new(alloc, form, asked);
     match block_of(alloc) {
         Ok(block) => {
             let told = Vec::new(alloc);
@@ -63,10 +65,10 @@ fn block_of(alloc: Global) -> Result<Vec<u8>, AllocError>
 impl Teller {
     // Tells what is left of a trace.
     fn tell<B: Blocks, W: Write>(&mut self, trace: &mut B, out: &mut W) -> Outcome
-        ensures { (form : AnyForm) (group : Bool) (held : Held) (start : Option (List ℕ))
-            → IsUnderWay form group held (B.left trace.old) start
+        ensures { (form : AnyForm) (asked : AnyAsked) (held : Held) (start : Option (List ℕ))
+            → IsUnderWay form asked held (B.left trace.old) start
             (W.contents out.old) self.old.session
-            → Comes form group held start (W.contents out.new) result }
+            → Comes form asked held start (W.contents out.new) result }
     {
         for _turn in 0..u64::MAX {
             if let Some(outcome) = self.turn(trace, out) {
@@ -78,12 +80,12 @@ impl Teller {
 
     // Reads a block, and tells of the lines that it completes.
     fn turn<B: Blocks, W: Write>(&mut self, trace: &mut B, out: &mut W) -> Option<Outcome>
-        ensures { (form : AnyForm) (group : Bool) (held : Held) (start : Option (List ℕ))
-            → IsUnderWay form group held (B.left trace.old) start
+        ensures { (form : AnyForm) (asked : AnyAsked) (held : Held) (start : Option (List ℕ))
+            → IsUnderWay form asked held (B.left trace.old) start
             (W.contents out.old) self.old.session
-            → MatchOption result (IsUnderWay form group held (B.left trace.new) start
+            → MatchOption result (IsUnderWay form asked held (B.left trace.new) start
             (W.contents out.new) self.new.session)
-            (Comes form group held start (W.contents out.new)) }
+            (Comes form asked held start (W.contents out.new)) }
     {
         match trace.read(&mut self.block) {
             Ok(0) => Some(self.finish(out)),
@@ -95,12 +97,12 @@ impl Teller {
     // Tells of so many bytes of the block.
     fn take<W: Write>(&mut self, count: usize, out: &mut W) -> Option<Outcome>
         requires { count ≤ vec_len self.old.block }
-        ensures { (form : AnyForm) (group : Bool) (held left after : Held) (start : Option (List ℕ))
-            → IsUnderWay form group held left start (W.contents out.old) self.old.session
+        ensures { (form : AnyForm) (asked : AnyAsked) (held left after : Held) (start : Option (List ℕ))
+            → IsUnderWay form asked held left start (W.contents out.old) self.old.session
             → IsReadOff left (take count self.old.block.items) after
-            → MatchOption result (IsUnderWay form group held after start
+            → MatchOption result (IsUnderWay form asked held after start
             (W.contents out.new) self.new.session)
-            (Comes form group held start (W.contents out.new)) }
+            (Comes form asked held start (W.contents out.new)) }
     {
         self.told.clear();
         match self.session.take(&self.block[..count], &mut self.told) {
@@ -108,8 +110,8 @@ impl Teller {
                 Ok(()) => None,
                 Err(_error) => Some(Outcome::Unwritten),
             },
-            Err(Fault::BadEvent(line)) => match write(&self.told, out) {
-                Ok(()) => Some(Outcome::BadEvent(line)),
+            Err(Fault::BadEvent(line, why)) => match write(&self.told, out) {
+                Ok(()) => Some(Outcome::BadEvent(line, why)),
                 Err(_error) => Some(Outcome::Unwritten),
             },
             Err(Fault::NoMemory) => Some(Outcome::NoMemory),
@@ -118,10 +120,10 @@ impl Teller {
 
     // Tells what is to be told where the trace has ended.
     fn finish<W: Write>(&mut self, out: &mut W) -> Outcome
-        ensures { (form : AnyForm) (group : Bool) (held left : Held) (start : Option (List ℕ))
-            → IsUnderWay form group held left start (W.contents out.old) self.old.session
+        ensures { (form : AnyForm) (asked : AnyAsked) (held left : Held) (start : Option (List ℕ))
+            → IsUnderWay form asked held left start (W.contents out.old) self.old.session
             → IsAtEnd left
-            → Comes form group held start (W.contents out.new) result }
+            → Comes form asked held start (W.contents out.new) result }
     {
         self.told.clear();
         match self.session.finish(&mut self.told) {
@@ -129,8 +131,8 @@ impl Teller {
                 Ok(()) => Outcome::Ended(status),
                 Err(_error) => Outcome::Unwritten,
             },
-            Err(Fault::BadEvent(line)) => match write(&self.told, out) {
-                Ok(()) => Outcome::BadEvent(line),
+            Err(Fault::BadEvent(line, why)) => match write(&self.told, out) {
+                Ok(()) => Outcome::BadEvent(line, why),
                 Err(_error) => Outcome::Unwritten,
             },
             Err(Fault::NoMemory) => Outcome::NoMemory,

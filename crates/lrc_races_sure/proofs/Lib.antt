@@ -1,4 +1,5 @@
 pub mod Leading
+pub mod Prefix
 pub mod Deciding
 pub mod Choosing
 pub mod Holding

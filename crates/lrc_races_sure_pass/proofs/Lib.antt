@@ -3,4 +3,4 @@ mod Handing
 mod Giving
 mod Writing
 mod Telling
-mod Collecting
+pub mod Collecting

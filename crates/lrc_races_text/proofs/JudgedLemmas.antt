@@ -3,6 +3,7 @@ use Rattle.std.proofs.Common.{◌≡◌, ℕ, zero, suc, ◌+◌, ◌^◌, ◌<�
 use Rattle.std.specs.Prelude.{Option, Some, None, Contains, slice_get, unwrap_or, codes, if◌then◌else◌}
 use Rattle.std.proofs.lemmas.List.Concat.{flat_map-append}
 use Rattle.std.proofs.lemmas.Bool.{eqb-true, eq-eqb}
+use Rattle.lrc_json.specs.Spelling.{quoted}
 use Rattle.lrc_races_trace.specs.declared.event.Event.{Event}
 use Rattle.lrc_races_trace.specs.declared.event.Pair.{Pair}
 use Rattle.lrc_races_trace.specs.declared.event.Operation.{Operation}
@@ -10,104 +11,36 @@ use Rattle.lrc_races_trace.specs.declared.event.Operation.TheVariants as Op
 use Rattle.lrc_races_trace.specs.declared.group.Group.{Group}
 use Rattle.lrc_races_trace.specs.declared.fault.Fault.{Fault as IllFormed}
 use Rattle.lrc_races_trace.specs.Trace.{At, Accesses}
-use Rattle.lrc_races_trace.specs.Races.{Races, IsTold, AreTold, AreToldAt}
+use Rattle.lrc_races_trace.specs.Races.{IsTold}
 use Rattle.lrc_races_trace.specs.Formed.{IsFirstFault}
 use Rattle.lrc_races_trace.specs.Groups.{AreGroups}
-use Rattle.lrc_races_trace.proofs.Positions.{At-within, At-one}
-use Rattle.lrc_races_trace.proofs.Prefix.{At-longer, At-shorter, longer, shorter}
+use Rattle.lrc_races_trace.proofs.Positions.{At-one}
 use Rattle.lrc_races_detector.specs.declared.groups.Groups.{Groups}
-use Rattle.lrc_races_detector.specs.Detecting.{HasTaken, AreToldBefore}
 use Rattle.lrc_races_detector.specs.Finding.{HasLooked}
 use Rattle.lrc_races_detector.specs.Grouping.{AreGrouped}
-use Rattle.lrc_races_detector.proofs.Collecting.{told-more, told-all}
 use Rattle.lrc_races_lines.specs.declared.line.Kind.{Kind}
+use Rattle.lrc_races_text.specs.declared.asked.Asked.{Asked}
+use Rattle.lrc_races_text.specs.declared.asked.Layout.{Layout}
+use Rattle.lrc_races_text.specs.declared.asked.Layout.TheVariants.{Words, Objects}
+use Rattle.lrc_races_text.specs.declared.asked.Sought.{Sought}
+use Rattle.lrc_races_text.specs.declared.asked.Sought.TheVariants.{AllRaces, SureRaces}
 use Rattle.lrc_races_text.specs.declared.form.Form.{Form}
 use Rattle.lrc_races_text.specs.declared.judged.Judged.{Judged}
+use Rattle.lrc_races_text.specs.declared.race_detector.RaceDetector.{RaceDetector}
+use Rattle.lrc_races_text.specs.declared.race_detector.RaceDetector.TheVariants.{All, Sure}
 use Rattle.lrc_races_text.specs.Says.{Said}
+use Rattle.lrc_races_text.specs.Sought.{AreSought, AreSoughtAt}
+use Rattle.lrc_races_text.specs.Detecting.{HasTaken, position_of}
 use Rattle.lrc_races_text.specs.Naming.{Numbers, Naming, IsNaming, IsOperation, IsLocated, IsEvent, AreEvents, no_events, event_more}
 use Rattle.lrc_races_text.specs.Naming.{read, write, acquire, release, post, wait, fork, join, arrive, depart, idle}
 use Rattle.lrc_races_text.specs.Tables.{naming_of, MentionsAll}
-use Rattle.lrc_races_text.specs.Spelled.{name_at, variable_of, place_name, together, access_parts, race_line, race_lines, group_lines, fault_line, counts_line, variable_word}
+use Rattle.lrc_races_text.specs.Spelled.{name_at, variable_of, place_name, together, access_parts, race_line, race_lines, variable_word}
+use Rattle.lrc_races_text.specs.Objects.{access_object, place_value, race_object, race_objects}
+use Rattle.lrc_races_text.specs.Layouts.{end_lines, pair_lines}
 use Rattle.lrc_races_text.specs.Told.{IsToldOf}
 use Rattle.lrc_races_text.specs.Judged.{HasJudged, HasJudgedOne, HasToldAll, IsTelling}
+use Rattle.lrc_races_text.proofs.SoughtLemmas.{sought-push, sought-nothing, sought-told}
 use Rattle.lrc_races_text.proofs.NamingLemmas.{Keeps, KeepsAll, keeps_names, keeps_events, events_push, naming_more, nothing_named, slice_get-next}
-
--- ---- what is told stays told
-
-module _ (events more : List Event) where
-  races-longer : {i j : ℕ} → Races events i j → Races (events ++ more) i j
-  races-longer {j = j} r =
-      let within = At-within r.second in
-      record {
-        a = r.a;
-        b = r.b;
-        earlier = r.earlier;
-        first = At-longer more r.first;
-        second = At-longer more r.second;
-        conflict = r.conflict;
-        unordered = λ h. r.unordered (shorter events more within h);
-      }
-
-  races-shorter : {i j : ℕ} → j < length events → Races (events ++ more) i j → Races events i j
-  races-shorter {i = i} {j = j} within r =
-      let earlier = r.earlier in
-      let first : i < length events = omega arith in
-      record {
-        a = r.a;
-        b = r.b;
-        earlier = r.earlier;
-        first = At-shorter more first r.first;
-        second = At-shorter more within r.second;
-        conflict = r.conflict;
-        unordered = λ h. r.unordered (longer events more h);
-      }
-
-  told-longer : (pair : Pair) → IsTold events pair → IsTold (events ++ more) pair
-  told-longer pair t =
-      let within = At-within t.second in
-      record {
-        first = At-longer more t.first;
-        second = At-longer more t.second;
-        races = races-longer t.races;
-        last = λ k c at of r.
-            let earlier = r.earlier in
-            let first : k < length events = omega arith in
-            t.last k c (At-shorter more first at) of (races-shorter within r);
-      }
-
-  told-shorter : (pair : Pair) → pair.later.position < length events → IsTold (events ++ more) pair → IsTold events pair
-  told-shorter pair within t =
-      let earlier = t.races.earlier in
-      let first : pair.earlier.position < length events = omega arith in
-      record {
-        first = At-shorter more first t.first;
-        second = At-shorter more within t.second;
-        races = races-shorter within t.races;
-        last = λ k c at of r. t.last k c (At-longer more at) of (races-longer r);
-      }
-
-  pub told-before : (pairs : List Pair) → AreTold events pairs → AreToldBefore (events ++ more) (length events) pairs
-  told-before pairs t = record {
-    in_order = t.in_order;
-    exact = λ pair. (
-      λ there. let told = (t.exact pair).0 there in let within = At-within told.second in (told-longer pair told, within),
-      λ (told, within). (t.exact pair).1 (told-shorter pair within told),
-    );
-  }
-
--- what is told of one event more
-pub told-push : (events : List Event) (event : Event) (pairs others : List Pair) → AreTold events pairs
-    → AreToldAt (events ++ event ∷ []) (length events) others → AreTold (events ++ event ∷ []) (pairs ++ others)
-told-push events event pairs others t at =
-    let long = length-append events (event ∷ []) in
-    told-all (events ++ event ∷ []) (length events + 1) (pairs ++ others) (omega arith)
-    (told-more (events ++ event ∷ []) (length events) pairs others (told-before events (event ∷ []) pairs t) at)
-
-pub told-nothing : AreTold [] []
-told-nothing = record {
-  in_order = λ i j d lt within. absurd (omega arith);
-  exact = λ pair. (λ (k, lt, is). absurd (omega arith), λ told. let within = At-within told.second in absurd (omega arith));
-}
 
 -- ---- lines stay
 
@@ -149,6 +82,22 @@ same_variable k (arrive n) (v, h) = elim h [ inl e ↦ let never : ⊥ = cc in a
 same_variable k (depart n) (v, h) = elim h [ inl e ↦ let never : ⊥ = cc in absurd never | inr e ↦ let never : ⊥ = cc in absurd never ]
 same_variable k idle (v, h) = elim h [ inl e ↦ let never : ⊥ = cc in absurd never | inr e ↦ let never : ⊥ = cc in absurd never ]
 
+same_value : {before after : Naming} (location : List ℕ) (place : Option ℕ) → KeepsAll before after → IsLocated before.locations location place
+    → place_value before place ≡ place_value after place
+same_value location None k is = refl
+same_value location (Some number) k (some, n) = ap quoted (same_name k.locations n)
+
+same_access_object : {before after : Naming} {one : Said} {event : Event} → KeepsAll before after → IsEvent before one event
+    → access_object before event ≡ access_object after event
+same_access_object {before} {after} {one} {event} k is =
+    let thread = same_name k.threads is.thread in
+    let place = same_value one.saying.location event.location k is.location in
+    rw (thread, place) refl
+
+-- the object of a pair, of its parts
+object_of : List ℕ → List ℕ → List ℕ → List ℕ
+object_of variable first second = together (codes "{\"race\":{\"variable\":" ∷ quoted variable ∷ codes ",\"first\":" ∷ first ∷ codes ",\"second\":" ∷ second ∷ codes "}}\n" ∷ [])
+
 -- a line of a pair, of its parts
 line_of : Form → List ℕ → List ℕ → List ℕ → List ℕ
 line_of form variable first second = together (codes "race " ∷ variable_word form ∷ variable ∷ codes ": " ∷ first ∷ codes ", " ∷ second ∷ codes "\n" ∷ [])
@@ -171,6 +120,28 @@ module _ (form : Form) {before after : Naming} {said : List Said} {events : List
       ∙ ap (λ x. line_of form (name_at after.variables (variable_of pair.earlier.event.operation)) x second_before) a
       ∙ ap (λ x. line_of form (name_at after.variables (variable_of pair.earlier.event.operation)) first_after x) b
 
+  same_object : (pair : Pair) → IsTold events pair → race_object before pair ≡ race_object after pair
+  unfolding object_of
+  same_object pair t =
+      let (one, first) = named_event are pair.earlier.position pair.earlier.event t.first.is in
+      let (other, second) = named_event are pair.later.position pair.later.event t.second.is in
+      let is = At-one t.races.first t.first in
+      let accessed : Accesses pair.earlier.event t.races.conflict.variable
+      = subst (λ e. Accesses e t.races.conflict.variable) is t.races.conflict.first in
+      let a = same_access_object k first in
+      let b = same_access_object k second in
+      let v = same_variable k first.operation (t.races.conflict.variable, accessed) in
+      ap (λ x. object_of x (access_object before pair.earlier.event) (access_object before pair.later.event)) v
+      ∙ ap (λ x. object_of (name_at after.variables (variable_of pair.earlier.event.operation)) x (access_object before pair.later.event)) a
+      ∙ ap (λ x. object_of (name_at after.variables (variable_of pair.earlier.event.operation)) (access_object after pair.earlier.event) x) b
+
+  same_objects_of : (pairs : List Pair) → ((pair : Pair) → Contains pairs pair → IsTold events pair) → race_objects before pairs ≡ race_objects after pairs
+  same_objects_of [] told = refl
+  same_objects_of (pair ∷ pairs) told =
+      let first = same_object pair (told pair (0, omega arith, refl)) in
+      let rest = same_objects_of pairs (λ p (at, lt, is). told p (suc at, omega arith, is)) in
+      ap (λ t. t ++ race_objects before pairs) first ∙ ap (λ t. race_object after pair ++ t) rest
+
   same_lines_of : (pairs : List Pair) → ((pair : Pair) → Contains pairs pair → IsTold events pair) → race_lines form before pairs ≡ race_lines form after pairs
   same_lines_of [] told = refl
   same_lines_of (pair ∷ pairs) told =
@@ -178,51 +149,65 @@ module _ (form : Form) {before after : Naming} {said : List Said} {events : List
       let rest = same_lines_of pairs (λ p (at, lt, is). told p (suc at, omega arith, is)) in
       ap (λ t. t ++ race_lines form before pairs) first ∙ ap (λ t. race_line form after pair ++ t) rest
 
-  pub same_lines : (pairs : List Pair) → AreTold events pairs → race_lines form before pairs ≡ race_lines form after pairs
-  same_lines pairs t = same_lines_of pairs (λ pair there. (t.exact pair).0 there)
+  pub same_lines : (layout : Layout) (sought : Sought) (pairs : List Pair) → AreSought sought events pairs
+      → pair_lines layout form before pairs ≡ pair_lines layout form after pairs
+  same_lines Words sought pairs t = same_lines_of pairs (sought-told sought events pairs t)
+  same_lines Objects sought pairs t = same_objects_of pairs (sought-told sought events pairs t)
 
 -- ---- one event more
 
-shown-append : (form : Form) (group : Bool) (naming : Naming) (xs ys : List Pair)
-    → (if group then [] else race_lines form naming xs) ++ (if group then [] else race_lines form naming ys)
-    ≡ (if group then [] else race_lines form naming (xs ++ ys))
-shown-append form true naming xs ys = refl
-shown-append form false naming xs ys = sym (flat_map-append (race_line form naming) xs ys)
+pair_lines-append : (layout : Layout) (form : Form) (naming : Naming) (xs ys : List Pair)
+    → pair_lines layout form naming xs ++ pair_lines layout form naming ys ≡ pair_lines layout form naming (xs ++ ys)
+pair_lines-append Words form naming xs ys = sym (flat_map-append (race_line form naming) xs ys)
+pair_lines-append Objects form naming xs ys = sym (flat_map-append (race_object naming) xs ys)
 
-shown-same : (form : Form) (group : Bool) {before after : Naming} {said : List Said} {events : List Event} (pairs : List Pair) → KeepsAll before after
-    → AreEvents before said events → AreTold events pairs
-    → (if group then [] else race_lines form before pairs) ≡ (if group then [] else race_lines form after pairs)
-shown-same form true pairs k are t = refl
-shown-same form false pairs k are t = same_lines form k are pairs t
+shown-append : (layout : Layout) (form : Form) (group : Bool) (naming : Naming) (xs ys : List Pair)
+    → (if group then [] else pair_lines layout form naming xs) ++ (if group then [] else pair_lines layout form naming ys)
+    ≡ (if group then [] else pair_lines layout form naming (xs ++ ys))
+shown-append layout form true naming xs ys = refl
+shown-append layout form false naming xs ys = pair_lines-append layout form naming xs ys
 
-module _ {form : Form} {group : Bool} (before after : Judged) (one : Said) (event : Event) (old new : List ℕ)
+shown-same : (layout : Layout) (form : Form) (sought : Sought) (group : Bool) {before after : Naming} {said : List Said} {events : List Event}
+    (pairs : List Pair) → KeepsAll before after → AreEvents before said events → AreSought sought events pairs
+    → (if group then [] else pair_lines layout form before pairs) ≡ (if group then [] else pair_lines layout form after pairs)
+shown-same layout form sought true pairs k are t = refl
+shown-same layout form sought false pairs k are t = same_lines form k are layout sought pairs t
+
+-- the detector counts the events
+taken-position : (sought : Sought) (events : List Event) (n : ℕ) (detector : RaceDetector) → HasTaken sought events n detector → position_of detector ≡ n
+taken-position AllRaces events n (All detector) h = h.position
+taken-position AllRaces events n (Sure detector) h = absurd h
+taken-position SureRaces events n (All detector) h = absurd h
+taken-position SureRaces events n (Sure detector) h = h.position
+
+module _ {form : Form} {asked : Asked} (before after : Judged) (one : Said) (event : Event) (old new : List ℕ)
     (mentioned : MentionsAll one.saying (naming_of before.names) (naming_of after.names)) (is : IsEvent (naming_of after.names) one event)
-    (small : before.detector.position + 1 < 2 ^ 64)
-    (detects : (events : List Event) (n : ℕ) → At events n event → HasTaken events n before.detector
-    → HasTaken events (n + 1) after.detector × AreToldAt events n after.told.items)
+    (small : position_of before.detector + 1 < 2 ^ 64)
+    (detects : (sought : Sought) (events : List Event) (n : ℕ) → At events n event → HasTaken sought events n before.detector
+    → HasTaken sought events (n + 1) after.detector × AreSoughtAt sought events n after.told.items)
     (looks : (events : List Event) (n : ℕ) → n + 1 < 2 ^ 64 → At events n event → HasLooked events n before.finder → HasLooked events (n + 1) after.finder)
     (races : after.races ≡ before.races + length after.told.items)
-    (tells : IsTelling form group (naming_of after.names) after.told.items before.groups after.groups old new) where
-  pub judged_one : HasJudgedOne form group one before old after new
+    (tells : IsTelling form asked (naming_of after.names) after.told.items before.groups after.groups old new) where
+  pub judged_one : HasJudgedOne form asked one before old after new
   judged_one said told h =
       let k = keeps_names mentioned in
       let events = h.events in
       let next = events ++ event ∷ [] in
-      let position = (h.taken []).position in
+      let position = taken-position asked.sought _ _ before.detector (h.taken []) in
       let long = length-append events (event ∷ []) in
       let at : (more : List Event) → At (events ++ event ∷ more) (length events) event = λ more. record { is = slice_get-next events event more } in
-      let both = λ (more : List Event). detects (events ++ event ∷ more) (length events) (at more) (h.taken (event ∷ more)) in
+      let both = λ (more : List Event). detects asked.sought (events ++ event ∷ more) (length events) (at more) (h.taken (event ∷ more)) in
       let small_here : length events + 1 < 2 ^ 64 = omega (arith, position, small) in
       let longer_by : length events + 1 ≡ length next = omega (arith, long) in
-      let are_told = told-push events event h.pairs after.told.items h.are_told (both []).1 in (
-        (if group then [] else race_lines form (naming_of after.names) after.told.items),
+      let are_told = sought-push asked.sought events event h.pairs after.told.items h.are_told (both []).1 in (
+        (if asked.group then [] else pair_lines asked.layout form (naming_of after.names) after.told.items),
         tells.text,
         record {
           naming = naming_more one h.naming mentioned;
           events = next;
           are = events_push (keeps_events k h.are) is;
-          taken = λ more. subst (λ n. HasTaken (next ++ more) n after.detector) longer_by
-              (subst (λ es. HasTaken es (length events + 1) after.detector) (sym (append_assoc events (event ∷ []) more)) (both more).0);
+          taken = λ more. subst (λ n. HasTaken asked.sought (next ++ more) n after.detector) longer_by
+              (subst (λ es. HasTaken asked.sought es (length events + 1) after.detector) (sym (append_assoc events (event ∷ []) more)) (both more).0);
           looked = λ more. subst (λ n. HasLooked (next ++ more) n after.finder) longer_by
               (subst (λ es. HasLooked es (length events + 1) after.finder) (sym (append_assoc events (event ∷ []) more))
               (looks (events ++ event ∷ more) (length events) small_here (at more) (h.looked (event ∷ more))));
@@ -230,9 +215,9 @@ module _ {form : Form} {group : Bool} (before after : Judged) (one : Said) (even
           are_told = are_told;
           counted = races ∙ ap (λ n. n + length after.told.items) h.counted ∙ sym (length-append h.pairs after.told.items);
           grouped = tells.grouped h.pairs h.grouped;
-          text = ap (λ t. t ++ (if group then [] else race_lines form (naming_of after.names) after.told.items))
-              (h.text ∙ shown-same form group h.pairs k h.are h.are_told)
-              ∙ shown-append form group (naming_of after.names) h.pairs after.told.items;
+          text = ap (λ t. t ++ (if asked.group then [] else pair_lines asked.layout form (naming_of after.names) after.told.items))
+              (h.text ∙ shown-same asked.layout form asked.sought asked.group h.pairs k h.are h.are_told)
+              ∙ shown-append asked.layout form asked.group (naming_of after.names) h.pairs after.told.items;
         },
       )
 
@@ -242,16 +227,17 @@ few : (group : Bool) (pairs : List Pair) → length pairs < 2 ^ 64 → length (i
 few true pairs small = small
 few false pairs small = omega arith
 
-pub told_all : (form : Form) (judged : Judged) (groups : List Group) (fault : Option IllFormed) (old new : List ℕ) (status : ℕ)
-    → new ≡ old ++ (group_lines form (naming_of judged.names) groups ++ (fault_line (naming_of judged.names) fault
-    ++ counts_line (naming_of judged.names) judged.races judged.detector.position))
+pub told_all : (form : Form) (asked : Asked) (judged : Judged) (groups : List Group) (fault : Option IllFormed) (count : ℕ)
+    (old new : List ℕ) (status : ℕ) → count ≡ position_of judged.detector
+    → new ≡ old ++ end_lines asked.layout form (naming_of judged.names) groups fault judged.races count
     → ((pairs : List Pair) → length pairs < 2 ^ 64 → AreGrouped pairs judged.groups → AreGroups pairs groups)
     → ((events : List Event) (n : ℕ) → HasLooked events n judged.finder → IsFirstFault events n fault)
-    → judged.races < 2 ^ 64 → status ≡ (if judged.races == 0 then 0 else 3) → HasToldAll form judged old new status
-told_all form judged groups fault old new status is lists finds small gives group said told h =
+    → judged.races < 2 ^ 64 → status ≡ (if judged.races == 0 then 0 else 3) → HasToldAll form asked judged old new status
+told_all form asked judged groups fault count old new status count_is is lists finds small gives said told h =
     let naming = naming_of judged.names in
-    let more = group_lines form naming groups ++ (fault_line naming fault ++ counts_line naming judged.races judged.detector.position) in
-    let position = (h.taken []).position in
+    let more = end_lines asked.layout form naming groups fault judged.races count in
+    let front = if asked.group then [] else pair_lines asked.layout form naming h.pairs in
+    let position = count_is ∙ taken-position asked.sought _ _ judged.detector (h.taken []) in
     let small_pairs : length h.pairs < 2 ^ 64 = omega (arith, h.counted, small) in
     let all : h.events ++ [] ≡ h.events = append-nil h.events in (
       more,
@@ -264,19 +250,18 @@ told_all form judged groups fault old new status is lists finds small gives grou
         fault = fault;
         trace = record { names = h.naming; numbered = h.are };
         are_told = h.are_told;
-        are_groups = lists _ (few group h.pairs small_pairs) h.grouped;
+        are_groups = lists _ (few asked.group h.pairs small_pairs) h.grouped;
         first_fault = subst (λ es. IsFirstFault es (length h.events) fault) all (finds _ _ (h.looked []));
-        text = ap (λ t. t ++ more) h.text ∙ ap (λ n. (if group then [] else race_lines form naming h.pairs)
-            ++ (group_lines form naming groups ++ (fault_line naming fault ++ counts_line naming n judged.detector.position))) h.counted
-            ∙ ap (λ n. (if group then [] else race_lines form naming h.pairs)
-            ++ (group_lines form naming groups ++ (fault_line naming fault ++ counts_line naming (length h.pairs) n))) position;
+        text = ap (λ t. t ++ more) h.text
+            ∙ ap (λ n. front ++ end_lines asked.layout form naming groups fault n count) h.counted
+            ∙ ap (λ n. front ++ end_lines asked.layout form naming groups fault (length h.pairs) n) position;
         answer = gives ∙ ap (λ n. if n == 0 then 0 else 3) h.counted;
       },
     )
 
 -- what is judged is told
-pub told_of : {form : Form} {group : Bool} {said : List Said} {told : List ℕ} {judged : Judged} → HasJudged form group said told judged
-    → IsToldOf form group said told
+pub told_of : {form : Form} {asked : Asked} {said : List Said} {told : List ℕ} {judged : Judged} → HasJudged form asked said told judged
+    → IsToldOf form asked said told
 told_of {judged = judged} h = record {
   naming = naming_of judged.names;
   events = h.events;
@@ -287,11 +272,11 @@ told_of {judged = judged} h = record {
 }
 
 -- before any event
-pub judged_none : (form : Form) (group : Bool) (judged : Judged)
+pub judged_none : (form : Form) (asked : Asked) (judged : Judged)
     → naming_of judged.names ≡ record { threads = []; variables = []; locks = []; barriers = []; locations = [] }
-    → ((events : List Event) → HasTaken events 0 judged.detector) → ((events : List Event) → HasLooked events 0 judged.finder)
-    → AreGrouped [] judged.groups → judged.races ≡ 0 → HasJudged form group [] [] judged
-judged_none form group judged names taken looked grouped races = record {
+    → ((events : List Event) → HasTaken asked.sought events 0 judged.detector) → ((events : List Event) → HasLooked events 0 judged.finder)
+    → AreGrouped [] judged.groups → judged.races ≡ 0 → HasJudged form asked [] [] judged
+judged_none form asked judged names taken looked grouped races = record {
   naming = subst (λ n. IsNaming [] n) (sym names) (record {
     threads = nothing_named;
     variables = nothing_named;
@@ -304,19 +289,20 @@ judged_none form group judged names taken looked grouped races = record {
   taken = taken;
   looked = looked;
   pairs = [];
-  are_told = told-nothing;
+  are_told = sought-nothing asked.sought;
   counted = races;
-  grouped = no_pairs group;
-  text = no_text group;
+  grouped = no_pairs asked.group;
+  text = no_text asked.group asked.layout;
 }
   where
     no_pairs : (g : Bool) → AreGrouped (let none : List Pair = [] in if g then none else none) judged.groups
     no_pairs true = grouped
     no_pairs false = grouped
 
-    no_text : (g : Bool) → (let none : List ℕ = [] in none) ≡ (if g then [] else race_lines form (naming_of judged.names) [])
-    no_text true = refl
-    no_text false = refl
+    no_text : (g : Bool) (layout : Layout) → (let none : List ℕ = [] in none) ≡ (if g then [] else pair_lines layout form (naming_of judged.names) [])
+    no_text true layout = refl
+    no_text false Words = refl
+    no_text false Objects = refl
 
 abbrev status_of : ℕ → ℕ
 status_of n = if n == 0 then 0 else 3
@@ -331,9 +317,9 @@ status_some n some = go (n == 0) refl
     go true e = absurd (some (eqb-true n 0 e))
     go false e = refl
 
-pub telling_as : {form : Form} {group : Bool} {naming : Naming} {xs ys : List Pair} {before after : Groups} {old new : List ℕ} → xs ≡ ys
-    → IsTelling form group naming xs before after old new → IsTelling form group naming ys before after old new
-telling_as {form} {group} {naming} {xs} {ys} {before} {after} {old} {new} e t = subst (λ ts. IsTelling form group naming ts before after old new) e t
+pub telling_as : {form : Form} {asked : Asked} {naming : Naming} {xs ys : List Pair} {before after : Groups} {old new : List ℕ} → xs ≡ ys
+    → IsTelling form asked naming xs before after old new → IsTelling form asked naming ys before after old new
+telling_as {form} {asked} {naming} {xs} {ys} {before} {after} {old} {new} e t = subst (λ ts. IsTelling form asked naming ts before after old new) e t
 
 pub written : (out text start x next slice : List ℕ) → next ≡ out ++ slice → slice ≡ text → text ≡ start ++ x → start ≡ [] → next ≡ out ++ x
 written out text start x next slice a b c d = a ∙ ap (λ t. out ++ t) (b ∙ c ∙ ap (λ t. t ++ x) d)

@@ -1,5 +1,6 @@
 mod ActLemmas
 mod NamingLemmas
 mod TextLemmas
+mod SoughtLemmas
 mod JudgedLemmas
 mod SessionLemmas

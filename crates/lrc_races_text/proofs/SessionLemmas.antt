@@ -3,17 +3,19 @@ use Rattle.std.proofs.Common.{◌≡◌, ℕ, suc, ◌+◌, ◌<◌, ◌==◌, B
 use Rattle.std.specs.Prelude.{Result, Ok, Err, IfErr, OnOk, flat_map}
 use Rattle.std.proofs.lemmas.Result.{on_ok_weaker}
 use Rattle.std.proofs.lemmas.Bool.{false≢true, eqb-true, eq-eqb}
+use Rattle.lrc_races_lines.specs.Cause.{line_long, line_too_long}
 use Rattle.lrc_races_lines.specs.Line.{Saying}
+use Rattle.lrc_races_text.specs.declared.asked.Asked.{Asked}
 use Rattle.lrc_races_text.specs.declared.form.Form.{Form}
 use Rattle.lrc_races_text.specs.declared.form.Form.TheVariants.{Std, Acts}
 use Rattle.lrc_races_text.specs.declared.fault.Fault.{Fault}
 use Rattle.lrc_races_text.specs.declared.fault.Fault.TheVariants.{BadEvent, NoMemory}
 use Rattle.lrc_races_text.specs.declared.judged.Judged.{Judged}
 use Rattle.lrc_races_text.specs.declared.session.Session.{Session}
-use Rattle.lrc_races_text.specs.Says.{Said, Say, no_line, blank_line, event_line, Says, SaysNothing, IsBad}
+use Rattle.lrc_races_text.specs.Says.{Said, Say, no_line, blank_line, event_line, Says, SaysNothing, IsBad, IsCauseIn, IsWhyText}
 use Rattle.lrc_races_text.specs.Judged.{HasJudged, HasJudgedOne, HasToldAll}
 use Rattle.lrc_races_text.specs.Told.{IsCut, IsOneLine, AreLines, ended, Stops, IsWholeOf, IsToldOf}
-use Rattle.lrc_races_text.specs.Session.{LineSays, says_none, says_one, HasTakenLine, IsAt, HasCompleted, IsBadLine, HasKept, IsTooLong, HasLines, HasRead}
+use Rattle.lrc_races_text.specs.Session.{Text, LineSays, says_none, says_one, HasTakenLine, IsAt, HasCompleted, IsBadLine, HasKept, IsTooLong, HasLines, HasRead}
 use Rattle.lrc_races_text.specs.Session.{HasDone, HasGoneOn, IsStoppedAt, HasEnded, HasFailed}
 use Rattle.lrc_races_text.proofs.NamingLemmas.{flat_map-push}
 use Rattle.lrc_races_text.proofs.JudgedLemmas.{told_of}
@@ -35,31 +37,31 @@ say_push {form} n {more = more} line (event_line {lines = lines} h rest) s =
     let e : n + suc (length lines) ≡ n + 1 + length lines = omega arith in
     event_line h (say_push (n + 1) line rest (subst (λ k. LineSays form k line more) e s))
 
-same_judged : {form : Form} {group : Bool} {all : List Said} {told : List ℕ} {judged : Judged} → HasJudged form group all told judged
-    → HasJudged form group (all ++ []) (told ++ []) judged
-same_judged {form} {group} {all} {told} {judged} h =
-    subst (λ a. HasJudged form group a (told ++ []) judged) (sym (append-nil all))
-    (subst (λ t. HasJudged form group all t judged) (sym (append-nil told)) h)
+same_judged : {form : Form} {asked : Asked} {all : List Said} {told : List ℕ} {judged : Judged} → HasJudged form asked all told judged
+    → HasJudged form asked (all ++ []) (told ++ []) judged
+same_judged {form} {asked} {all} {told} {judged} h =
+    subst (λ a. HasJudged form asked a (told ++ []) judged) (sym (append-nil all))
+    (subst (λ t. HasJudged form asked all t judged) (sym (append-nil told)) h)
 
-pub taken_none : (form : Form) (group : Bool) (line : List ℕ) (number : ℕ) (judged : Judged) (old : List ℕ) → SaysNothing form line
-    → HasTakenLine form group line number judged old judged old
-taken_none form group line number judged old says = λ all told h. ([], [], says_none says, sym (append-nil old), same_judged h)
+pub taken_none : (form : Form) (asked : Asked) (line : List ℕ) (number : ℕ) (judged : Judged) (old : List ℕ) → SaysNothing form line
+    → HasTakenLine form asked line number judged old judged old
+taken_none form asked line number judged old says = λ all told h. ([], [], says_none says, sym (append-nil old), same_judged h)
 
-pub taken_one : {E : Type 0} (form : Form) (group : Bool) (line : List ℕ) (number : ℕ) (saying : Saying) (before after : Judged) (old new : List ℕ)
+pub taken_one : {E : Type 0} (form : Form) (asked : Asked) (line : List ℕ) (number : ℕ) (saying : Saying) (before after : Judged) (old new : List ℕ)
     (result : Result Unit E) → Says form line saying
-    → OnOk result (HasJudgedOne form group (record { line = number; saying = saying }) before old after new)
-    → OnOk result (HasTakenLine form group line number before old after new)
-taken_one form group line number saying before after old new result says ok =
-    on_ok_weaker result (λ (j : HasJudgedOne form group (record { line = number; saying = saying }) before old after new).
-    λ (all : List Said) (told : List ℕ) (h : HasJudged form group all told before).
+    → OnOk result (HasJudgedOne form asked (record { line = number; saying = saying }) before old after new)
+    → OnOk result (HasTakenLine form asked line number before old after new)
+taken_one form asked line number saying before after old new result says ok =
+    on_ok_weaker result (λ (j : HasJudgedOne form asked (record { line = number; saying = saying }) before old after new).
+    λ (all : List Said) (told : List ℕ) (h : HasJudged form asked all told before).
     let d = j all told h in (record { line = number; saying = saying } ∷ [], d.0, says_one says, d.1, d.2)) ok
 
 pub completed : (before after : Session) (line part old new : List ℕ) (number : ℕ) → number ≡ before.lines + 1
-    → HasTakenLine before.form before.group line number before.judged old after.judged new → before.rest.items ++ part ≡ line
-    → after.form ≡ before.form → after.group ≡ before.group → after.rest.items ≡ [] → after.lines ≡ number → HasCompleted before part old new after
-completed before after line part old new number next taken is f g r n form group lines rest told a =
-    let taken_here = subst (λ x. HasTakenLine x group line number before.judged old after.judged new) a.same_form
-    (subst (λ x. HasTakenLine before.form x line number before.judged old after.judged new) a.same_group taken) in
+    → HasTakenLine before.form before.asked line number before.judged old after.judged new → before.rest.items ++ part ≡ line
+    → after.form ≡ before.form → after.asked ≡ before.asked → after.rest.items ≡ [] → after.lines ≡ number → HasCompleted before part old new after
+completed before after line part old new number next taken is f g r n form asked lines rest told a =
+    let taken_here = subst (λ x. HasTakenLine x asked line number before.judged old after.judged new) a.same_form
+    (subst (λ x. HasTakenLine before.form x line number before.judged old after.judged new) a.same_asked taken) in
     let t = taken_here a.said told a.judged in
     let counted = a.counted in
     let number_is : number ≡ 1 + length lines = omega arith in
@@ -70,7 +72,7 @@ completed before after line part old new number next taken is f g r n form group
       t.3,
       record {
         same_form = f ∙ a.same_form;
-        same_group = g ∙ a.same_group;
+        same_asked = g ∙ a.same_asked;
         same_rest = r;
         short = omega arith;
         counted = omega arith;
@@ -84,9 +86,9 @@ pub kept_completed : {E : Type 0} (before mid after : Session) (part old new : L
     → OnOk result (HasCompleted mid [] old new after) → OnOk result (HasCompleted before part old new after)
 kept_completed before mid after part old new result kept ok =
     on_ok_weaker result (λ (done : HasCompleted mid [] old new after).
-    λ (form : Form) (group : Bool) (lines : List (List ℕ)) (rest told : List ℕ) (a : IsAt form group lines rest told before).
-    let d = done form group lines (rest ++ part) told (kept form group lines rest told a) in
-    (d.0, d.1, subst (λ l. IsAt form group (lines ++ l ∷ []) [] (told ++ d.0) after) (append-nil (rest ++ part)) d.2)) ok
+    λ (form : Form) (asked : Asked) (lines : List (List ℕ)) (rest told : List ℕ) (a : IsAt form asked lines rest told before).
+    let d = done form asked lines (rest ++ part) told (kept form asked lines rest told a) in
+    (d.0, d.1, subst (λ l. IsAt form asked (lines ++ l ∷ []) [] (told ++ d.0) after) (append-nil (rest ++ part)) d.2)) ok
 
 if_err : {V E : Type 0} {P Q : E → Type 0} (result : Result V E) → ((e : E) → P e → Q e) → IfErr result P → IfErr result Q
 if_err (Ok v) f h = tt
@@ -96,18 +98,27 @@ pub kept_bad : (before mid : Session) (part : List ℕ) (result : Result Unit Fa
     → IfErr result (IsBadLine mid []) → IfErr result (IsBadLine before part)
 kept_bad before mid part result kept bad =
     if_err result (λ (fault : Fault) (b : IsBadLine mid [] fault).
-    λ (form : Form) (group : Bool) (lines : List (List ℕ)) (rest told : List ℕ) (a : IsAt form group lines rest told before) (line : ℕ)
-    (e : fault ≡ BadEvent line).
-    let d = b form group lines (rest ++ part) told (kept form group lines rest told a) line e in
-    (d.0, subst (λ l. IsBad form l) (append-nil (rest ++ part)) d.1)) bad
+    λ (form : Form) (asked : Asked) (lines : List (List ℕ)) (rest told : List ℕ) (a : IsAt form asked lines rest told before) (line : ℕ)
+    (why : Text) (e : fault ≡ BadEvent line why).
+    let d = b form asked lines (rest ++ part) told (kept form asked lines rest told a) line why e in (
+      d.0,
+      subst (λ l. IsBad form l) (append-nil (rest ++ part)) d.1,
+      λ one. subst (λ l. IsWhyText form (length lines + 1) l why.items) (append-nil (rest ++ part))
+          (d.2 (subst (λ l. IsOneLine l) (sym (append-nil (rest ++ part))) one)),
+    )) bad
 
 long_bad : (form : Form) (line : List ℕ) → 4096 < length line → IsBad form line
 long_bad Std line long = (λ n. let short = n.short in omega arith, λ saying says. let short = says.short in omega arith)
 long_bad Acts line long = (λ n. let short = n.short in omega arith, λ saying says. let short = says.short in omega arith)
 
+long_cause : (form : Form) (number : ℕ) (line : List ℕ) → 4096 < length line → IsCauseIn form number line line_too_long
+long_cause Std number line long = line_long long
+long_cause Acts number line long = line_long long
+
 pub too_long_bad : (before : Session) (part : List ℕ) (fault : Fault) → IsTooLong before part fault → IsBadLine before part fault
-too_long_bad before part fault t form group lines rest told a line e =
-    let d = t form group lines rest told a line e in (d.0, long_bad form (rest ++ part) d.1)
+too_long_bad before part fault t form asked lines rest told a line why e =
+    let d = t form asked lines rest told a line why e in
+    (d.0, long_bad form (rest ++ part) d.1, λ one. (line_too_long, long_cause form (length lines + 1) (rest ++ part) d.1, d.2))
 
 -- ---- bytes and lines
 
@@ -189,7 +200,7 @@ cut_of (byte ∷ bytes) = go (byte == 10) refl (cut_of bytes)
 
 -- ---- blocks
 
-pub read_of : {form : Form} {group : Bool} {bytes told : List ℕ} {session : Session} → HasLines form group bytes told session → HasRead form group bytes told session
+pub read_of : {form : Form} {asked : Asked} {bytes told : List ℕ} {session : Session} → HasLines form asked bytes told session → HasRead form asked bytes told session
 read_of h =
     let a = h.at in
     record {
@@ -197,13 +208,13 @@ read_of h =
       tells = record { lines = h.lines; rest = h.rest; cut = h.cut; short = a.short; said = a.said; says = a.says; tells = told_of a.judged };
     }
 
-module _ {form : Form} {group : Bool} {bytes told block left old mid : List ℕ} {session : Session}
-    (d : HasDone form group bytes told block left old mid session) where
+module _ {form : Form} {asked : Asked} {bytes told block left old mid : List ℕ} {session : Session}
+    (d : HasDone form asked bytes told block left old mid session) where
   more_done : (part behind new : List ℕ) (after : Session) → left ≡ part ++ 10 ∷ behind → IsOneLine part → HasCompleted session part mid new after
-      → HasDone form group bytes told block behind old new after
+      → HasDone form asked bytes told block behind old new after
   more_done part behind new after split one completes =
       let l = d.has_lines in
-      let t = completes form group l.lines l.rest (told ++ d.more) l.at in
+      let t = completes form asked l.lines l.rest (told ++ d.more) l.at in
       record {
         done = d.done ++ (part ++ 10 ∷ []);
         whole = d.whole ∙ ap (λ x. d.done ++ x) (split ∙ sym (append_assoc part (10 ∷ []) behind)) ∙ sym (append_assoc d.done (part ++ 10 ∷ []) behind);
@@ -213,12 +224,12 @@ module _ {form : Form} {group : Bool} {bytes told block left old mid : List ℕ}
           lines = l.lines ++ (l.rest ++ part) ∷ [];
           rest = [];
           cut = subst (λ b. IsCut b (l.lines ++ (l.rest ++ part) ∷ []) []) (append_assoc bytes d.done (part ++ 10 ∷ [])) (cut_line part l.cut one);
-          at = subst (λ x. IsAt form group (l.lines ++ (l.rest ++ part) ∷ []) [] x after) (append_assoc told d.more t.0) t.2;
+          at = subst (λ x. IsAt form asked (l.lines ++ (l.rest ++ part) ∷ []) [] x after) (append_assoc told d.more t.0) t.2;
         };
       }
 
   gone_on : (after : Session) → IsOneLine left → HasKept session left after
-      → (more : List ℕ) × (mid ≡ old ++ more) × HasRead form group (bytes ++ block) (told ++ more) after
+      → (more : List ℕ) × (mid ≡ old ++ more) × HasRead form asked (bytes ++ block) (told ++ more) after
   gone_on after one kept =
       let l = d.has_lines in (
         d.more,
@@ -227,17 +238,17 @@ module _ {form : Form} {group : Bool} {bytes told block left old mid : List ℕ}
           lines = l.lines;
           rest = l.rest ++ left;
           cut = subst (λ b. IsCut b l.lines (l.rest ++ left)) (append_assoc bytes d.done left ∙ ap (λ x. bytes ++ x) (sym d.whole)) (cut_rest left l.cut one);
-          at = kept form group l.lines l.rest (told ++ d.more) l.at;
+          at = kept form asked l.lines l.rest (told ++ d.more) l.at;
         }),
       )
 
   stopped_long : (fault : Fault) → IsOneLine left → IsTooLong session left fault
-      → (more : List ℕ) × (mid ≡ old ++ more) × Stops form group (bytes ++ block) fault (told ++ more)
+      → (more : List ℕ) × (mid ≡ old ++ more) × Stops form asked (bytes ++ block) fault (told ++ more)
   stopped_long NoMemory one long = (d.more, d.text, tt)
-  stopped_long (BadEvent line) one long =
+  stopped_long (BadEvent line why) one long =
       let l = d.has_lines in
       let a = l.at in
-      let t = long form group l.lines l.rest (told ++ d.more) a line refl in (
+      let t = long form asked l.lines l.rest (told ++ d.more) a line why refl in (
         d.more,
         d.text,
         record {
@@ -245,18 +256,18 @@ module _ {form : Form} {group : Bool} {bytes told block left old mid : List ℕ}
           rest = l.rest ++ left;
           cut = subst (λ b. IsCut b l.lines (l.rest ++ left)) (append_assoc bytes d.done left ∙ ap (λ x. bytes ++ x) (sym d.whole)) (cut_rest left l.cut one);
           said = a.said;
-          first = inr (a.says, t.0, t.1);
+          first = inr (a.says, t.0, t.1, t.2);
           tells = told_of a.judged;
         },
       )
 
   stopped_bad : (part behind new : List ℕ) (fault : Fault) → left ≡ part ++ 10 ∷ behind → IsOneLine part → new ≡ mid → IsBadLine session part fault
-      → (more : List ℕ) × (new ≡ old ++ more) × Stops form group (bytes ++ block) fault (told ++ more)
+      → (more : List ℕ) × (new ≡ old ++ more) × Stops form asked (bytes ++ block) fault (told ++ more)
   stopped_bad part behind new NoMemory split one same bad = (d.more, same ∙ d.text, tt)
-  stopped_bad part behind new (BadEvent line) split one same bad =
+  stopped_bad part behind new (BadEvent line why) split one same bad =
       let l = d.has_lines in
       let a = l.at in
-      let t = bad form group l.lines l.rest (told ++ d.more) a line refl in
+      let t = bad form asked l.lines l.rest (told ++ d.more) a line why refl in
       let c = cut_of behind in
       let whole : (bytes ++ d.done ++ (part ++ 10 ∷ [])) ++ behind ≡ bytes ++ block
       = append_assoc (bytes ++ d.done) (part ++ 10 ∷ []) behind ∙ ap (λ x. bytes ++ d.done ++ x) (append_assoc part (10 ∷ []) behind)
@@ -276,46 +287,48 @@ module _ {form : Form} {group : Bool} {bytes told block left old mid : List ℕ}
             counted = t.0;
             good = a.says;
             bad = t.1;
+            why = subst (λ n. IsWhyText form n (l.rest ++ part) why.items) (sym t.0) (t.2 (lacks_both l.rest part l.cut.last one));
           });
           tells = told_of a.judged;
         },
       )
 
 abbrev pub Invariant : Session → List ℕ → List ℕ → List ℕ → List ℕ → Session → Type 0
-Invariant before block left old new session = (form : Form) (group : Bool) (bytes told : List ℕ) → HasLines form group bytes told before
-    → HasDone form group bytes told block left old new session
+Invariant before block left old new session = (form : Form) (asked : Asked) (bytes told : List ℕ) → HasLines form asked bytes told before
+    → HasDone form asked bytes told block left old new session
 
 module _ (before session : Session) (block left old mid : List ℕ) (i : Invariant before block left old mid session) where
   pub invariant_more : (part behind new : List ℕ) (after : Session) → left ≡ part ++ 10 ∷ behind → IsOneLine part → HasCompleted session part mid new after
       → Invariant before block behind old new after
-  invariant_more part behind new after split one completes form group bytes told h = more_done (i form group bytes told h) part behind new after split one completes
+  invariant_more part behind new after split one completes form asked bytes told h = more_done (i form asked bytes told h) part behind new after split one completes
 
   pub ends_ok : {E : Type 0} (after : Session) (result : Result Unit E) → IsOneLine left → OnOk result (HasKept session left after)
       → OnOk result (HasGoneOn before block old mid after)
   ends_ok after result one ok = on_ok_weaker result (λ (kept : HasKept session left after).
-      λ (form : Form) (group : Bool) (bytes told : List ℕ) (h : HasRead form group bytes told before).
-      gone_on (i form group bytes told h.has_lines) after one kept) ok
+      λ (form : Form) (asked : Asked) (bytes told : List ℕ) (h : HasRead form asked bytes told before).
+      gone_on (i form asked bytes told h.has_lines) after one kept) ok
 
   pub ends_bad : (result : Result Unit Fault) → IsOneLine left → IfErr result (IsTooLong session left) → IfErr result (IsStoppedAt before block old mid)
   ends_bad result one bad = if_err result (λ (fault : Fault) (long : IsTooLong session left fault).
-      λ (form : Form) (group : Bool) (bytes told : List ℕ) (h : HasRead form group bytes told before).
-      stopped_long (i form group bytes told h.has_lines) fault one long) bad
+      λ (form : Form) (asked : Asked) (bytes told : List ℕ) (h : HasRead form asked bytes told before).
+      stopped_long (i form asked bytes told h.has_lines) fault one long) bad
 
   pub line_bad : (part behind new : List ℕ) (fault : Fault) → left ≡ part ++ 10 ∷ behind → IsOneLine part → new ≡ mid → IsBadLine session part fault
       → IsStoppedAt before block old new fault
-  line_bad part behind new fault split one same bad form group bytes told h =
-      stopped_bad (i form group bytes told h.has_lines) part behind new fault split one same bad
+  line_bad part behind new fault split one same bad form asked bytes told h =
+      stopped_bad (i form asked bytes told h.has_lines) part behind new fault split one same bad
 
 -- ---- the end
 
 pub ended_well : (before mid : Session) (old between new : List ℕ) (status : ℕ) → HasCompleted before [] old between mid
-    → HasToldAll mid.form mid.judged between new status → HasEnded before old new status
-ended_well before mid old between new status completes all form group bytes told h =
+    → HasToldAll mid.form mid.asked mid.judged between new status → HasEnded before old new status
+ended_well before mid old between new status completes all form asked bytes told h =
     let l = h.has_lines in
-    let t = completes form group l.lines l.rest told l.at in
+    let t = completes form asked l.lines l.rest told l.at in
     let a = t.2 in
-    let all_here = subst (λ x. HasToldAll x mid.judged between new status) a.same_form all in
-    let e = all_here group a.said (told ++ t.0) a.judged in (
+    let all_here = subst (λ x. HasToldAll form x mid.judged between new status) a.same_asked
+    (subst (λ x. HasToldAll x mid.asked mid.judged between new status) a.same_form all) in
+    let e = all_here a.said (told ++ t.0) a.judged in (
       t.0 ++ e.0,
       e.1 ∙ ap (λ x. x ++ e.0) t.1 ∙ append_assoc old t.0 e.0,
       record {
@@ -324,16 +337,16 @@ ended_well before mid old between new status completes all form group bytes told
         cut = l.cut;
         said = a.said;
         says = subst (λ x. Say form 1 (l.lines ++ x ∷ []) a.said) (append-nil l.rest) a.says;
-        tells = subst (λ x. IsWholeOf form group a.said status x) (append_assoc told t.0 e.0) e.2;
+        tells = subst (λ x. IsWholeOf form asked a.said status x) (append_assoc told t.0 e.0) e.2;
       },
     )
 
 pub failed_line : (before : Session) (old new : List ℕ) (fault : Fault) → new ≡ old → IsBadLine before [] fault → HasFailed before old new fault
-failed_line before old new NoMemory same bad form group bytes told h = ([], same ∙ sym (append-nil old), tt)
-failed_line before old new (BadEvent line) same bad form group bytes told h =
+failed_line before old new NoMemory same bad form asked bytes told h = ([], same ∙ sym (append-nil old), tt)
+failed_line before old new (BadEvent line why) same bad form asked bytes told h =
     let l = h.has_lines in
     let a = l.at in
-    let t = bad form group l.lines l.rest told a line refl in (
+    let t = bad form asked l.lines l.rest told a line why refl in (
       [],
       same ∙ sym (append-nil old),
       record {
@@ -349,23 +362,26 @@ failed_line before old new (BadEvent line) same bad form group bytes told h =
           counted = t.0;
           good = a.says;
           bad = subst (λ x. IsBad form x) (append-nil l.rest) t.1;
+          why = subst (λ n. IsWhyText form n l.rest why.items) (sym t.0)
+              (subst (λ x. IsWhyText form (length l.lines + 1) x why.items) (append-nil l.rest)
+              (t.2 (subst (λ x. IsOneLine x) (sym (append-nil l.rest)) l.cut.last)));
         };
-        tells = subst (λ x. IsToldOf form group a.said x) (sym (append-nil told)) (told_of a.judged);
+        tells = subst (λ x. IsToldOf form asked a.said x) (sym (append-nil told)) (told_of a.judged);
       },
     )
 
 pub failed_memory : (before mid : Session) (old between new : List ℕ) → HasCompleted before [] old between mid → new ≡ between
     → HasFailed before old new NoMemory
-failed_memory before mid old between new completes same form group bytes told h =
+failed_memory before mid old between new completes same form asked bytes told h =
     let l = h.has_lines in
-    let t = completes form group l.lines l.rest told l.at in (t.0, same ∙ t.1, tt)
+    let t = completes form asked l.lines l.rest told l.at in (t.0, same ∙ t.1, tt)
 
 -- before any byte
-pub read_none : (form : Form) (group : Bool) (session : Session) → session.form ≡ form → session.group ≡ group → session.lines ≡ 0
-    → session.rest.items ≡ [] → HasJudged form group [] [] session.judged → HasRead form group [] [] session
-read_none form group session f g n r h = read_of (record {
+pub read_none : (form : Form) (asked : Asked) (session : Session) → session.form ≡ form → session.asked ≡ asked → session.lines ≡ 0
+    → session.rest.items ≡ [] → HasJudged form asked [] [] session.judged → HasRead form asked [] [] session
+read_none form asked session f g n r h = read_of (record {
   lines = [];
   rest = [];
   cut = record { whole = refl; each = tt; last = tt };
-  at = record { same_form = f; same_group = g; same_rest = r; short = omega arith; counted = n; said = []; says = no_line; judged = h };
+  at = record { same_form = f; same_asked = g; same_rest = r; short = omega arith; counted = n; said = []; says = no_line; judged = h };
 })

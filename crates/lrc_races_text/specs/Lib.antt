@@ -1,8 +1,12 @@
 pub mod Acts
 pub mod Says
+pub mod Sought
+pub mod Detecting
 pub mod Naming
 pub mod Tables
 pub mod Spelled
+pub mod Objects
+pub mod Layouts
 pub mod Told
 pub mod Judged
 pub mod Session

@@ -1,5 +1,6 @@
 -- What the lines of a trace say.
 use Rattle.std.specs.Prelude.{◌≡◌, ℕ, ◌+◌, List, [], ◌∷◌, ◌++◌, length}
+use Rattle.lrc_races_lines.specs.Cause.{Why, no_act, why_text, IsCause, IsCauseOf}
 use Rattle.lrc_races_lines.specs.Line.{Saying, Says as SaysStd, SaysNothing as SaysNoStd}
 use Rattle.lrc_races_text.specs.declared.form.Form.{Form}
 use Rattle.lrc_races_text.specs.declared.form.Form.TheVariants.{Std, Acts}
@@ -18,6 +19,15 @@ SaysNothing Acts line = SaysNoAct line
 abbrev pub IsBad : Form → List ℕ → Type 0
 IsBad form line = ¬ SaysNothing form line × ((saying : Saying) → ¬ Says form line saying)
 
+-- why the line with this number has not its form: the first thing that is wrong with it. Of an act that is all that is said.
+abbrev pub IsCauseIn : Form → ℕ → List ℕ → Why → Type 0
+IsCauseIn Std number line why = IsCause number line why
+IsCauseIn Acts number line why = IsCauseOf number line (λ other. other ≡ no_act) why
+
+-- and the text of it
+abbrev pub IsWhyText : Form → ℕ → List ℕ → List ℕ → Type 0
+IsWhyText form number line text = (why : Why) × IsCauseIn form number line why × (text ≡ why_text why)
+
 -- what is said, and the number of its line
 pub record Said : Type 0 where
   pub line : ℕ
@@ -31,8 +41,9 @@ pub data Say (form : Form) : ℕ → List (List ℕ) → List Said → Type 0 wh
   event_line : {number : ℕ} {line : List ℕ} {lines : List (List ℕ)} {said : List Said} {saying : Saying} → Says form line saying
       → Say form (number + 1) lines said → Say form number (line ∷ lines) (record { line = number; saying = saying } ∷ said)
 
--- Of the lines, the first bad one has this number, counted from 1, and those before it say these events.
-pub record IsFirstBad (form : Form) (lines : List (List ℕ)) (number : ℕ) (said : List Said) : Type 0 where
+-- Of the lines, the first bad one has this number, counted from 1, and is bad for the reason of this text, and those before it say
+-- these events.
+pub record IsFirstBad (form : Form) (lines : List (List ℕ)) (number : ℕ) (text : List ℕ) (said : List Said) : Type 0 where
   pub before : List (List ℕ)
   pub line : List ℕ
   pub after : List (List ℕ)
@@ -40,3 +51,4 @@ pub record IsFirstBad (form : Form) (lines : List (List ℕ)) (number : ℕ) (sa
   pub counted : number ≡ length before + 1
   pub good : Say form 1 before said
   pub bad : IsBad form line
+  pub why : IsWhyText form number line text

@@ -1,20 +1,22 @@
 -- What is told of a trace, from its bytes.
-use Rattle.std.specs.Prelude.{◌≡◌, ℕ, ◌+◌, ◌<◌, ◌≤◌, ◌⊎◌, ◌==◌, Bool, if◌then◌else◌, List, [], ◌∷◌, ◌++◌, Option, flat_map, length}
+use Rattle.std.specs.Prelude.{◌≡◌, ℕ, ◌+◌, ◌<◌, ◌≤◌, ◌⊎◌, ◌==◌, if◌then◌else◌, List, [], ◌∷◌, ◌++◌, Option, flat_map, length}
 use Rattle.lrc_races_trace.specs.declared.event.Event.{Event}
 use Rattle.lrc_races_trace.specs.declared.event.Pair.{Pair}
 use Rattle.lrc_races_trace.specs.declared.fault.Fault.{Fault as IllFormed}
 use Rattle.lrc_races_trace.specs.declared.group.Group.{Group}
-use Rattle.lrc_races_trace.specs.Races.{AreTold}
 use Rattle.lrc_races_trace.specs.Formed.{IsFirstFault}
 use Rattle.lrc_races_trace.specs.Groups.{AreGroups}
+use Rattle.lrc_races_lines.specs.Cause.{line_too_long, why_text}
 use Rattle.lrc_races_lines.specs.Line.{line_feed, longest_line}
 use Rattle.lrc_races_lines.specs.Lacking.{Lacks}
+use Rattle.lrc_races_text.specs.declared.asked.Asked.{Asked}
 use Rattle.lrc_races_text.specs.declared.form.Form.{Form}
 use Rattle.lrc_races_text.specs.declared.fault.Fault.{Fault}
 use Rattle.lrc_races_text.specs.declared.fault.Fault.TheVariants.{BadEvent, NoMemory}
 use Rattle.lrc_races_text.specs.Says.{Said, Say, IsFirstBad}
 use Rattle.lrc_races_text.specs.Naming.{Naming, IsTrace}
-use Rattle.lrc_races_text.specs.Spelled.{race_lines, group_lines, fault_line, counts_line}
+use Rattle.lrc_races_text.specs.Sought.{AreSought}
+use Rattle.lrc_races_text.specs.Layouts.{end_lines, pair_lines}
 
 -- the text has no line feed, and none of the lines has
 abbrev pub IsOneLine : List ℕ → Type 0
@@ -35,71 +37,71 @@ pub record IsCut (bytes : List ℕ) (lines : List (List ℕ)) (rest : List ℕ) 
   pub last : IsOneLine rest
 
 -- The pairs that are told of what is said, and the text of them: a line for each, but no line where they are told in groups.
-pub record IsToldOf (form : Form) (group : Bool) (said : List Said) (told : List ℕ) : Type 0 where
+pub record IsToldOf (form : Form) (asked : Asked) (said : List Said) (told : List ℕ) : Type 0 where
   pub naming : Naming
   pub events : List Event
   pub pairs : List Pair
   pub trace : IsTrace said naming events
-  pub are_told : AreTold events pairs
-  pub text : told ≡ (if group then [] else race_lines form naming pairs)
+  pub are_told : AreSought asked.sought events pairs
+  pub text : told ≡ (if asked.group then [] else pair_lines asked.layout form naming pairs)
 
 -- When these bytes have come, and none of their lines is bad, this is told.
-pub record Tells (form : Form) (group : Bool) (bytes told : List ℕ) : Type 0 where
+pub record Tells (form : Form) (asked : Asked) (bytes told : List ℕ) : Type 0 where
   pub lines : List (List ℕ)
   pub rest : List ℕ
   pub cut : IsCut bytes lines rest
   pub short : length rest ≤ longest_line
   pub said : List Said
   pub says : Say form 1 lines said
-  pub tells : IsToldOf form group said told
+  pub tells : IsToldOf form asked said told
 
--- The line with this number is the first bad one of those that have come whole; or they are good, and more has come of the next
--- one than a line may have. What is told is told of the lines before it.
-pub record IsBadEvent (form : Form) (group : Bool) (bytes : List ℕ) (line : ℕ) (told : List ℕ) : Type 0 where
+-- The line with this number is the first bad one of those that have come whole, for the reason of this text; or they are good, and
+-- more has come of the next one than a line may have. What is told is told of the lines before it.
+pub record IsBadEvent (form : Form) (asked : Asked) (bytes : List ℕ) (line : ℕ) (why told : List ℕ) : Type 0 where
   pub lines : List (List ℕ)
   pub rest : List ℕ
   pub cut : IsCut bytes lines rest
   pub said : List Said
-  pub first : IsFirstBad form lines line said ⊎ (Say form 1 lines said × (line ≡ length lines + 1) × (longest_line < length rest))
-  pub tells : IsToldOf form group said told
+  pub first : IsFirstBad form lines line why said
+      ⊎ (Say form 1 lines said × (line ≡ length lines + 1) × (longest_line < length rest) × (why ≡ why_text line_too_long))
+  pub tells : IsToldOf form asked said told
 
-abbrev pub Stops : Form → Bool → List ℕ → Fault → List ℕ → Type 0
-Stops form group bytes (BadEvent line) told = IsBadEvent form group bytes line told
-Stops form group bytes NoMemory told = Unit {0}
+abbrev pub Stops : Form → Asked → List ℕ → Fault → List ℕ → Type 0
+Stops form asked bytes (BadEvent line why) told = IsBadEvent form asked bytes line why.items told
+Stops form asked bytes NoMemory told = Unit {0}
 
 -- All that is told of a trace: behind the pairs the groups, where they are asked for, the first event that no program would give,
 -- and how many there are of all; and the status.
-pub record IsWholeOf (form : Form) (group : Bool) (said : List Said) (status : ℕ) (told : List ℕ) : Type 0 where
+pub record IsWholeOf (form : Form) (asked : Asked) (said : List Said) (status : ℕ) (told : List ℕ) : Type 0 where
   pub naming : Naming
   pub events : List Event
   pub pairs : List Pair
   pub groups : List Group
   pub fault : Option IllFormed
   pub trace : IsTrace said naming events
-  pub are_told : AreTold events pairs
-  pub are_groups : AreGroups (if group then pairs else []) groups
+  pub are_told : AreSought asked.sought events pairs
+  pub are_groups : AreGroups (if asked.group then pairs else []) groups
   pub first_fault : IsFirstFault events (length events) fault
-  pub text : told ≡ (if group then [] else race_lines form naming pairs) ++ (group_lines form naming groups ++ (fault_line naming fault
-      ++ counts_line naming (length pairs) (length events)))
+  pub text : told ≡ (if asked.group then [] else pair_lines asked.layout form naming pairs) ++ end_lines asked.layout form naming groups fault (length pairs) (length events)
   pub answer : status ≡ (if length pairs == 0 then 0 else 3)
 
 -- The bytes are a whole trace: what stands behind their last line feed is a line too.
-pub record Ends (form : Form) (group : Bool) (bytes : List ℕ) (status : ℕ) (told : List ℕ) : Type 0 where
+pub record Ends (form : Form) (asked : Asked) (bytes : List ℕ) (status : ℕ) (told : List ℕ) : Type 0 where
   pub lines : List (List ℕ)
   pub rest : List ℕ
   pub cut : IsCut bytes lines rest
   pub said : List Said
   pub says : Say form 1 (lines ++ rest ∷ []) said
-  pub tells : IsWholeOf form group said status told
+  pub tells : IsWholeOf form asked said status told
 
-pub record IsBadTrace (form : Form) (group : Bool) (bytes : List ℕ) (line : ℕ) (told : List ℕ) : Type 0 where
+pub record IsBadTrace (form : Form) (asked : Asked) (bytes : List ℕ) (line : ℕ) (why told : List ℕ) : Type 0 where
   pub lines : List (List ℕ)
   pub rest : List ℕ
   pub cut : IsCut bytes lines rest
   pub said : List Said
-  pub first : IsFirstBad form (lines ++ rest ∷ []) line said
-  pub tells : IsToldOf form group said told
+  pub first : IsFirstBad form (lines ++ rest ∷ []) line why said
+  pub tells : IsToldOf form asked said told
 
-abbrev pub Fails : Form → Bool → List ℕ → Fault → List ℕ → Type 0
-Fails form group bytes (BadEvent line) told = IsBadTrace form group bytes line told
-Fails form group bytes NoMemory told = Unit {0}
+abbrev pub Fails : Form → Asked → List ℕ → Fault → List ℕ → Type 0
+Fails form asked bytes (BadEvent line why) told = IsBadTrace form asked bytes line why.items told
+Fails form asked bytes NoMemory told = Unit {0}

@@ -1,16 +1,18 @@
 // A trace as it is judged, one event after another.
-ghost use Rattle.std.specs.Prelude.{◌≡◌, ◌+◌, [], Bool, IfErr, IfOk, OnErr, OnOk};
+ghost use Rattle.std.specs.Prelude.{◌≡◌, ◌+◌, [], IfErr, IfOk, OnErr, OnOk};
 ghost use Rattle.lrc_races_lines.specs.Line.{saying_of};
 ghost use Rattle.lrc_races_text.specs.declared.fault.Fault.TheVariants.{NoMemory};
+ghost use Rattle.lrc_races_text.specs.declared.asked.Asked.{Asked as AnyAsked};
 ghost use Rattle.lrc_races_text.specs.declared.form.Form.{Form as AnyForm};
 ghost use Rattle.lrc_races_text.specs.Tables.{naming_of};
 ghost use Rattle.lrc_races_text.specs.Judged.{HasJudged, HasJudgedOne, HasToldAll, IsTelling};
 
+use crate::asked::{Asked, Sought};
 use crate::fault::Fault;
 use crate::form::Form;
+use crate::layouts::{push_end_lines, push_pair_lines};
 use crate::naming::Names;
-use crate::spelling::{push_end, push_pairs};
-use lrc_races_detector::detector::Detector;
+use crate::race_detector::RaceDetector;
 use lrc_races_detector::fault_finder::FaultFinder;
 use lrc_races_detector::groups::Groups;
 use lrc_races_lines::line::Named;
@@ -21,7 +23,7 @@ use std::alloc::{AllocError, Global};
 #[derive(Drop)]
 pub struct Judged {
     pub names: Names,
-    pub detector: Detector,
+    pub detector: RaceDetector,
     pub finder: FaultFinder,
     pub groups: Groups,
     /// How many pairs were reported.
@@ -38,20 +40,20 @@ fn tell(
     text: &mut Vec<u8>,
     out: &mut Vec<u8>,
     form: Form,
-    group: bool,
+    asked: Asked,
     names: &Names,
     told: &[Pair],
 ) -> Result<(), AllocError>
-    ensures ok { OnOk result (IsTelling form group
+    ensures ok { OnOk result (IsTelling form asked
         (naming_of names.now) told.now groups.old groups.new out.old.items out.new.items) }
     ensures err { OnErr result (out.new.items ≡ out.old.items) }
 {
-    if group {
+    if asked.group {
         groups.take(told)?;
         return Ok(());
     }
     text.clear();
-    push_pairs(text, form, names, told)?;
+    push_pair_lines(text, asked.layout, form, names, told)?;
     out.extend_from_slice(text.as_slice())?;
     Ok(())
 }
@@ -69,12 +71,13 @@ fn sum(one: u64, other: u64) -> Result<u64, Fault>
 
 impl Judged {
     /// Creates the state before any event.
-    pub fn new(alloc: Global) -> Judged
-        ensures { (form : AnyForm) (group : Bool) → HasJudged form group [] [] result }
+    pub fn new(alloc: Global, sought: Sought) -> Judged
+        ensures { (form : AnyForm) (asked : AnyAsked) → asked.sought ≡ sought
+            → HasJudged form asked [] [] result }
     {
         Judged {
             names: Names::new(alloc),
-            detector: Detector::new(alloc),
+            detector: RaceDetector::new(alloc, sought),
             finder: FaultFinder::new(alloc),
             groups: Groups::new(alloc),
             races: 0,
@@ -88,18 +91,18 @@ impl Judged {
     pub fn take(
         &mut self,
         form: Form,
-        group: bool,
+        asked: Asked,
         named: Named<'_>,
         line: u64,
         out: &mut Vec<u8>,
     ) -> Result<(), Fault>
-        ensures ok { OnOk result (HasJudgedOne form group
+        ensures ok { OnOk result (HasJudgedOne form asked
             (record { line = line; saying = saying_of named.entry }) self.old out.old.items self.new
             out.new.items) }
         ensures err { OnErr result (out.new.items ≡ out.old.items) }
         ensures memory { IfErr result (λ fault. fault ≡ NoMemory) }
     {
-        if self.detector.position >= u64::MAX - 1 {
+        if self.detector.position() >= u64::MAX - 1 {
             return Err(Fault::NoMemory);
         }
         let event = self.names.event(named, line)?;
@@ -111,7 +114,7 @@ impl Judged {
             &mut self.text,
             out,
             form,
-            group,
+            asked,
             &self.names,
             self.told.as_slice(),
         )?;
@@ -120,20 +123,21 @@ impl Judged {
 
     /// Adds what is reported at the end: the groups, what is not well formed, and the last line. Returns the program's
     /// exit status: 3 if a race was reported, else 0. On error `out` does not change.
-    pub fn end(&mut self, form: Form, out: &mut Vec<u8>) -> Result<u8, AllocError>
-        ensures ok { IfOk result (HasToldAll form self.old out.old.items out.new.items) }
+    pub fn end(&mut self, form: Form, asked: Asked, out: &mut Vec<u8>) -> Result<u8, AllocError>
+        ensures ok { IfOk result (HasToldAll form asked self.old out.old.items out.new.items) }
         ensures err { OnErr result (out.new.items ≡ out.old.items) }
     {
         let races = self.races;
         self.text.clear();
-        push_end(
+        push_end_lines(
             &mut self.text,
+            asked.layout,
             form,
             &self.names,
             self.groups.list(),
             self.finder.fault(),
             races,
-            self.detector.position,
+            self.detector.position(),
         )?;
         out.extend_from_slice(self.text.as_slice())?;
         Ok(if races == 0 { 0 } else { 3 })

@@ -3,9 +3,13 @@
 #![tactic(auto)]
 
 pub mod acts;
+pub mod asked;
 pub mod fault;
 pub mod form;
 pub mod judged;
+pub mod layouts;
 pub mod naming;
+pub mod objects;
+pub mod race_detector;
 pub mod session;
 pub mod spelling;

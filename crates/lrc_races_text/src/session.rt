@@ -1,16 +1,21 @@
 // A trace as it comes, block by block.
-ghost use Rattle.std.specs.Prelude.{◌≡◌, [], IfErr, IfOk, OnErr, OnOk};
-ghost use Rattle.lrc_races_text.specs.declared.fault.Fault.TheVariants.{NoMemory};
+ghost use Rattle.std.specs.Prelude.{◌≡◌, ℕ, [], IfErr, IfOk, OnErr, OnOk};
+ghost use Rattle.lrc_races_lines.specs.Cause.{why_of, why_text};
+ghost use Rattle.lrc_races_text.specs.declared.fault.Fault.TheVariants.{BadEvent, NoMemory};
+ghost use Rattle.lrc_races_text.specs.Says.{IsBad, IsCauseIn};
+ghost use Rattle.lrc_races_text.specs.Told.{IsOneLine};
 ghost use Rattle.lrc_races_text.specs.Session.{ReadsIn, HasTakenLine, HasCompleted, IsBadLine, HasKept, IsTooLong};
-ghost use Rattle.lrc_races_text.specs.Session.{HasRead, HasGoneOn, IsStoppedAt, HasEnded, HasFailed, IsNext, FailsLine};
+ghost use Rattle.lrc_races_text.specs.Session.{Text, HasRead, HasGoneOn, IsStoppedAt, HasEnded, HasFailed, IsNext, FailsLine};
 
 use crate::acts::read_act;
+use crate::asked::Asked;
 use crate::fault::Fault;
 use crate::form::Form;
 use crate::judged::Judged;
+use lrc_races_lines::cause::{Cause, cause_of, cause_of_any, push_cause};
 use lrc_races_lines::line::Line;
 use lrc_races_lines::reading::{read_line, split};
-use std::alloc::Global;
+use std::alloc::{AllocError, Global};
 
 /// The longest line, in bytes.
 const LONGEST_LINE: usize = 4096;
@@ -19,7 +24,7 @@ const LONGEST_LINE: usize = 4096;
 #[derive(Drop)]
 pub struct Session {
     form: Form,
-    group: bool,
+    asked: Asked,
     judged: Judged,
     /// How many complete lines have come.
     lines: u64,
@@ -37,36 +42,73 @@ fn read(form: Form, line: &[u8]) -> Line<'_>
     }
 }
 
+// Why the line with this number is bad.
+fn cause_in(form: Form, number: u64, line: &[u8]) -> Cause<'_>
+    ensures { IsOneLine line.now → IsBad form line.now
+        → IsCauseIn form number line.now (why_of result) }
+{
+    match form {
+        Form::Std => cause_of(number, line),
+        Form::Acts => match cause_of_any(number, line) {
+            Some(cause) => cause,
+            None => Cause::NoAct,
+        },
+    }
+}
+
+// What is said of a cause.
+fn text_of(alloc: Global, cause: Cause<'_>) -> Result<Vec<u8>, AllocError>
+    ensures { IfOk result (λ text. text.items ≡ why_text (why_of cause)) }
+{
+    let mut text = Vec::new(alloc);
+    push_cause(&mut text, cause)?;
+    Ok(text)
+}
+
+// The fault of a bad line, or, where there is no memory for what is said of it, that there is none.
+fn bad_event(alloc: Global, number: u64, cause: Cause<'_>) -> Fault
+    ensures { (line : ℕ) (why : Text) → result ≡ BadEvent line why → (line ≡ number)
+        × (why.items ≡ why_text (why_of cause)) }
+{
+    match text_of(alloc, cause) {
+        Ok(text) => Fault::BadEvent(number, text),
+        Err(_error) => Fault::NoMemory,
+    }
+}
+
 // Takes a line with its number, and adds what is told of it.
 fn take_line(
     judged: &mut Judged,
     form: Form,
-    group: bool,
+    asked: Asked,
     line: &[u8],
     number: u64,
     out: &mut Vec<u8>,
 ) -> Result<(), Fault>
-    ensures ok { OnOk result (HasTakenLine form group line.now number judged.old out.old.items
+    ensures ok { OnOk result (HasTakenLine form asked line.now number judged.old out.old.items
         judged.new out.new.items) }
     ensures kept { OnErr result (out.new.items ≡ out.old.items) }
     ensures bad { IfErr result (FailsLine form line.now number) }
 {
     match read(form, line) {
         Line::Nothing => Ok(()),
-        Line::Event(named) => judged.take(form, group, named, number, out),
-        Line::Bad => Err(Fault::BadEvent(number)),
+        Line::Event(named) => judged.take(form, asked, named, number, out),
+        Line::Bad => {
+            let alloc = *judged.text.allocator();
+            Err(bad_event(alloc, number, cause_in(form, number, line)))
+        }
     }
 }
 
 impl Session {
     /// Creates a session before any byte. It allocates nothing.
-    pub fn new(alloc: Global, form: Form, group: bool) -> Session
-        ensures { HasRead form group [] [] result }
+    pub fn new(alloc: Global, form: Form, asked: Asked) -> Session
+        ensures { HasRead form asked [] [] result }
     {
         Session {
             form,
-            group,
-            judged: Judged::new(alloc),
+            asked,
+            judged: Judged::new(alloc, asked.sought),
             lines: 0,
             rest: Vec::new(alloc),
         }
@@ -90,7 +132,8 @@ impl Session {
     {
         let number = self.next()?;
         if self.rest.len() > LONGEST_LINE || part.len() > LONGEST_LINE - self.rest.len() {
-            return Err(Fault::BadEvent(number));
+            let alloc = *self.rest.allocator();
+            return Err(bad_event(alloc, number, Cause::LineTooLong));
         }
         self.rest.extend_from_slice(part)?;
         Ok(())
@@ -104,7 +147,7 @@ impl Session {
     {
         let number = self.next()?;
         let line = self.rest.as_slice();
-        take_line(&mut self.judged, self.form, self.group, line, number, out)?;
+        take_line(&mut self.judged, self.form, self.asked, line, number, out)?;
         self.rest.clear();
         self.lines = number;
         Ok(())
@@ -119,7 +162,7 @@ impl Session {
         ensures bad { IfErr result (IsBadLine self.old line.now) }
     {
         let number = self.next()?;
-        take_line(&mut self.judged, self.form, self.group, line, number, out)?;
+        take_line(&mut self.judged, self.form, self.asked, line, number, out)?;
         self.lines = number;
         Ok(())
     }
@@ -168,7 +211,7 @@ impl Session {
             Ok(()) => {}
             Err(fault) => return Err(fault),
         }
-        match self.judged.end(self.form, out) {
+        match self.judged.end(self.form, self.asked, out) {
             Ok(status) => Ok(status),
             Err(_) => Err(Fault::NoMemory),
         }

@@ -15,6 +15,11 @@ use Rattle.lrc_cli_args.specs.declared.choice.Topic.{Topic}
 use Rattle.lrc_cli_args.specs.declared.choice.TraceForm.{TraceForm}
 use Rattle.lrc_cli_args.specs.declared.choice.TraceForm.TheVariants as args
 use Rattle.lrc_cli.specs.Performance.{IsWritten, Performs}
+use Rattle.lrc_races_text.specs.declared.asked.Asked.{Asked}
+use Rattle.lrc_races_text.specs.declared.asked.Layout.{Layout}
+use Rattle.lrc_races_text.specs.declared.asked.Layout.TheVariants.{Words, Objects}
+use Rattle.lrc_races_text.specs.declared.asked.Sought.{Sought}
+use Rattle.lrc_races_text.specs.declared.asked.Sought.TheVariants.{AllRaces, SureRaces}
 use Rattle.lrc_races_text.specs.declared.form.Form.{Form}
 use Rattle.lrc_races_text.specs.declared.form.Form.TheVariants as races
 use Rattle.lrc_races_stream.specs.Plays.{IsRacesPlayed}
@@ -86,6 +91,20 @@ abbrev pub form_of : TraceForm → Form
 form_of args.Std = races.Std
 form_of args.Acts = races.Acts
 
+-- the races that the words ask for: all, or the sure ones alone
+abbrev pub sought_of : Bool → Sought
+sought_of true = SureRaces
+sought_of false = AllRaces
+
+-- how it is to be printed
+abbrev pub layout_of : Bool → Layout
+layout_of true = Objects
+layout_of false = Words
+
+-- what they ask of the trace
+abbrev pub asked_of : Racing → Asked
+asked_of racing = record { sought = sought_of racing.sure; group = racing.group; layout = layout_of racing.json }
+
 -- What comes of the words: they ask for nothing, and nothing is printed, or what comes of the topic, the trace or the choice that they
 -- ask for.
 pub data Plays (known : Known) (words : List Text) (out out' err err' : Option (List ℕ)) (status : ℕ) : Type 0 where
@@ -93,7 +112,7 @@ pub data Plays (known : Known) (words : List Text) (out out' err err' : Option (
       → Plays known words out out' err err' status
   spoken : (topic : Topic) → Chooses words (Ok (About topic)) → IsTopicTold out out' err err' status → Plays known words out out' err err' status
   raced : (racing : Racing) → Chooses words (Ok (Races racing))
-      → IsRacesPlayed known racing.file.now (form_of racing.form) racing.group out out' err err' status → Plays known words out out' err err' status
+      → IsRacesPlayed known racing.file.now (form_of racing.form) (asked_of racing) out out' err err' status → Plays known words out out' err err' status
   played : (choice : Choice) → Chooses words (Ok (Answer choice)) → IsPlayed known choice out out' err err' status
       → Plays known words out out' err err' status
 

@@ -2,10 +2,11 @@
 
 ghost use Rattle.std.specs.Prelude.{◌≡◌};
 ghost use Rattle.lrc_races_stream.specs.Plays.{IsRacesPlayed};
-ghost use Rattle.lrc_shell.specs.Plays.{form_of};
+ghost use Rattle.lrc_shell.specs.Plays.{asked_of, form_of, layout_of, sought_of};
 
 use lrc_cli_args::choice::{Racing, TraceForm};
 use lrc_races_stream::play_races;
+use lrc_races_text::asked::{Asked, Layout, Sought};
 use lrc_races_text::form::Form;
 use lrc_shell_sources::sources::Sources;
 use std::alloc::Global;
@@ -20,14 +21,14 @@ pub(crate) fn tell_races<F: Sources, W: Write, E: Write>(
     err: &mut E,
 ) -> u8
     ensures { IsRacesPlayed (F.known sources.now) racing.now.file.now
-        (form_of racing.now.form) racing.now.group
+        (form_of racing.now.form) (asked_of racing.now)
         (W.contents out.old) (W.contents out.new) (E.contents err.old) (E.contents err.new) result }
 {
     play_races(
         alloc,
         racing.file,
         form_of(racing.form),
-        racing.group,
+        asked_of(racing),
         sources,
         out,
         err,
@@ -40,5 +41,31 @@ fn form_of(form: TraceForm) -> Form
     match form {
         TraceForm::Std => Form::Std,
         TraceForm::Acts => Form::Acts,
+    }
+}
+
+fn asked_of(racing: &Racing<'_>) -> Asked
+    ensures { result ≡ asked_of racing.now }
+{
+    Asked {
+        sought: sought_of(racing.sure),
+        group: racing.group,
+        layout: layout_of(racing.json),
+    }
+}
+
+fn layout_of(json: bool) -> Layout
+    ensures { result ≡ layout_of json }
+{
+    if json { Layout::Objects } else { Layout::Words }
+}
+
+fn sought_of(sure: bool) -> Sought
+    ensures { result ≡ sought_of sure }
+{
+    if sure {
+        Sought::SureRaces
+    } else {
+        Sought::AllRaces
     }
 }

@@ -5,7 +5,7 @@ use Rattle.std.proofs.lemmas.Bool.{eqb-true, leb-true}
 use Rattle.std.proofs.lemmas.Bool.Decides.{nat_tests}
 use Rattle.std.proofs.lemmas.List.Sums.{fold-append}
 use Rattle.lrc_step.specs.Reading.{Reader, plain, ended, reader_behind, reads, number_of, behind_digit}
-use Rattle.lrc_step.specs.Spelling.{byte_text, control_text, digit_of, spelled}
+use Rattle.lrc_json.specs.Spelling.{byte_text, control_text, digit_of, spelled}
 
 -- what holds of both sides of a choice holds of it
 pub by_choice : (P : List ℕ → Type 0) (c : Bool) (x y : List ℕ) → (c ≡ true → P x) → (c ≡ false → P y) → P (cond c x y)

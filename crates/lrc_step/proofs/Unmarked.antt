@@ -10,8 +10,8 @@ use Rattle.std.proofs.lemmas.List.Folds.{list_all-append}
 use Rattle.std.proofs.lemmas.Str.Parse.{digit_at}
 use Rattle.std.specs.Str.Parse.{AllDigits}
 use Rattle.lrc_judge.specs.declared.lanes.Pair.{Pair}
-use Rattle.lrc_step.specs.Lines.{HasNoMarkup, IsPairOfWords, comma_text, group_text, lines_part, pair_text, pairs_text, quoted, quoted_at, quoted_each, text_part}
-use Rattle.lrc_step.specs.Spelling.{byte_text, control_text, digit_of, spelled}
+use Rattle.lrc_step.specs.Lines.{HasNoMarkup, IsPairOfWords, comma_text, group_text, lines_part, pair_text, pairs_text, quoted_at, quoted_each, text_part}
+use Rattle.lrc_json.specs.Spelling.{byte_text, control_text, digit_of, quoted, spelled}
 use Rattle.lrc_step.proofs.Read.{by_choice}
 
 -- a byte that is no sign of markup

@@ -4,13 +4,9 @@ use Rattle.lrc_judge.specs.declared.lanes.Pair.{Pair}
 use Rattle.lrc_labels.specs.declared.cut.Divider.TheVariants.{LineFeed}
 use Rattle.lrc_labels.specs.Cut.{cut, divides}
 use Rattle.lrc_text.specs.Each.{each}
-use Rattle.lrc_step.specs.Spelling.{spelled}
+use Rattle.lrc_json.specs.Spelling.{quoted}
 use Rattle.lrc_step.specs.declared.frame.TheConstants.{OPENING}
 use Rattle.lrc_step.specs.declared.script.TheConstants.{CLOSING}
-
--- a text between its quotation marks
-unfoldable pub quoted : List ℕ → List ℕ
-quoted text = codes "\"" ++ spelled text ++ codes "\""
 
 -- something in a list: a comma stands before each but the first
 abbrev pub comma_text : ℕ → List ℕ

@@ -4,7 +4,7 @@ ghost use Rattle.std.specs.Prelude.{◌≡◌, ◌<◌, ◌^◌, ◌++◌, ℕ, 
 ghost use Rattle.lrc_judge.specs.declared.lanes.Pair.{Pair};
 ghost use Rattle.lrc_step.specs.Lines.{HasNoMarkup, IsPairOfWords, explain_line, program_line, race_line, why_line};
 ghost use Rattle.lrc_step.specs.Reading.{ended, plain, reads};
-ghost use Rattle.lrc_step.specs.Spelling.{spelled};
+ghost use Rattle.lrc_json.specs.Spelling.{spelled};
 
 /// A reader of JSON reads back exactly the text that was spelled, whatever its bytes, and stops at the quotation mark
 /// after it.

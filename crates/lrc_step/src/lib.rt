@@ -17,7 +17,6 @@ mod reason_lines;
 mod reasons;
 mod script;
 mod shown;
-mod spelling;
 mod told;
 
 pub use document::{document_parts, step_document};
@@ -27,4 +26,3 @@ pub use races::races_part;
 pub use reasons::reasons_part;
 pub use script::CLOSING;
 pub use shown::{Part, is_shown, shown_pairs};
-pub use spelling::push_spelled;

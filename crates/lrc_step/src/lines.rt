@@ -3,7 +3,7 @@
 ghost use Rattle.std.specs.Prelude.{◌≡◌, ◌++◌, IfOk, OnOk, map};
 ghost use Rattle.lrc_step.specs.Lines.{comma_text, explain_line, group_text, lines_in, lines_part, pair_text, pairs_text, program_line, quoted_at, quoted_each, race_line, text_part, why_line};
 
-use crate::spelling::push_quoted;
+use lrc_json::push_quoted;
 use lrc_judge::pairs::Pair;
 use lrc_labels::cut::{Divider, cut};
 use lrc_text::push_number;

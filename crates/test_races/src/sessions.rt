@@ -1,15 +1,34 @@
 // What is printed of traces, in blocks of any size.
 
+use lrc_races_text::asked::{Asked, Layout, Sought};
 use lrc_races_text::fault::Fault;
 use lrc_races_text::form::Form;
 use lrc_races_text::session::Session;
 use std::alloc::Global;
 
+const ALL: Asked = Asked {
+    sought: Sought::AllRaces,
+    group: false,
+    layout: Layout::Words,
+};
+
+const ALL_BY_GROUP: Asked = Asked {
+    sought: Sought::AllRaces,
+    group: true,
+    layout: Layout::Words,
+};
+
+const SURE: Asked = Asked {
+    sought: Sought::SureRaces,
+    group: false,
+    layout: Layout::Words,
+};
+
 // A trace, how it is read, and what is printed of it, with the status or the fault.
 struct Row {
     name: &'static str,
     form: Form,
-    group: bool,
+    asked: Asked,
     trace: &'static [u8],
     printed: &'static [u8],
     end: Result<u8, u64>,
@@ -19,7 +38,7 @@ const ROWS: &[Row] = &[
     Row {
         name: "two writes race",
         form: Form::Std,
-        group: false,
+        asked: ALL,
         trace: b"T1|w(x)|1\nT2|w(x)|2\n",
         printed: b"race x: line 1 T1 write at 1, line 2 T2 write at 2\nraces 1, events 2, threads 2, variables 1, locks 0, barriers 0\n",
         end: Ok(3),
@@ -27,7 +46,7 @@ const ROWS: &[Row] = &[
     Row {
         name: "the last line has no line feed, and no location",
         form: Form::Std,
-        group: false,
+        asked: ALL,
         trace: b"# a comment\n\nT1|w(x)\r\nT2|r(x)|",
         printed: b"race x: line 3 T1 write, line 4 T2 read\nraces 1, events 2, threads 2, variables 1, locks 0, barriers 0\n",
         end: Ok(3),
@@ -35,7 +54,7 @@ const ROWS: &[Row] = &[
     Row {
         name: "a bad line behind a race",
         form: Form::Std,
-        group: false,
+        asked: ALL,
         trace: b"T1|w(x)|1\nT2|w(x)|2\nT2|w(y\nT1|w(y)|1\n",
         printed: b"race x: line 1 T1 write at 1, line 2 T2 write at 2\n",
         end: Err(3),
@@ -43,7 +62,7 @@ const ROWS: &[Row] = &[
     Row {
         name: "a bad line, where groups are asked for",
         form: Form::Std,
-        group: true,
+        asked: ALL_BY_GROUP,
         trace: b"T1|w(x)|1\nT2|w(x)|2\nT2|w(y",
         printed: b"",
         end: Err(3),
@@ -51,7 +70,7 @@ const ROWS: &[Row] = &[
     Row {
         name: "groups, in the order in which they are first told",
         form: Form::Std,
-        group: true,
+        asked: ALL_BY_GROUP,
         trace: b"T1|w(x)|b\nT1|w(y)|b\nT2|r(x)|a\nT2|r(y)|a\nT3|w(x)|\n",
         printed: b"races b write, a read: 2, first x lines 1, 3\nraces b write, - write: 1, first x lines 1, 5\nraces a read, - write: 1, first x lines 3, 5\nraces 4, events 5, threads 3, variables 2, locks 0, barriers 0\n",
         end: Ok(3),
@@ -59,7 +78,7 @@ const ROWS: &[Row] = &[
     Row {
         name: "no race, and a release of what is not held",
         form: Form::Std,
-        group: false,
+        asked: ALL,
         trace: b"T1|acq(L)|1\nT1|w(x)|2\nT1|rel(L)|3\nT1|rel(L)|4\nT2|fork(T3)|5\nT2|arrive(B)|6\n",
         printed: b"not well formed at line 4: lock L is not held by thread T1\nraces 0, events 6, threads 3, variables 1, locks 1, barriers 1\n",
         end: Ok(0),
@@ -67,7 +86,7 @@ const ROWS: &[Row] = &[
     Row {
         name: "acts, their numbers without leading zeros",
         form: Form::Acts,
-        group: false,
+        asked: ALL,
         trace: b"0 write 007 1 # line 09\n 12 read 7 0\t# line 4\n\n1 arrive\n1 trap 5",
         printed: b"race word 7: line 1 node 0 write at 09, line 2 node 12 read at 4\nnot well formed at line 5: thread 1 waits at barrier 0 since line 4\nraces 1, events 4, threads 3, variables 1, locks 0, barriers 1\n",
         end: Ok(3),
@@ -75,15 +94,23 @@ const ROWS: &[Row] = &[
     Row {
         name: "an act of a lock past 32 bits",
         form: Form::Acts,
-        group: false,
+        asked: ALL,
         trace: b"0 acquire 4294967295\n0 release 4294967296\n",
         printed: b"",
         end: Err(2),
     },
     Row {
+        name: "what is read behind a pointer that was read is no sure race",
+        form: Form::Std,
+        asked: SURE,
+        trace: b"A|acq(m)|7\nA|r(p)|7\nA|w(o)|8\nA|w(p)|9\nA|rel(m)|10\nB|r(p)|5\nB|r(o)|12\n",
+        printed: b"race p: line 4 A write at 9, line 6 B read at 5\nraces 1, events 7, threads 2, variables 2, locks 1, barriers 0\n",
+        end: Ok(3),
+    },
+    Row {
         name: "nothing",
         form: Form::Std,
-        group: true,
+        asked: ALL_BY_GROUP,
         trace: b"",
         printed: b"races 0, events 0, threads 0, variables 0, locks 0, barriers 0\n",
         end: Ok(0),
@@ -115,14 +142,14 @@ fn play(session: &mut Session, trace: &[u8], size: usize, out: &mut Vec<u8>) -> 
 fn is_end(found: Result<u8, Fault>, wanted: Result<u8, u64>) -> bool {
     match (found, wanted) {
         (Ok(status), Ok(other)) => status == other,
-        (Err(Fault::BadEvent(line)), Err(other)) => line == other,
+        (Err(Fault::BadEvent(line, _why)), Err(other)) => line == other,
         _ => false,
     }
 }
 
 // Whether the trace is played as the row says, in blocks of this size.
 fn plays(alloc: Global, row: &Row, size: usize) -> bool {
-    let mut session = Session::new(alloc, row.form, row.group);
+    let mut session = Session::new(alloc, row.form, row.asked);
     let mut out = Vec::new(alloc);
     let end = play(&mut session, row.trace, size, &mut out);
     is_end(end, row.end) && out.as_slice() == row.printed

@@ -8,11 +8,15 @@ returns-clause-app c =
     let about_is : app_of c.about-command.result ≡ new_app (codes "races") = ap app_of_fields c.about-command.ensures ∙ c.new.ensures.app in
     let one = c.taking-command.ensures.app (new_app (codes "races")) _ c.file.ensures.local c.file.ensures.rule about_is in
     let two = c.taking-command-2.ensures.app _ _ c.trace_form.ensures.local c.trace_form.ensures.rule one in
-    c.taking.ensures.app _ _ c.flag_option.ensures.local c.flag_option.ensures.rule two
+    let three = c.taking-command-3.ensures.app _ _ c.flag_option.ensures.local c.flag_option.ensures.rule two in
+    let four = c.taking-command-4.ensures.app _ _ c.flag_option-2.ensures.local c.flag_option-2.ensures.rule three in
+    c.taking.ensures.app _ _ c.flag_option-3.ensures.local c.flag_option-3.ensures.rule four
 
 pub returns-clause-local : goal.returns-clause-local
 returns-clause-local c =
     let about_is = ap (λ f. f.has_globals) c.about-command.ensures ∙ c.new.ensures.local in
     let one = c.taking-command.ensures.local c.file.ensures.local about_is in
     let two = c.taking-command-2.ensures.local c.trace_form.ensures.local one in
-    c.taking.ensures.local c.flag_option.ensures.local two
+    let three = c.taking-command-3.ensures.local c.flag_option.ensures.local two in
+    let four = c.taking-command-4.ensures.local c.flag_option-2.ensures.local three in
+    c.taking.ensures.local c.flag_option-3.ensures.local four

@@ -12,14 +12,14 @@ returns-clause-read c = λ program nodes acts lines parts rest said is cut.
     parts rest said cut
 
 pub returns-clause-told : goal.returns-clause-told
-returns-clause-told c = λ program nodes acts lines group status told is ends. acts_told program nodes acts lines is group status told ends
+returns-clause-told c = λ program nodes acts lines group layout status told is ends. acts_told program nodes acts lines is group layout status told ends
 
 pub returns-clause-good : goal.returns-clause-good
-returns-clause-good c = λ program nodes acts lines front more group line told is e bad.
+returns-clause-good c = λ program nodes acts lines front more asked line told is e bad.
     front_good Acts (acts_text acts lines) (act_bodies 0 lines acts) (acts_said 0 lines acts) (acts_are_good program nodes acts lines is)
-    front more group line told e bad
+    front more asked line told e bad
 
 pub returns-clause-whole : goal.returns-clause-whole
-returns-clause-whole c = λ program nodes acts lines group line told is bad.
+returns-clause-whole c = λ program nodes acts lines asked line told is bad.
     whole_good Acts (acts_text acts lines) (act_bodies 0 lines acts) (acts_said 0 lines acts) (acts_are_good program nodes acts lines is)
-    group line told bad
+    asked line told bad

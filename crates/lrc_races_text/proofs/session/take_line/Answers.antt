@@ -3,7 +3,7 @@ use Rattle.lrc_races_text.proofs.SessionLemmas.{taken_none, taken_one}
 use Rattle.lrc_races_text.proofs.session.take_line.Goals as goal
 
 pub returns-in-Nothing-clause-ok : goal.returns-in-Nothing-clause-ok
-returns-in-Nothing-clause-ok c = taken_none c.args.form c.args.group c.args.line.now c.args.number c.args.judged.now c.args.out.now.items c.in-Nothing.ensures
+returns-in-Nothing-clause-ok c = taken_none c.args.form c.args.asked c.args.line.now c.args.number c.args.judged.now c.args.out.now.items c.in-Nothing.ensures
 
 pub returns-in-Event-clause-ok : goal.returns-in-Event-clause-ok
-returns-in-Event-clause-ok c = taken_one c.args.form c.args.group c.args.line.now c.args.number _ c.args.judged.now _ _ _ _ c.in-Event.ensures c.take.ensures.ok
+returns-in-Event-clause-ok c = taken_one c.args.form c.args.asked c.args.line.now c.args.number _ c.args.judged.now _ _ _ _ c.in-Event.ensures c.take.ensures.ok

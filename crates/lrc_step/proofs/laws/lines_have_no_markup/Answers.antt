@@ -1,5 +1,6 @@
 use Rattle.std.proofs.Common.{◌++◌, codes, decimal, refl}
-use Rattle.lrc_step.specs.Lines.{explain_line, group_text, lines_part, pairs_text, program_line, quoted, race_line, text_part, why_line}
+use Rattle.lrc_json.specs.Spelling.{quoted}
+use Rattle.lrc_step.specs.Lines.{explain_line, group_text, lines_part, pairs_text, program_line, race_line, text_part, why_line}
 use Rattle.lrc_step.proofs.Unmarked.{both, group_unmarked, lines_part_unmarked, no_markup, number_unmarked, pairs_unmarked, quoted_unmarked, text_part_unmarked}
 use Rattle.lrc_step.proofs.laws.lines_have_no_markup.Goals as goal
 

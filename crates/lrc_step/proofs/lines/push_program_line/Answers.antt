@@ -1,6 +1,7 @@
 use Rattle.std.proofs.Common.{◌∙◌, ◌++◌, List, ℕ, ap, append_assoc, codes}
 use Rattle.lrc_text.proofs.Pushed.{then_ok}
-use Rattle.lrc_step.specs.Lines.{quoted, text_part}
+use Rattle.lrc_json.specs.Spelling.{quoted}
+use Rattle.lrc_step.specs.Lines.{text_part}
 use Rattle.lrc_step.proofs.lines.push_program_line.Goals as goal
 
 pub returns : goal.returns

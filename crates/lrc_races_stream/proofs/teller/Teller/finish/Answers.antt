@@ -2,24 +2,24 @@ use Rattle.lrc_races_stream.proofs.TellerLemmas.{cut_at, cut_unwritten, ended_so
 use Rattle.lrc_races_stream.proofs.teller.Teller.finish.Goals as goal
 
 pub returns-in-Ok-write : goal.returns-in-Ok-write
-returns-in-Ok-write g c form group held left start u end =
-    ended_so form group held left start _ _ u _ c.in-Ok.status _ _ _ end c.clear.ensures.items c.in-Ok.ensures.ok c.deref.ensures.value
+returns-in-Ok-write g c form asked held left start u end =
+    ended_so form asked held left start _ _ u _ c.in-Ok.status _ _ _ end c.clear.ensures.items c.in-Ok.ensures.ok c.deref.ensures.value
     c.in-Ok-write.ensures.ok
 
 pub returns-in-Err : goal.returns-in-Err
-returns-in-Err g c form group held left start u end =
-    ended_unwritten form group held left start _ _ u _ c.in-Ok.status _ _ _ end c.clear.ensures.items c.in-Ok.ensures.ok c.deref.ensures.value
+returns-in-Err g c form asked held left start u end =
+    ended_unwritten form asked held left start _ _ u _ c.in-Ok.status _ _ _ end c.clear.ensures.items c.in-Ok.ensures.ok c.deref.ensures.value
     c.in-Err.ensures.err
 
 pub returns-in-Ok-write-2 : goal.returns-in-Ok-write-2
-returns-in-Ok-write-2 g c form group held left start u end =
-    cut_at form group held left start _ _ u _ c.in-Err-BadEvent.line _ _ _ _ end c.clear.ensures.items c.in-Err-BadEvent.field-0-is c.in-Err-BadEvent.ensures.bad
+returns-in-Ok-write-2 g c form asked held left start u end =
+    cut_at form asked held left start _ _ u _ c.in-Err-BadEvent.line c.in-Err-BadEvent.why _ _ _ _ end c.clear.ensures.items c.in-Err-BadEvent.field-0-is c.in-Err-BadEvent.ensures.bad
     c.deref-in-Err-BadEvent.ensures.value c.in-Ok-write-2.ensures.ok
 
 pub returns-in-Err-write : goal.returns-in-Err-write
-returns-in-Err-write g c form group held left start u end =
-    cut_unwritten form group held left start _ _ u _ c.in-Err-BadEvent.line _ _ _ _ end c.clear.ensures.items c.in-Err-BadEvent.field-0-is c.in-Err-BadEvent.ensures.bad
+returns-in-Err-write g c form asked held left start u end =
+    cut_unwritten form asked held left start _ _ u _ c.in-Err-BadEvent.line c.in-Err-BadEvent.why _ _ _ _ end c.clear.ensures.items c.in-Err-BadEvent.field-0-is c.in-Err-BadEvent.ensures.bad
     c.deref-in-Err-BadEvent.ensures.value c.in-Err-write.ensures.err
 
 pub returns-in-Err-NoMemory : goal.returns-in-Err-NoMemory
-returns-in-Err-NoMemory g c form group held left start u end = out_of_memory form group held left start _ _ u
+returns-in-Err-NoMemory g c form asked held left start u end = out_of_memory form asked held left start _ _ u

@@ -4,28 +4,28 @@ use Rattle.lrc_races_stream.proofs.TellerLemmas.{broken_at, broken_unwritten, go
 use Rattle.lrc_races_stream.proofs.teller.Teller.take.Goals as goal
 
 pub returns-in-Ok-write : goal.returns-in-Ok-write
-returns-in-Ok-write g c form group held left after start u off =
-    gone_on form group held left start _ _ u after _ _ _ _ _ _
+returns-in-Ok-write g c form asked held left after start u off =
+    gone_on form asked held left start _ _ u after _ _ _ _ _ _
     (subst (λ (bytes : List ℕ). IsReadOff left (take c.args.count bytes) after) (sym c.deref.ensures.value) off) c.clear.ensures.items c.in-Ok.ensures.ok
     c.deref-in-Ok.ensures.value c.in-Ok-write.ensures.ok
 
 pub returns-in-Err : goal.returns-in-Err
-returns-in-Err g c form group held left after start u off =
-    gone_unwritten form group held left start _ _ u after _ _ _ _ _ _
+returns-in-Err g c form asked held left after start u off =
+    gone_unwritten form asked held left start _ _ u after _ _ _ _ _ _
     (subst (λ (bytes : List ℕ). IsReadOff left (take c.args.count bytes) after) (sym c.deref.ensures.value) off) c.clear.ensures.items c.in-Ok.ensures.ok
     c.deref-in-Ok.ensures.value c.in-Err.ensures.err
 
 pub returns-in-Ok-write-2 : goal.returns-in-Ok-write-2
-returns-in-Ok-write-2 g c form group held left after start u off =
-    broken_at form group held left start _ _ u after _ c.in-Err-BadEvent.line _ _ _ _ _
+returns-in-Ok-write-2 g c form asked held left after start u off =
+    broken_at form asked held left start _ _ u after _ c.in-Err-BadEvent.line c.in-Err-BadEvent.why _ _ _ _ _
     (subst (λ (bytes : List ℕ). IsReadOff left (take c.args.count bytes) after) (sym c.deref.ensures.value) off) c.clear.ensures.items
     c.in-Err-BadEvent.field-0-is c.in-Err-BadEvent.ensures.bad c.deref-in-Err-BadEvent.ensures.value c.in-Ok-write-2.ensures.ok
 
 pub returns-in-Err-write : goal.returns-in-Err-write
-returns-in-Err-write g c form group held left after start u off =
-    broken_unwritten form group held left start _ _ u after _ c.in-Err-BadEvent.line _ _ _ _ _
+returns-in-Err-write g c form asked held left after start u off =
+    broken_unwritten form asked held left start _ _ u after _ c.in-Err-BadEvent.line c.in-Err-BadEvent.why _ _ _ _ _
     (subst (λ (bytes : List ℕ). IsReadOff left (take c.args.count bytes) after) (sym c.deref.ensures.value) off) c.clear.ensures.items
     c.in-Err-BadEvent.field-0-is c.in-Err-BadEvent.ensures.bad c.deref-in-Err-BadEvent.ensures.value c.in-Err-write.ensures.err
 
 pub returns-in-Err-NoMemory : goal.returns-in-Err-NoMemory
-returns-in-Err-NoMemory g c form group held left after start u off = out_of_memory form group held left start _ _ u
+returns-in-Err-NoMemory g c form asked held left after start u off = out_of_memory form asked held left start _ _ u

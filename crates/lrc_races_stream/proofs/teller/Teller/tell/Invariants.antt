@@ -1,10 +1,11 @@
-use Rattle.std.proofs.Common.{Bool, List, Option, ℕ}
+use Rattle.std.proofs.Common.{List, Option, ℕ}
+use Rattle.lrc_races_text.specs.declared.asked.Asked.{Asked}
 use Rattle.lrc_races_text.specs.declared.form.Form.{Form}
 use Rattle.lrc_shell_sources.specs.Known.{Held}
 use Rattle.lrc_races_stream.specs.Comes.{IsUnderWay}
 use Rattle.lrc_races_stream.proofs.teller.Teller.tell.Given as goal
 
 abbrev pub invariant-loop-turn : goal.invariant-loop-turn
-invariant-loop-turn g l = (form : Form) (group : Bool) (held : Held) (start : Option (List ℕ))
-    → IsUnderWay form group held (g.B.Blocks.left l.initial.trace) start (g.W.Write.contents l.initial.out) l.initial.self.session
-    → IsUnderWay form group held (g.B.Blocks.left l.trace) start (g.W.Write.contents l.out) l.self.session
+invariant-loop-turn g l = (form : Form) (asked : Asked) (held : Held) (start : Option (List ℕ))
+    → IsUnderWay form asked held (g.B.Blocks.left l.initial.trace) start (g.W.Write.contents l.initial.out) l.initial.self.session
+    → IsUnderWay form asked held (g.B.Blocks.left l.trace) start (g.W.Write.contents l.out) l.self.session

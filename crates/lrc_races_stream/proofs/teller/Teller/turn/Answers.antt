@@ -5,16 +5,16 @@ use Rattle.lrc_races_stream.proofs.TellerLemmas.{block_front, read_no_more}
 use Rattle.lrc_races_stream.proofs.teller.Teller.turn.Goals as goal
 
 pub returns-in-Ok-eq0 : goal.returns-in-Ok-eq0
-returns-in-Ok-eq0 g c form group held start u =
-    c.finish.ensures form group held (g.B.Blocks.left c.args.trace.now) start u (c.in-Ok-eq0.ensures.end c.in-Ok-eq0.field-0-test (search (rules, arith)))
+returns-in-Ok-eq0 g c form asked held start u =
+    c.finish.ensures form asked held (g.B.Blocks.left c.args.trace.now) start u (c.in-Ok-eq0.ensures.end c.in-Ok-eq0.field-0-test (search (rules, arith)))
 
 pub returns-in-Ok : goal.returns-in-Ok
-returns-in-Ok g c form group held start u =
-    c.take.ensures form group held (g.B.Blocks.left c.args.trace.now) (g.B.Blocks.left c.read.new.self) start u
+returns-in-Ok g c form asked held start u =
+    c.take.ensures form asked held (g.B.Blocks.left c.args.trace.now) (g.B.Blocks.left c.read.new.self) start u
     (subst (λ (bytes : List ℕ). IsReadOff (g.B.Blocks.left c.args.trace.now) bytes (g.B.Blocks.left c.read.new.self))
     (sym (block_front c.in-Ok.count c.args.self.now.block.len c.read.new.block _ c.in-Ok.ensures.count (search (rules, arith)))) c.in-Ok.ensures.ok)
 
 pub returns-in-Err : goal.returns-in-Err
-returns-in-Err g c form group held start u =
-    read_no_more form group held (g.B.Blocks.left c.args.trace.now) start _ _ u _
+returns-in-Err g c form asked held start u =
+    read_no_more form asked held (g.B.Blocks.left c.args.trace.now) start _ _ u _
     (subst (λ (kind : ErrorKind). IsCause (g.B.Blocks.left c.args.trace.now) kind) (sym c.kind.ensures) c.in-Err.ensures.err)

@@ -1,6 +1,6 @@
 use Rattle.std.proofs.Common.{◌≡◌, ◌++◌, take}
-use Rattle.lrc_step.specs.Spelling.{spelled}
-use Rattle.lrc_step.proofs.spelling.push_spelled.Given as goal
+use Rattle.lrc_json.specs.Spelling.{spelled}
+use Rattle.lrc_json.proofs.spelling.push_spelled.Given as goal
 
 -- the bytes so far
 abbrev pub invariant-loop-byte : goal.invariant-loop-byte

@@ -1,8 +1,7 @@
-// Texts as they stand in the run's data.
+// The spelling of a text.
 
 ghost use Rattle.std.specs.Prelude.{◌≡◌, ◌<◌, ◌++◌, OnOk};
-ghost use Rattle.lrc_step.specs.Lines.{quoted};
-ghost use Rattle.lrc_step.specs.Spelling.{byte_text, control_text, digit_of, spelled};
+ghost use Rattle.lrc_json.specs.Spelling.{byte_text, control_text, digit_of, quoted, spelled};
 
 use std::alloc::AllocError;
 
@@ -51,8 +50,8 @@ fn push_byte(text: &mut Vec<u8>, byte: u8) -> Result<(), AllocError>
     }
 }
 
-/// Adds a text as JSON spells it between quotation marks, without the marks.
-pub fn push_spelled(text: &mut Vec<u8>, of: &[u8]) -> Result<(), AllocError>
+// Adds a text as JSON spells it between quotation marks, without the marks.
+fn push_spelled(text: &mut Vec<u8>, of: &[u8]) -> Result<(), AllocError>
     ensures { OnOk result (text.new.items ≡ text.old.items ++ spelled of.now) }
 {
     for byte in of {
@@ -62,8 +61,8 @@ pub fn push_spelled(text: &mut Vec<u8>, of: &[u8]) -> Result<(), AllocError>
 }
 
 /// Adds a text as JSON spells it, with its quotation marks.
-#[tactic(auto, unfolding(crate::specs::Lines::quoted))]
-pub(crate) fn push_quoted(text: &mut Vec<u8>, of: &[u8]) -> Result<(), AllocError>
+#[tactic(auto, unfolding(crate::specs::Spelling::quoted))]
+pub fn push_quoted(text: &mut Vec<u8>, of: &[u8]) -> Result<(), AllocError>
     ensures { OnOk result (text.new.items ≡ text.old.items ++ quoted of.now) }
 {
     text.extend_from_slice(b"\"")?;

@@ -1,4 +1,4 @@
--- How a text stands in the run's data: as in JSON (RFC 8259) between quotation marks, and without a sign that markup begins with, so that
+-- How a text is spelled: as in JSON (RFC 8259) between quotation marks, and without a sign that markup begins with, so that
 -- no text can end the element that the data stands in.
 use Rattle.std.specs.Prelude.{◌==◌, ◌+◌, ◌-◌, ℕ, List, [], ◌∷◌, ◌++◌, codes, nat_le, if◌then◌else◌}
 use Rattle.std.specs.List.{flat_map}
@@ -31,3 +31,7 @@ byte_text byte =
 
 abbrev pub spelled : List ℕ → List ℕ
 spelled text = flat_map byte_text text
+
+-- a text with its quotation marks
+unfoldable pub quoted : List ℕ → List ℕ
+quoted text = codes "\"" ++ spelled text ++ codes "\""
