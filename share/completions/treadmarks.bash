@@ -12,7 +12,7 @@ _treadmarks_options() {
     why) echo "--nodes --steps --collect --order --page --events --seed --acts --act --and" ;;
     stats) echo "--nodes --steps --collect --order --page --events --seed --threads" ;;
     chart) echo "--nodes --steps --collect --order --page --events --seed --threads --acts --text --from --to --hide --source" ;;
-    judge) echo "--nodes --pairs" ;;
+    judge) echo "--nodes --pairs --all" ;;
     races) echo "--as --group" ;;
     explore) echo "--nodes --most --outcomes --outcome --memory --tries" ;;
     esac
@@ -22,14 +22,14 @@ _treadmarks_options() {
 _treadmarks_values() {
     case $1,$2 in
     run,--order) echo "oldest newest twice" ;;
-    trace,--as) echo "acts events json rapid states" ;;
+    trace,--as) echo "acts bytes events json rapid states" ;;
     races,--as) echo "std acts" ;;
     *,--order) echo "oldest newest twice random" ;;
     *,--page) echo "64 256" ;;
     *,--hide) echo "quiet" ;;
     *,--memory) echo "flat lazy" ;;
     *,--events | *,--acts) echo FILE ;;
-    *,--threads | *,--messages | *,--text | *,--source | *,--pairs | *,--group | *,--outcomes) ;;
+    *,--threads | *,--messages | *,--text | *,--source | *,--pairs | *,--all | *,--group | *,--outcomes) ;;
     *,--*) echo NUMBER ;;
     esac
 }

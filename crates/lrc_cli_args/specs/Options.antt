@@ -142,6 +142,7 @@ pub record IsJudgeTaken (rows : List Row) : Type 0 where
   pub file : HasValue (codes "FILE") rows
   pub nodes : IsBareNumber (codes "nodes") rows
   pub pairs : IsFlagOption (codes "pairs") rows
+  pub all : IsFlagOption (codes "all") rows
 
 -- of `explore`
 pub record IsExploreTaken (rows : List Row) : Type 0 where
@@ -190,7 +191,7 @@ abbrev pub is_whole : Part → Bool
 is_whole part = is_none part.from && is_none part.to
 
 -- The form that a word names, where messages are asked for or not, and a part of the run. Messages are of acts alone, and a
--- part is of states alone.
+-- part is of bytes and states alone.
 abbrev pub IsForm : Option Text → Bool → Part → Form → Type 0
 IsForm word messages part forms.Acts = (word ≡ Some (codes "acts")) × (messages ≡ false) × (is_whole part ≡ true)
 IsForm word messages part forms.Messages = (word ≡ Some (codes "acts")) × (messages ≡ true) × (is_whole part ≡ true)
@@ -198,6 +199,7 @@ IsForm word messages part forms.Events = (word ≡ Some (codes "events")) × (me
 IsForm word messages part forms.Json = (word ≡ Some (codes "json")) × (messages ≡ false) × (is_whole part ≡ true)
 IsForm word messages part forms.Rapid = (word ≡ Some (codes "rapid")) × (messages ≡ false) × (is_whole part ≡ true)
 IsForm word messages part (forms.States shown) = (word ≡ Some (codes "states")) × (messages ≡ false) × (shown ≡ part)
+IsForm word messages part (forms.Bytes shown) = (word ≡ Some (codes "bytes")) × (messages ≡ false) × (shown ≡ part)
 
 -- the form of a trace that a word names
 abbrev pub IsTraceForm : Option Text → TraceForm → Type 0
@@ -242,7 +244,7 @@ HasWayMisfit order seed events threads misfit =
 abbrev pub HasNameMisfit : Option Text → Part → Misfit → Type 0
 HasNameMisfit word part misfit =
     ((misfit ≡ unfit.Form) × ((messages : Bool) (part : Part) (form : Form) → ¬ IsForm word messages part form))
-    ⊎ ((misfit ≡ unfit.Part) × (is_whole part ≡ false) × (word ≢ Some (codes "states")))
+    ⊎ ((misfit ≡ unfit.Part) × (is_whole part ≡ false) × (word ≢ Some (codes "states")) × (word ≢ Some (codes "bytes")))
 
 -- the same, where messages are asked for or not
 abbrev pub HasWordMisfit : Option Text → Bool → Part → Misfit → Type 0

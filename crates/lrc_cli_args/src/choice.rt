@@ -103,6 +103,8 @@ pub enum Form {
     Rapid,
     /// A JSON object for each turn of a part of the run, with its node's state.
     States(Part),
+    /// A JSON object for each turn of a part of the run, with the bytes of its messages.
+    Bytes(Part),
 }
 
 /// The part of a run that a chart shows, and how the chart shows it.
@@ -157,6 +159,8 @@ pub struct Judging<'w> {
     pub nodes: Option<Nodes>,
     /// Whether every racing pair is listed, instead of the named races.
     pub pairs: bool,
+    /// Whether each read that is not allowed, and each that is not in order, is named, instead of the first.
+    pub all: bool,
 }
 
 /// The memory whose runs are searched.

@@ -17,7 +17,8 @@ const BAD_RUN_ORDER: &str = "invalid value for '--order <ORDER>': it is oldest, 
 
 const BAD_PAGE: &str = "invalid value for '--page <WORDS>': it is 64 or 256";
 
-const BAD_FORM: &str = "invalid value for '--as <FORM>': it is acts, events, json, rapid or states";
+const BAD_FORM: &str =
+    "invalid value for '--as <FORM>': it is acts, bytes, events, json, rapid or states";
 
 const IDLE_SEED: &str = "the argument '--seed <X>' cannot be used without '--order random'";
 
@@ -28,7 +29,7 @@ const BAD_MESSAGES: &str =
     "the argument '--messages' cannot be used with a form other than '--as acts'";
 
 const BAD_PART: &str =
-    "the arguments '--from <P>' and '--to <Q>' cannot be used with a form other than '--as states'";
+    "the arguments '--from <P>' and '--to <Q>' cannot be used with a form other than '--as bytes' or '--as states'";
 
 const BAD_MEMORY: &str = "invalid value for '--memory <MEMORY>': it is flat or lazy";
 
@@ -72,7 +73,7 @@ pub(crate) enum Misfit {
     Threads,
     /// Messages are asked for together with a form other than that of acts.
     Messages,
-    /// A part of the run is asked for together with a form other than that of states.
+    /// A part of the run is asked for together with a form other than those of bytes and states.
     Part,
     /// The value of `--memory` is not one of its words.
     Memory,

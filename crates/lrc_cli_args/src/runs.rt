@@ -265,6 +265,8 @@ fn form_without_messages(word: &str, part: Part) -> Result<Form, Misfit>
 {
     if word == "states" {
         Ok(Form::States(part))
+    } else if word == "bytes" {
+        Ok(Form::Bytes(part))
     } else if !is_whole(part) {
         Err(Misfit::Part)
     } else if word == "acts" {

@@ -12,11 +12,16 @@ use Rattle.lrc_run.specs.Run.{turns_of_nodes}
 use Rattle.lrc_stats.specs.StatsText.{stats_text}
 use Rattle.lrc_world.specs.declared.keep.Keep.{Keep}
 use Rattle.lrc_world.specs.declared.keep.Keep.TheVariants.{All, Newest, Turns}
+use Rattle.lrc_world.specs.declared.report.Report.{Report}
 use Rattle.lrc_world.specs.declared.run.Run.{Run}
 use Rattle.lrc_why_run.specs.Answers.{AnswersRun}
 use Rattle.lrc_turns_text.specs.TurnsText.{messages_text}
 use Rattle.lrc_cli_args.specs.declared.choice.Form.{Form}
-use Rattle.lrc_cli_args.specs.declared.choice.Form.TheVariants.{Acts, Events, Json, Messages, Rapid, States}
+use Rattle.lrc_bytes_turns.specs.Turns.{bytes_text}
+use Rattle.lrc_turns_text.specs.Turns.{turns_told}
+use Rattle.lrc_cli_args.specs.declared.choice.Form.TheVariants.{Acts, Bytes, Events, Json, Messages, Rapid, States}
+use Rattle.lrc_cli_args.specs.declared.choice.Part.{Part}
+use Rattle.lrc_world.specs.declared.turned.Turned.{Turned}
 use Rattle.lrc_cli_args.specs.declared.choice.RunChoice.{RunChoice}
 use Rattle.lrc_cli_args.specs.declared.choice.RunOptions.{RunOptions}
 use Rattle.lrc_cli_args.specs.declared.choice.Shape.{Shape}
@@ -44,6 +49,7 @@ IsWrittenAs Json text program options run lines out =
 IsWrittenAs Rapid text program options run lines out =
     out ≡ rapid_text program.locks options.nodes.count run.report.acts.items lines
 IsWrittenAs (States part) text program options run lines out = ⊥
+IsWrittenAs (Bytes part) text program options run lines out = ⊥
 
 -- a trace of a run of the program that this text is of, in a form with these lines of its acts
 abbrev pub IsFormShown : Form → List ℕ → Program → RunOptions → Run → List ℕ → Type 0
@@ -51,9 +57,16 @@ IsFormShown form text program options run out =
     (lines : List ℕ) × AreLinesIn text program options.nodes.count run.report.acts.items lines
     × IsWrittenAs form text program options run lines out
 
--- the same in any form: with the states of the nodes it is of turns
+-- The turns that some events make, with the bytes that the nodes of the report took and sent in them; those of a part. Each is the next one of
+-- its node's log.
+abbrev pub IsBytes : Part → Report → List Turned → List ℕ → Type 0
+IsBytes part report turned out =
+    out ≡ bytes_text part.from part.to (map (λ turn. turn.event) turned) (turns_told (turns_of_nodes report) (map (λ turn. turn.node) turned))
+
+-- the same in any form: with the states of the nodes, or with the bytes of their messages, it is of turns
 abbrev pub IsTraceShown : Form → List ℕ → Program → RunOptions → Run → List ℕ → Type 0
 IsTraceShown (States part) text program options run out = IsStated part text program options run out
+IsTraceShown (Bytes part) text program options run out = IsBytes part run.report (turns_in program options run.events.items) out
 IsTraceShown form text program options run out = IsFormShown form text program options run out
 
 -- why there is none: too many turns are to be shown

@@ -5,11 +5,12 @@ ghost use Rattle.lrc_protocol.specs.Run.{turns_of_logs};
 ghost use Rattle.lrc_cli_answer.specs.Texts.{IsTextOf};
 ghost use Rattle.lrc_cli_answer.specs.Labels.{labels_in};
 ghost use Rattle.lrc_cli_runs.specs.Lines.{AreLinesIn};
-ghost use Rattle.lrc_cli_runs.specs.Runs.{IsRunWith};
+ghost use Rattle.lrc_cli_runs.specs.Runs.{IsRunWith, turns_in};
 ghost use Rattle.lrc_world.specs.declared.keep.Keep.TheVariants.{All as Whole};
-ghost use Rattle.lrc_cli_runs.specs.Shown.{IsFormShown, IsRunFor, IsTraceFault, IsTraceShown, IsWrittenAs};
-ghost use Rattle.lrc_cli_args.specs.declared.choice.Form.TheVariants.{States};
+ghost use Rattle.lrc_cli_runs.specs.Shown.{IsBytes, IsFormShown, IsRunFor, IsTraceFault, IsTraceShown, IsWrittenAs};
+ghost use Rattle.lrc_cli_args.specs.declared.choice.Form.TheVariants.{Bytes, States};
 ghost use Rattle.lrc_cli_args.specs.declared.choice.Part.{Part as ShownPart};
+ghost use Rattle.lrc_cli_args.specs.declared.choice.RunOptions.{RunOptions as AnyOptions};
 ghost use Rattle.lrc_cli_args.specs.declared.choice.Shape.TheVariants.{Trace};
 ghost use Rattle.lrc_lang.specs.declared.program.Program.{Program as AnyProgram};
 ghost use Rattle.lrc_lines.specs.Statements.{act_statements};
@@ -22,9 +23,11 @@ ghost use Rattle.lrc_turns_text.specs.TurnsText.{messages_text};
 
 use crate::stated::stated;
 use lrc_acts_text::{acts_part, json_part, rapid_part};
+use lrc_bytes_turns::{Section, bytes_part};
+use lrc_chart_rows::turns_of;
 use lrc_cli_answer::fault::Fault;
 use lrc_cli_answer::printout::in_one;
-use lrc_cli_args::choice::{Form, RunOptions};
+use lrc_cli_args::choice::{Form, Part, RunOptions};
 use lrc_events::events_part;
 use lrc_labels::read_labels;
 use lrc_lang::lines::lines_of;
@@ -54,13 +57,14 @@ pub(crate) fn traced(
 {
     match form {
         Form::States(part) => stated(alloc, part, text, program, options, run),
+        Form::Bytes(part) => Ok(bytes_parts(alloc, part, run)?),
         Form::Acts | Form::Messages | Form::Events | Form::Json | Form::Rapid => {
             Ok(trace_parts(alloc, form, text, program, options, run)?)
         }
     }
 }
 
-// A trace in a form that is not one of states.
+// A trace in a form that is one of acts, messages or events.
 fn trace_parts(
     alloc: Global,
     form: Form,
@@ -71,7 +75,8 @@ fn trace_parts(
 ) -> Result<Vec<Vec<u8>>, AllocError>
     requires text { IsTextOf text.now program.now }
     requires ran { IsRunWith program.now options.now Whole run.now }
-    requires form { (part : ShownPart) → form ≢ States part }
+    requires stateless { (part : ShownPart) → form ≢ States part }
+    requires byteless { (part : ShownPart) → form ≢ Bytes part }
     ensures { IfOk result (λ parts. IsFormShown form text.now program.now options.now run.now
         (whole_text parts.items)) }
 {
@@ -92,7 +97,8 @@ fn form_part(
 ) -> Result<Vec<u8>, AllocError>
     requires ran { IsRunWith program.now options.now Whole run.now }
     requires each { length lines.now ≡ length run.now.report.acts.items }
-    requires form { (part : ShownPart) → form ≢ States part }
+    requires stateless { (part : ShownPart) → form ≢ States part }
+    requires byteless { (part : ShownPart) → form ≢ Bytes part }
     ensures { IfOk result (λ part. IsWrittenAs form text.now program.now options.now run.now
         lines.now part.items) }
 {
@@ -106,7 +112,7 @@ fn form_part(
         Form::Events => events_of(alloc, turns),
         Form::Json => json_of(alloc, text, program, run, lines),
         Form::Rapid => rapid_part(alloc, acts, lines, program.locks, nodes),
-        Form::States(_) => unreachable!(),
+        Form::States(_) | Form::Bytes(_) => unreachable!(),
     }
 }
 
@@ -122,6 +128,41 @@ fn messages_of(
 {
     let order: Vec<u8> = turns.iter().map(|turn| turn.node).collect(alloc)?;
     messages_part(alloc, logs, &order, lines)
+}
+
+// The turns of a part of a run of which all is kept, each with the bytes of its messages.
+fn bytes_parts(alloc: Global, part: Part, run: &Run) -> Result<Vec<Vec<u8>>, AllocError>
+    ensures { (program : AnyProgram) (options : AnyOptions)
+        → IsRunWith program options Whole run.now
+        → IfOk result (λ parts. IsBytes part run.now.report
+        (turns_in program options run.now.events.items) (whole_text parts.items)) }
+{
+    let bytes = bytes_of(alloc, part, run)?;
+    in_one(alloc, bytes)
+}
+
+// The same in one text, of the events that are kept.
+fn bytes_of(alloc: Global, part: Part, run: &Run) -> Result<Vec<u8>, AllocError>
+    ensures { IfOk result (λ bytes. IsBytes part run.now.report run.now.turned.items bytes.items) }
+{
+    let turned = run.turned.as_slice();
+    let events: Vec<Event> = turned.iter().map(|turn| turn.event).collect(alloc)?;
+    let order: Vec<u8> = turned.iter().map(|turn| turn.node).collect(alloc)?;
+    let turns = turns_of(alloc, &run.report.logs, &order)?;
+    bytes_part(alloc, section_of(part, &events), &turns)
+}
+
+// The part of a run with these events.
+fn section_of(part: Part, events: &[Event]) -> Section<'_>
+    ensures events { result.events.now ≡ events.entry.now }
+    ensures from { result.from ≡ part.from }
+    ensures to { result.to ≡ part.to }
+{
+    Section {
+        events,
+        from: part.from,
+        to: part.to,
+    }
 }
 
 // The events of these turns.

@@ -39,7 +39,7 @@ const THREADS_HELP: &str =
     "Runs each node on a thread of its own; not with events or a random order";
 
 const FORM_HELP: &str =
-    "How the acts are shown: acts, events (as `--events` reads them), json, rapid (for race detectors), or states (the turns, with the states of the nodes)";
+    "How the acts are shown: acts, events (as `--events` reads them), json, rapid (for race detectors), bytes (the turns, with the bytes of their messages), or states (the turns, with the states of the nodes)";
 
 const MESSAGES_HELP: &str = "With the acts: the messages that are taken and sent between them";
 
@@ -52,10 +52,10 @@ const TO_HELP: &str =
     "The position of the last act that is shown. Left out, the run is shown to its end";
 
 const STATES_FROM_HELP: &str =
-    "With the states: the position of the act of the first turn that is shown, counted from 0. Left out, the run is shown from its beginning";
+    "With the bytes or the states: the position of the act of the first turn that is shown, counted from 0. Left out, the run is shown from its beginning";
 
 const STATES_TO_HELP: &str =
-    "With the states: the position of the act of the last turn that is shown. Left out, the run is shown to its end";
+    "With the bytes or the states: the position of the act of the last turn that is shown. Left out, the run is shown to its end";
 
 const STEP_FROM_HELP: &str =
     "The position of the act of the first turn that is shown, counted from 0. Left out, the run is shown from its beginning";
@@ -73,6 +73,9 @@ const ACTS_NODES_HELP: &str =
     "How many nodes there are: 1 to 16. Left out it is one more than the greatest that acts";
 
 const PAIRS_HELP: &str = "Names every pair of acts that race, in place of the races";
+
+const ALL_HELP: &str =
+    "Where reads are not allowed, or not in order, names each of them, in place of the first";
 
 const MOST_HELP: &str = "How many states the search may meet: 1 to 100000000";
 
@@ -278,7 +281,7 @@ fn trace_command<'w>(alloc: Global) -> Result<Command<'w>, AllocError>
     ensures local { IfOk result (λ command. (fields_of command).has_globals ≡ false) }
 {
     let command = Command::new(alloc, "trace").about(
-        "Shows the acts of a run, one on each line, or its turns with the states of the nodes",
+        "Shows the acts of a run, one on each line, or its turns with the bytes of their messages or the states of the nodes",
     );
     let command = taking_showing_options(alloc, command);
     let command = taking(command, form(alloc));
@@ -343,7 +346,8 @@ fn judge_command<'w>(alloc: Global) -> Result<Command<'w>, AllocError>
     );
     let command = taking(Ok(command), file(alloc, ACTS_FILE_HELP));
     let command = taking(command, bare_number(alloc, "nodes", "N", ACTS_NODES_HELP));
-    taking(command, flag_option(alloc, "pairs", PAIRS_HELP))
+    let command = taking(command, flag_option(alloc, "pairs", PAIRS_HELP));
+    taking(command, flag_option(alloc, "all", ALL_HELP))
 }
 
 fn explore_command<'w>(alloc: Global) -> Result<Command<'w>, AllocError>

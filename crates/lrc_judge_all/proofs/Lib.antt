@@ -1,0 +1,5 @@
+pub mod Allowing
+pub mod LastOne
+pub mod Memory
+pub mod GivenReads
+pub mod Telling

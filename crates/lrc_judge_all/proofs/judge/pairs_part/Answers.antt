@@ -1,0 +1,1 @@
+use Rattle.lrc_judge_all.proofs.judge.pairs_part.Goals as goal

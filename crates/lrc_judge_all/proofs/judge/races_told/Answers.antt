@@ -1,0 +1,1 @@
+use Rattle.lrc_judge_all.proofs.judge.races_told.Goals as goal

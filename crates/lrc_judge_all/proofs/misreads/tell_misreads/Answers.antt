@@ -1,0 +1,13 @@
+use Rattle.std.proofs.Common.{ℕ, Option, MatchOption, subst}
+use Rattle.lrc_trace.specs.Reading.{ReadsLazily}
+use Rattle.lrc_judge.specs.Reading.{IsFirstMisread}
+use Rattle.lrc_acts.specs.JudgeLines.{lazy_line}
+use Rattle.lrc_judge_all.specs.JudgesAll.{lazy}
+use Rattle.lrc_judge_all.proofs.misreads.tell_misreads.Goals as goal
+
+pub returns-in_ok-extend_from_slice-in-None : goal.returns-in_ok-extend_from_slice-in-None
+returns-in_ok-extend_from_slice-in-None c = record {
+  added = lazy_line;
+  whole = c.in_ok-extend_from_slice-in-None.ensures.items;
+  so = lazy c.in-None.ensures;
+}
