@@ -1,5 +1,5 @@
 -- Where a token can stand, it and what completes the expression behind it complete the expression in front of it.
-use Rattle.std.proofs.Common.{◌≡◌, ℕ, List, [], ◌∷◌, Option, Some, None, refl, sym, ap, subst}
+use Rattle.std.proofs.Common.{◌≡◌, ℕ, List, [], ◌∷◌, Option, Some, None, refl, sym, subst}
 use Rattle.lrc_lang.specs.declared.program.Operator.{Operator}
 use Rattle.lrc_named_tokens.specs.declared.token.Keyword.{Keyword}
 use Rattle.lrc_named_tokens.specs.declared.token.Keyword.TheVariants as keywords
@@ -14,14 +14,14 @@ use Rattle.lrc_named_tree.specs.Grammar as grammar
 use Rattle.lrc_named_tree.specs.Grammar.{IsFactor, IsExpression, AreSeparate, the_last, one_of, IsTerm, term, IsSum, sum}
 use Rattle.lrc_named_expression.specs.Link.{Link, factors, terms, sums, all_hold, one_holds, link_of}
 use Rattle.lrc_named_expression.specs.Partial.{Pending, Tests, Level, Opening, group, argument, index, Around, Place, Partial}
-use Rattle.lrc_named_expression.specs.Partial.{at_test, at_factor, after_name, after_index, after_call, after_operand, no_tests, bare, nothing, at}
-use Rattle.lrc_named_expression.specs.Partial.{append, push, joined, negated, joined_both, joined_either, sum_of, test_of, both_of, whole_of, waiting}
+use Rattle.lrc_named_expression.specs.Partial.{at_test, at_factor, after_name, after_index, after_call, after_operand, no_tests, bare, nothing}
+use Rattle.lrc_named_expression.specs.Partial.{append, push, joined, negated, joined_both, sum_of, both_of, whole_of, waiting}
 use Rattle.lrc_named_expression.specs.Partial.{compared_with, linked}
-use Rattle.lrc_named_expression.specs.Partial.{join_or_close, closed, close, go_on, opened, begin, begin_test, behind_index, behind_name, behind_call}
+use Rattle.lrc_named_expression.specs.Partial.{join_or_close, closed, close, go_on, begin, begin_test, behind_index, behind_name, behind_call}
 use Rattle.lrc_named_expression.specs.Partial.{moved, partial_with, operand_at, value_in, value_of}
 use Rattle.lrc_named_expression.proofs.Options.{none_some, some_same}
 use Rattle.lrc_named_expression.proofs.From.{around, FromTerm, term_goes_on, term_ends, sum_goes_on, sum_ends, FromComparison, compares, comparison_ends}
-use Rattle.lrc_named_expression.proofs.From.{FromBoth, both_goes_on, both_ends, FromEither, either_goes_on, either_ends, FromValue, closes, is_all}
+use Rattle.lrc_named_expression.proofs.From.{FromBoth, both_goes_on, both_ends, either_goes_on, either_ends, FromValue, closes, is_all}
 use Rattle.lrc_named_expression.proofs.From.{FromClosed, closes_group, closes_call, next_argument, closes_index, FromIndices, index_goes_on, indices_end}
 use Rattle.lrc_named_expression.proofs.From.{Starts, StartsTest, FromCall, FromName, an_element, a_call, GoesOn, CompletesAt, Completes}
 use Rattle.lrc_named_expression.proofs.From.{split_expression, ends_term, join_sum, join_test, join_both, join_expression, join_indices, append_push}

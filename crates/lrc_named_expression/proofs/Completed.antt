@@ -1,5 +1,5 @@
 -- Every expression that has begun can be completed.
-use Rattle.std.proofs.Common.{◌≡◌, ℕ, ◌+◌, List, [], ◌∷◌, Some, None, refl}
+use Rattle.std.proofs.Common.{ℕ, ◌+◌, List, [], ◌∷◌, refl}
 use Rattle.lrc_named_tokens.specs.declared.token.Sign.{Sign}
 use Rattle.lrc_named_tokens.specs.declared.token.Sign.TheVariants as signs
 use Rattle.lrc_named_tokens.specs.Token.{Token}
@@ -9,9 +9,9 @@ use Rattle.lrc_named_tree.specs.Grammar.{Numbered, on, numbered}
 use Rattle.lrc_named_tree.specs.Grammar as grammar
 use Rattle.lrc_named_expression.specs.Partial.{Level, Opening, group, argument, index, Around, Place, Partial}
 use Rattle.lrc_named_expression.specs.Partial.{at_test, at_factor, after_name, after_index, after_call, after_operand, bare, push, whole_of}
-use Rattle.lrc_named_expression.proofs.From.{FromClosed, closes_group, closes_call, closes_index, FromIndices, indices_end, term_ends, sum_ends}
+use Rattle.lrc_named_expression.proofs.From.{FromClosed, closes_group, closes_call, closes_index, indices_end, term_ends, sum_ends}
 use Rattle.lrc_named_expression.proofs.From.{comparison_ends, both_ends, either_ends, FromValue, closes, is_all}
-use Rattle.lrc_named_expression.proofs.From.{Starts, StartsTest, FromCall, an_element, GoesOn, CompletesAt, Completes, join_test}
+use Rattle.lrc_named_expression.proofs.From.{an_element, GoesOn, CompletesAt, Completes, join_test}
 
 -- the sign that closes a bracket
 abbrev pub closer : Opening → Sign

@@ -1,20 +1,20 @@
 -- What completes an expression of which some tokens have come.
-use Rattle.std.proofs.Common.{◌≡◌, ℕ, List, [], ◌∷◌, Option, Some, None, refl, sym, ap, subst}
+use Rattle.std.proofs.Common.{◌≡◌, ℕ, List, [], ◌∷◌, Option, None, refl, sym, ap, subst}
 use Rattle.lrc_lang.specs.declared.program.Operator.{Operator}
 use Rattle.lrc_named_tokens.specs.declared.token.Keyword.TheVariants as keywords
 use Rattle.lrc_named_tokens.specs.declared.token.Sign.{Sign}
 use Rattle.lrc_named_tokens.specs.declared.token.Sign.TheVariants as signs
-use Rattle.lrc_named_tokens.specs.Token.{Token, keyword, sign}
+use Rattle.lrc_named_tokens.specs.Token.{keyword, sign}
 use Rattle.lrc_named_tree.specs.Tree.{Named, Expression, Expressions}
 use Rattle.lrc_named_tree.specs.Tree as tree
-use Rattle.lrc_named_tree.specs.Grammar.{Numbered, on, named, JoinsFactors, JoinsTerms, Compares}
+use Rattle.lrc_named_tree.specs.Grammar.{Numbered, on, JoinsFactors, JoinsTerms, Compares}
 use Rattle.lrc_named_tree.specs.Grammar.{IsFactor, AreIndices, no_index, one_index, AreArguments, AreSeparate, the_last, one_of}
 use Rattle.lrc_named_tree.specs.Grammar.{IsTerm, term, AreFactors, no_factor, one_factor, IsSum, sum, AreTerms, no_term, one_term}
-use Rattle.lrc_named_tree.specs.Grammar.{IsTest, negation, one_sum, comparison, IsBoth, both, AreTests, no_test, one_test}
+use Rattle.lrc_named_tree.specs.Grammar.{IsTest, one_sum, comparison, IsBoth, both, AreTests, no_test, one_test}
 use Rattle.lrc_named_tree.specs.Grammar.{IsExpression, expression, AreBoths, no_both, one_both}
 use Rattle.lrc_named_expression.specs.Partial.{Pending, Tests, Level, Opening, group, argument, index, Around, Place, Partial}
-use Rattle.lrc_named_expression.specs.Partial.{at_test, at_factor, after_name, after_index, after_call, after_operand, no_tests, bare, nothing}
-use Rattle.lrc_named_expression.specs.Partial.{append, push, joined, negated, joined_both, joined_either, term_of, whole_of}
+use Rattle.lrc_named_expression.specs.Partial.{at_test, at_factor, after_name, after_index, after_call, after_operand, no_tests}
+use Rattle.lrc_named_expression.specs.Partial.{append, push, joined, negated, joined_both, joined_either}
 
 abbrev pub around : Opening → Level → Around
 around opening level = record { opening = opening; level = level }

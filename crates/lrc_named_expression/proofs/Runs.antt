@@ -2,7 +2,7 @@
 use Rattle.std.proofs.Common.{◌≡◌, ℕ, ◌+◌, List, [], ◌∷◌, ◌++◌, Option, Some, None, refl}
 use Rattle.lrc_named_tokens.specs.Token.{Token}
 use Rattle.lrc_named_tree.specs.Tree.{Expression}
-use Rattle.lrc_named_tree.specs.Grammar.{Numbered, on, numbered, IsExpression}
+use Rattle.lrc_named_tree.specs.Grammar.{Numbered, numbered, IsExpression}
 use Rattle.lrc_named_expression.specs.Partial.{Partial, nothing, partial_with}
 use Rattle.lrc_named_expression.specs.Run.{run}
 use Rattle.lrc_named_expression.proofs.Options.{none_some}

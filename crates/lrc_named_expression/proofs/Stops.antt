@@ -5,7 +5,7 @@ use Rattle.lrc_named_tokens.specs.Token.{Token, sign}
 use Rattle.lrc_named_tree.specs.Tree.{Expression}
 use Rattle.lrc_named_tree.specs.Grammar.{Numbered, on, IsEnding, EndsExpression, IsExpression}
 use Rattle.lrc_named_expression.specs.Partial.{Level, Around, Place, Partial, nothing, at_test, at_factor, after_name, after_index, after_call, after_operand}
-use Rattle.lrc_named_expression.specs.Partial.{go_on, behind_index, behind_name, moved, partial_with, operand_at, value_in, value_of}
+use Rattle.lrc_named_expression.specs.Partial.{go_on, moved, partial_with, operand_at, value_in, value_of}
 use Rattle.lrc_named_expression.proofs.Options.{none_some, some_same}
 use Rattle.lrc_named_expression.proofs.From.{Completes}
 use Rattle.lrc_named_expression.proofs.Turns.{Turns, goes, ends, turns}

@@ -1,26 +1,26 @@
 -- A token of what completes an expression takes it one step on.
-use Rattle.std.proofs.Common.{◌≡◌, ℕ, List, [], ◌∷◌, Option, Some, None, refl, sym, ap, subst}
+use Rattle.std.proofs.Common.{◌≡◌, ℕ, List, [], ◌∷◌, Option, Some, None, refl, ap, subst}
 use Rattle.lrc_lang.specs.declared.program.Operator.{Operator}
 use Rattle.lrc_named_tokens.specs.declared.token.Keyword.TheVariants as keywords
 use Rattle.lrc_named_tokens.specs.declared.token.Sign.{Sign}
 use Rattle.lrc_named_tokens.specs.declared.token.Sign.TheVariants as signs
-use Rattle.lrc_named_tokens.specs.Token.{Token, number, name, keyword, sign, finish}
+use Rattle.lrc_named_tokens.specs.Token.{Token, keyword, sign}
 use Rattle.lrc_named_tree.specs.Tree.{Named, Expression, Expressions}
 use Rattle.lrc_named_tree.specs.Tree as tree
 use Rattle.lrc_named_tree.specs.Grammar.{Numbered, on, named, JoinsFactors, times, over, modulo, JoinsTerms, plus, minus}
 use Rattle.lrc_named_tree.specs.Grammar.{Compares, equal, not_equal, less, less_or_equal, greater, greater_or_equal}
 use Rattle.lrc_named_tree.specs.Grammar as grammar
 use Rattle.lrc_named_tree.specs.Grammar.{IsFactor, AreArguments, IsTest, IsExpression}
-use Rattle.lrc_named_expression.specs.Link.{Link, factors, terms, sums, link_of_sign}
+use Rattle.lrc_named_expression.specs.Link.{factors, terms, sums, link_of_sign}
 use Rattle.lrc_named_expression.specs.Partial.{Pending, Tests, Level, Opening, group, argument, index, Around, Place, Partial}
-use Rattle.lrc_named_expression.specs.Partial.{at_test, at_factor, after_name, after_index, after_call, after_operand, no_tests, bare, nothing, at}
-use Rattle.lrc_named_expression.specs.Partial.{joined, negated, joined_both, whole_of, waiting, join_or_close, closed, close, go_on, opened, begin, begin_test, behind_index, behind_name, behind_call}
+use Rattle.lrc_named_expression.specs.Partial.{at_test, at_factor, after_name, after_index, after_call, after_operand, no_tests, bare, at}
+use Rattle.lrc_named_expression.specs.Partial.{joined, negated, joined_both, whole_of, waiting, join_or_close, closed, close, go_on, begin, begin_test, behind_index, behind_name, behind_call}
 use Rattle.lrc_named_expression.specs.Partial.{moved, partial_with, operand_at, value_in, value_of}
 use Rattle.lrc_named_expression.proofs.Options.{none_some}
 use Rattle.lrc_named_expression.proofs.From.{around, FromTerm, term_goes_on, term_ends, sum_goes_on, sum_ends, compares, comparison_ends}
-use Rattle.lrc_named_expression.proofs.From.{FromBoth, both_goes_on, both_ends, FromEither, either_goes_on, either_ends, FromValue, closes, is_all}
+use Rattle.lrc_named_expression.proofs.From.{FromBoth, both_goes_on, both_ends, either_goes_on, either_ends, closes, is_all}
 use Rattle.lrc_named_expression.proofs.From.{FromClosed, closes_group, closes_call, next_argument, closes_index, FromIndices, index_goes_on, indices_end}
-use Rattle.lrc_named_expression.proofs.From.{Starts, StartsTest, FromCall, FromName, an_element, a_call, GoesOn, CompletesAt, Completes}
+use Rattle.lrc_named_expression.proofs.From.{FromName, an_element, a_call, CompletesAt, Completes}
 use Rattle.lrc_named_expression.proofs.From.{split_term, split_sum, split_expression, split_indices, split_arguments, tests_from}
 
 -- The next token can stand there, and the tokens behind it complete what has come with it; or the expression has ended in

@@ -7,7 +7,7 @@ use Rattle.lrc_named_tokens.specs.declared.token.Sign.TheVariants as signs
 use Rattle.lrc_named_tokens.specs.Token.{Token}
 use Rattle.lrc_named_tokens.specs.Token as token
 use Rattle.lrc_named_tree.specs.Tree.{Named, Expression, Expressions}
-use Rattle.lrc_named_tree.specs.Grammar.{Numbered, on, named}
+use Rattle.lrc_named_tree.specs.Grammar.{named}
 use Rattle.lrc_named_expression.specs.Link.{Link, factors, terms, sums, all_hold, one_holds, link_of}
 
 -- a left side, and the operator behind it
