@@ -46,28 +46,8 @@ other_deed machine asks.Barrier not_read free = refl
 other_deed machine (asks.Trap cause) not_read free = refl
 other_deed machine asks.End not_read free = refl
 
-pub acquire_no_read : (lock word : ℕ) → asks.Acquire lock ≡ asks.Read word → ⊥
-acquire_no_read lock word e = absurd (cc)
-
 pub same_lock : (lock other : ℕ) → asks.Acquire lock ≡ asks.Acquire other → lock ≡ other
 same_lock lock other e = cc
-
--- what is asked for is there
-ask_fits : (thread : Thread) (next : Next) → IsFine thread next → IsThere thread.setting.words thread.setting.locks (ask_of next)
-ask_fits thread (reads word after) fine = fine.0
-ask_fits thread (acquires lock after) fine = fine.0
-ask_fits thread (quiet after) fine = tt
-ask_fits thread (prints value after) fine = tt
-ask_fits thread (writes word value after) fine = tt
-ask_fits thread (releases lock after) fine = tt
-ask_fits thread (arrives after) fine = tt
-ask_fits thread (departs after) fine = tt
-ask_fits thread (traps cause) fine = tt
-ask_fits thread ends fine = tt
-
-pub asked_fits : (thread : Thread) (ask : Ask) → ask ≡ ask_of (next_of thread) → IsThere thread.setting.words thread.setting.locks ask
-asked_fits thread ask asked =
-    subst (IsThere thread.setting.words thread.setting.locks) (sym asked) (ask_fits thread (next_of thread) (next_of-fine thread))
 
 -- what a deed leads to
 abbrev pub after_deed : Plain → ℕ → Deed → Plain

@@ -60,13 +60,6 @@ entry_less x y h =
       | inr (equal, less) ↦ inr (lane_same x.lane y.lane equal, nat_less x.position y.position less)
     ]
 
-pub entry_same : (x y : Entry) → entry_cmp x y ≡ Equal → x ≡ y
-entry_same x y h =
-    let (lanes, positions) = then_equal (lane_cmp x.lane y.lane) _ h in
-    let l : x.lane ≡ y.lane = lane_same x.lane y.lane lanes in
-    let p : x.position ≡ y.position = nat_equal x.position y.position positions in
-    let e : ◌≡◌ {A = Entry} (record { lane = x.lane; position = x.position }) (record { lane = y.lane; position = y.position }) = cc in e
-
 -- what the test says whether two lanes differ
 abbrev pub lane_eq : Lane → Lane → Bool
 lane_eq a b = (a.word == b.word) && ((a.value == b.value) && (a.node == b.node))

@@ -206,9 +206,6 @@ pub record IsMarkedTo (text : List ℕ) (line : ℕ) (rest : List ℕ) (lines : 
   pub past : IsPast text passed line rest
   pub kept : (more : List Placed) → marked false (passed ++ more) ≡ lines ++ marked behind more
 
-pub marked_start : (text : List ℕ) → IsMarkedTo text 1 text [] false
-marked_start text = record { passed = []; past = nothing_past text; kept = λ more. refl }
-
 module _ (text : List ℕ) (line : ℕ) (rest : List ℕ) (lines new : List ℕ) (behind : Bool) (m : IsMarkedTo text line rest lines behind) (found : Placed) (next : ℕ)
     (last : List ℕ) (is : NextIs line rest found next last) (kept : new ≡ lines ++ marks behind found) where
   kept_one : (more : List Placed) → marked false (m.passed ++ found ∷ more) ≡ new ++ marked (is_seam found.lexeme) more

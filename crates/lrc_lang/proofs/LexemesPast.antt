@@ -86,9 +86,3 @@ number_fits {value = value} (takes_number {digits = digits} h is inside) e =
     let values : value_of digits ≡ value = cc in
     omega (arith, values, is.in_range)
 number_fits _ e = absurd (cc (ap first_of_all e))
-
-pub found_number_fits : {line own behind value : ℕ} {text rest : List ℕ} → NextIs line text (at own (token (number value))) behind rest
-    → value ≤ 18446744073709551615
-found_number_fits {behind = behind} {value = value} {rest = rest} next =
-    let more = follows_exists behind rest (token (number value)) in
-    number_fits (next.joined more.0 more.1) refl

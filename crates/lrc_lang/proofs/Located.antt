@@ -69,9 +69,6 @@ end_here text rest empty line more none =
 
 -- ---- what is passed over
 
-pub nothing_passed : (line : ℕ) (text : List ℕ) → PassesTo line text line text
-nothing_passed line text all inside = (inside, refl)
-
 pub passes_on : {line between behind : ℕ} {text middle rest : List ℕ} → PassesTo line text between middle → PassesTo between middle behind rest
     → PassesTo line text behind rest
 passes_on front back all inside =

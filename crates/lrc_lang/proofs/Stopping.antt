@@ -40,42 +40,6 @@ refused BadByte s s' l l' bad_byte h = refl
 refused BadByte s s' l l' bad_number h = absurd h
 refused _ s s' l l' next h = absurd h
 
-pub refused_not_memory : (kind : FaultKind) (s : ParserState) (names : Names) (next : Lexeme) → IsRefused kind s names next → kind ≢ NoMemory
-refused_not_memory Unexpected s names next h = λ e. cc
-refused_not_memory BadByte s names next h = λ e. cc
-refused_not_memory _ s names next h = absurd h
-
-pub refused_lists : (kind : FaultKind) (s : ParserState) (names : Names) (next : Lexeme) (some : List Kind) → IsRefused kind s names next
-    → some ≡ kinds_taken s → ListsKinds kind s some
-refused_lists Unexpected s names next some h are = are
-refused_lists BadByte s names next some h are = are
-refused_lists _ s names next some h are = absurd h
-
-taken_not_none : {A : Type 0} (x : Option A) → is_some x ≡ true → x ≡ None → ⊥
-taken_not_none None h e = cc
-taken_not_none (Some a) h e = none_some (sym e)
-
-not_unexpected : (s s' : code_state.ParserState) (l l' : code_limits.Limits) (next : Lexeme) → IsTaken (state_seen s) (names_seen l) next
-    → TakesLexeme (Err Unexpected) s l next s' l' → ⊥
-not_unexpected s s' l l' (token t) taken (inl none) = taken_not_none _ taken none
-not_unexpected s s' l l' (token t) taken (inr passed) = passed.2
-not_unexpected s s' l l' bad_byte taken is = taken
-not_unexpected s s' l l' bad_number taken is = cc
-
-not_bad_byte : (s s' : code_state.ParserState) (l l' : code_limits.Limits) (next : Lexeme) → IsTaken (state_seen s) (names_seen l) next
-    → TakesLexeme (Err BadByte) s l next s' l' → ⊥
-not_bad_byte s s' l l' (token t) taken (inl is) = is
-not_bad_byte s s' l l' (token t) taken (inr passed) = passed.2
-not_bad_byte s s' l l' bad_byte taken is = taken
-not_bad_byte s s' l l' bad_number taken is = cc
-
--- what it takes but for its size has another fault, of which no kinds are told
-pub limit_lists : (kind : FaultKind) (s s' : code_state.ParserState) (l l' : code_limits.Limits) (next : Lexeme) (some : List Kind)
-    → IsTaken (state_seen s) (names_seen l) next → TakesLexeme (Err kind) s l next s' l' → ListsKinds kind (state_seen s) some
-limit_lists Unexpected s s' l l' next some taken is = absurd (not_unexpected s s' l l' next taken is)
-limit_lists BadByte s s' l l' next some taken is = absurd (not_bad_byte s s' l l' next taken is)
-limit_lists _ s s' l l' next some taken is = tt
-
 -- ---- what has been read
 
 -- The tokens so far have no fault, and the parser is behind them.

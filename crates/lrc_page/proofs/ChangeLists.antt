@@ -78,10 +78,6 @@ change_at-append (x ∷ xs) ys offset =
     ap (λ o. option_or o (here x offset)) (change_at-append xs ys offset)
     ∙ option_or-assoc (change_at ys offset) (change_at xs offset) (here x offset)
 
-pub change_at-push : (xs : List Change) (c : Change) (offset : ℕ)
-    → change_at (xs ++ c ∷ []) offset ≡ option_or (here c offset) (change_at xs offset)
-change_at-push xs c offset = change_at-append xs (c ∷ []) offset
-
 -- an offset that no change names
 pub change_at-unnamed : (cs : List Change) (offset : ℕ) → All (λ c. c.offset ≢ offset) cs → change_at cs offset ≡ None
 change_at-unnamed [] offset others = refl

@@ -21,20 +21,9 @@ use Rattle.lrc_page.specs.Place.{page_of, offset_of, pages_of}
 
 -- ---- sizes
 
-pub words_of-positive : (size : Size) → 0 < words_of size
-words_of-positive Words64 = omega arith
-words_of-positive Words256 = omega arith
-
 pub words_of-most : (size : Size) → words_of size ≤ 256
 words_of-most Words64 = omega arith
 words_of-most Words256 = omega arith
-
--- sizes with as many words are one
-pub same_size : (a b : Size) → words_of a ≡ words_of b → a ≡ b
-same_size Words64 Words64 same = refl
-same_size Words64 Words256 same = absurd (omega (arith, same))
-same_size Words256 Words64 same = absurd (omega (arith, same))
-same_size Words256 Words256 same = refl
 
 -- a list of zeros has zero everywhere
 get_or-zeros : (n i : ℕ) → let none : ℕ = 0 in get_or (replicate n none) i none ≡ none
@@ -62,24 +51,12 @@ pub length-zero_page : (size : Size) → length (zero_page size) ≡ words_of si
 unfolding zero_page
 length-zero_page size = length-zeros (words_of size)
 
-pub get_or-zero_page : (size : Size) (offset : ℕ) → get_or (zero_page size) offset 0 ≡ 0
-unfolding zero_page
-get_or-zero_page size offset = get_or-zeros (words_of size) offset
-
 -- ---- the places of words
 
 -- a word is on one of the pages
 pub page_of-within : (word words : ℕ) (size : Size) → word < words → page_of word size < pages_of words size
 page_of-within word words Words64 below = omega arith
 page_of-within word words Words256 below = omega arith
-
-pub page_of-most : (word : ℕ) (size : Size) → word < MOST_WORDS → page_of word size < MOST_PAGES
-page_of-most word Words64 below = omega arith
-page_of-most word Words256 below = omega arith
-
-pub pages_of-most : (words : ℕ) (size : Size) → words ≤ MOST_WORDS → pages_of words size ≤ MOST_PAGES
-pages_of-most words Words64 few = omega arith
-pages_of-most words Words256 few = omega arith
 
 pub offset_of-within : (word : ℕ) (size : Size) → offset_of word size < words_of size
 offset_of-within word Words64 = omega arith

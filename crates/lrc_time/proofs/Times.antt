@@ -7,13 +7,6 @@ use Rattle.std.proofs.lemmas.Grind.{same_number_lists}
 use Rattle.std.proofs.lemmas.List.Sums.{sum_by-cons, sum_by-set}
 use Rattle.lrc_time.specs.Time.{zeros, entry, Covers, covers, joined, weight_of}
 
--- what a time has at a node, for a time that is not empty
-pub entry-first : (x : ℕ) (xs : List ℕ) → entry (x ∷ xs) zero ≡ x
-entry-first x xs = refl
-
-pub entry-later : (x : ℕ) (xs : List ℕ) (node : ℕ) → entry (x ∷ xs) (suc node) ≡ entry xs node
-entry-later x xs node = refl
-
 -- a time without entries knows nothing
 pub entry-none : (node : ℕ) → entry [] node ≡ 0
 entry-none node = refl
@@ -135,29 +128,10 @@ covers-joined_second a b node = omega (arith, entry-joined a b node)
 pub covers-joined_least : (a b c : List ℕ) → Covers c a → Covers c b → Covers c (joined a b)
 covers-joined_least a b c above_a above_b node = omega (arith, entry-joined a b node, above_a node, above_b node)
 
-pub joined-comm : (a b : List ℕ) → joined a b ≡ joined b a
-joined-comm a b =
-    same_times _ _ (omega (arith, length-joined a b, length-joined b a))
-    (λ node. omega (arith, entry-joined a b node, entry-joined b a node))
-
-pub joined-assoc : (a b c : List ℕ) → joined (joined a b) c ≡ joined a (joined b c)
-joined-assoc a b c =
-    same_times _ _
-    (omega (arith, length-joined (joined a b) c, length-joined a b, length-joined a (joined b c), length-joined b c))
-    (λ node. omega (arith, entry-joined (joined a b) c node, entry-joined a b node, entry-joined a (joined b c) node, entry-joined b c node))
-
--- joins of times that cover cover
-pub covers-joined_both : (a b c d : List ℕ) → Covers a c → Covers b d → Covers (joined a b) (joined c d)
-covers-joined_both a b c d first second node =
-    omega (arith, entry-joined a b node, entry-joined c d node, first node, second node)
-
 -- a time that covers the other is their join
 pub joined-covers : (a b : List ℕ) → length a ≡ length b → Covers a b → joined a b ≡ a
 joined-covers a b long above =
     same_times (joined a b) a (length-joined_same a b long) (λ node. omega (arith, entry-joined a b node, above node))
-
-pub joined-self : (a : List ℕ) → joined a a ≡ a
-joined-self a = joined-covers a a refl (covers-refl a)
 
 pub joined-none : (a : List ℕ) → joined a [] ≡ a
 joined-none [] = refl

@@ -20,13 +20,6 @@ pub no_depart : (d : Deed) → (d ≡ Depart → ⊥) → is_depart d ≡ false
 no_depart Depart h = absurd (h refl)
 no_depart _ h = refl
 
--- an interval that is reached is at most one more than the position
-pub interval_at-bound : (run : List Act) (node n : ℕ) → n ≤ length run → interval_at run node n ≤ n + 1
-interval_at-bound run node n within =
-    let few = count_by-le-length (λ (a : Act). a.node == node && closes a.deed) (take n run) in
-    let short = length-take-le n run within in
-    omega arith
-
 -- a deed that closes no interval
 pub no_close : (d : Deed) → ((l : ℕ) → d ≡ Acquire l → ⊥) → ((l : ℕ) → d ≡ Release l → ⊥) → (d ≡ Arrive → ⊥) → closes d ≡ false
 no_close (Acquire l) a r b = absurd (a l refl)
