@@ -21,11 +21,13 @@ reads lines `decode HEX` instead, and answers each with `ok`, or with `fault` an
 import argparse
 import sys
 
-from messages import (
+sys.dont_write_bytecode = True  # a folder of examples stays as it is
+
+from messages import (  # noqa: E402
     KINDS, Arrive, ChangesReply, ChangesRequest, Clean, Depart, Discard, Envelope, Fault, Interval, LockForward, LockGrant, LockRequest,
     PageReply, PageRequest, decode, encode,
 )  # fmt: skip
-from program import Parser, Thread, Trap
+from program import Parser, Thread, Trap  # noqa: E402
 
 
 class Refused(Exception):

@@ -33,7 +33,9 @@ import subprocess
 import sys
 import threading
 
-import messages
+sys.dont_write_bytecode = True  # a folder of examples stays as it is
+
+import messages  # noqa: E402
 
 # How long a node may take for one turn, in seconds.
 PATIENCE = 20
@@ -185,7 +187,7 @@ def faults_in(folder):
 
 
 def try_faults(folder, command):
-    foreign, wrong, count = Foreign(command), 0, 0
+    foreign, wrong, count, what = Foreign(command), 0, 0, ""
     try:
         for data, awaited, what in faults_in(folder):
             count += 1
