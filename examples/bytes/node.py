@@ -118,6 +118,7 @@ class Node:
         self.intervals = {}  # by node and index
         self.changes = {}  # by node, index and page: pairs (offset, value)
         self.needs = {}  # by page
+        self.named = []  # during a collection, the pages that were named and that it keeps
         self.sent = [0] * nodes
         self.taken = [set() for _ in range(nodes)]
         self.outbox = []

@@ -83,12 +83,14 @@ class Foreign:
         return found
 
     def end(self):
-        """Closes its input. It has nothing more to say."""
+        """Closes its input, at which it ends and has nothing more to say."""
         self.process.stdin.close()
-        rest = self.next()
+        try:
+            rest = self.next()
+        except Difference:
+            raise Difference("it does not end when its input does")
         if rest is not None:
-            raise Difference(f"after the last turn: {rest}")
-        self.process.wait(PATIENCE)
+            raise Difference(f"after the last turn:{shown([rest])}")
 
     def kill(self):
         self.process.kill()
@@ -221,8 +223,15 @@ def main():
         chosen.node, rest = int(rest[1]), rest[2:]
     if not rest:
         words.error("a command is missing")
-    turns = turns_of(path)
-    nodes = sorted({it["node"] for it in turns}) if chosen.node is None else [chosen.node]
+    try:
+        turns = turns_of(path)
+        nodes = sorted({it["node"] for it in turns})
+    except (OSError, ValueError, KeyError, TypeError) as why:
+        raise SystemExit(f"player: {path} is no run, as `trace FILE .. --as bytes` prints it: {why}")
+    if chosen.node is not None:
+        nodes = [it for it in nodes if it == chosen.node]
+    if not nodes:
+        raise SystemExit(f"player: {path} has no turn of such a node")
     return 0 if all([try_node(path, turns, node, rest) for node in nodes]) else 1
 
 

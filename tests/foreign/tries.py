@@ -295,9 +295,9 @@ def main():
     try_faults()
     try_readme()
     try_turned_bytes(runs)
-    barriers = next(it for it in runs if it.name == "barriers")
-    try_wrong_answers(barriers)
-    try_wrong_processes(barriers)
+    meeting = next(it for it in runs if it.name == "meeting")
+    try_wrong_answers(meeting)
+    try_wrong_processes(meeting)
     if sys.argv[1:]:
         try_program(sys.argv[1], runs)
         try_random(sys.argv[1])

@@ -1,4 +1,4 @@
-# Some rounds of barriers and locks with a collection at most barriers: pages get new keepers, and are fetched whole with changes made since.
+# Rounds of locks and barriers, with collections: pages get new keepers, and are fetched whole with changes made since.
 words 190; locks 2;
 while i < 4 {
     if me == i % nodes {
