@@ -236,8 +236,7 @@ def try_wrong_answers(run):
 
 def try_wrong_processes(run):
     """Nodes that end too early, say too much or say nothing, behind standard input and output."""
-    player.PATIENCE = 2
-    last = [it["turn"] for it in run.turns if it["node"] == 0][-1]
+    patience = player.PATIENCE
     example = " ".join(it.replace("{node}", "0") for it in run.command())
     for what, command, told in (
         ("a node that ends at once", ["true"], "then it ended"),
@@ -246,10 +245,12 @@ def try_wrong_processes(run):
         ("a node that ends before the last turn", ["sh", "-c", f"sed -u 3q | {example}"], "then it ended"),
         ("a node whose lines end as on Windows", ["sh", "-c", f"{example} | sed -u 's/$/\\r/'"], ""),
     ):
+        player.PATIENCE = 2 if command[0] == "sleep" else patience
         foreign = player.Foreign(command)
         said = difference(lambda: player.play(run.turns, 0, foreign))
         foreign.kill()
-        hold(f"{what}: {told or 'is accepted'} (last turn {last})", told in said if told else not said, said)
+        hold(f"{what}: {told or 'is accepted'}", told in said if told else not said, said)
+    player.PATIENCE = patience
     print("bytes: wrong answers noticed, and nodes that end, say nothing or say too much")
 
 
