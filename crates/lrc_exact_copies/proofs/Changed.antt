@@ -1,5 +1,5 @@
 -- What an open interval changed, word by word.
-use Rattle.std.proofs.Common.{◌≡◌, ℕ, ◌+◌, Bool, true, false, cond, List, [], ◌∷◌, ◌++◌, ◌<◌, ◌≢◌, length, take, get_or, inl, inr, refl, sym, subst, ap, ◌∙◌, arith}
+use Rattle.std.proofs.Common.{◌≡◌, ℕ, ◌+◌, Bool, true, false, cond, List, [], ◌∷◌, ◌++◌, ◌<◌, ◌≢◌, length, take, get_or, inl, inr, refl, sym, subst, ap, ◌∙◌}
 use Rattle.std.specs.Prelude.{Option, Some, None}
 use Rattle.std.proofs.lemmas.Bool.{cases_eq, cases_Bool, cond-true, cond-false, eq-eqb, ne_eqb}
 use Rattle.std.specs.Prelude.{◌==◌}

@@ -1,18 +1,16 @@
 -- What a copy is of, when a collection takes pages.
-use Rattle.std.proofs.Common.{◌≡◌, ℕ, zero, suc, ◌+◌, ◌-◌, ◌*◌, ◌/◌, ◌<◌, ◌≤◌, ◌⊎◌, ◌&&◌, Bool, true, false, cond, List, [], length}
-use Rattle.std.proofs.Common.{inl, inr, refl, sym, subst, ap, ◌∙◌, arith}
-use Rattle.std.specs.Prelude.{◌==◌, nat_le, nat_lt, slice_index, Option, Some, None}
-use Rattle.std.proofs.lemmas.Bool.{cases_eq, cases_lt, cases_Bool, both_ways, cond-true, cond-false, eq-eqb, ne_eqb, le-leb, lt-leb, lt-ltb, le-ltb}
+use Rattle.std.proofs.Common.{◌≡◌, ℕ, ◌+◌, ◌-◌, ◌*◌, ◌/◌, ◌<◌, ◌≤◌, ◌⊎◌, ◌&&◌, Bool, true, false, cond, List, []}
+use Rattle.std.proofs.Common.{inl, inr, refl, sym, ap, ◌∙◌, arith}
+use Rattle.std.specs.Prelude.{◌==◌, nat_le, nat_lt, slice_index, Some, None}
+use Rattle.std.proofs.lemmas.Bool.{cases_eq, cases_lt, both_ways, cond-true, cond-false, eq-eqb, ne_eqb, le-leb, lt-leb, lt-ltb, le-ltb}
 use Rattle.std.proofs.lemmas.Bool.{and_from, and_left, and_right}
 use Rattle.std.proofs.Math.Nat.{div-mul-le_self, lt-div-mul-add}
 use Rattle.std.proofs.lemmas.Nat.{div-mul-add}
 use Rattle.lrc_time.specs.Time.{entry}
-use Rattle.lrc_exact.specs.Memory as memory
 use Rattle.lrc_exact.specs.Rule.{Shape, State, page_of}
 use Rattle.lrc_exact_copies.specs.declared.copy.Word.{Word}
 use Rattle.lrc_exact_copies.specs.declared.copy.Look.{Look}
-use Rattle.lrc_exact_copies.specs.Copies.{word_of, before_of, IsCopyOf, Puts, with_fixed_word, with_fixed_words, with_fresh_page, with_fixed_page}
-use Rattle.lrc_exact_copies.specs.Made.{has}
+use Rattle.lrc_exact_copies.specs.Copies.{word_of, IsCopyOf, Puts, with_fixed_word, with_fixed_words, with_fresh_page, with_fixed_page}
 use Rattle.lrc_exact_copies.proofs.Copying.{put-here, put-other, put-keeps, a_word, same-view, unmarked}
 
 module _ {shape : Shape} {node a l : ℕ} {words : ℕ → Word} {looks : ℕ → Look} {ow op nm time : List ℕ} {s : State}

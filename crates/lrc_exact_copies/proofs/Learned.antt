@@ -1,8 +1,8 @@
 -- What a copy is of, when its node learns.
-use Rattle.std.proofs.Common.{◌≡◌, ℕ, zero, suc, ◌+◌, ◌<◌, ◌≤◌, ◌⊎◌, ◌||◌, ◌&&◌, Bool, true, false, not, cond, List, [], ◌∷◌, ◌++◌, length}
-use Rattle.std.proofs.Common.{inl, inr, refl, sym, subst, ap, ◌∙◌, arith}
+use Rattle.std.proofs.Common.{◌≡◌, ℕ, ◌+◌, ◌<◌, ◌||◌, ◌&&◌, Bool, true, false, cond, List, [], ◌∷◌, ◌++◌}
+use Rattle.std.proofs.Common.{inl, inr, refl, sym, ap, ◌∙◌, arith}
 use Rattle.std.specs.Prelude.{◌==◌, nat_lt, Option, Some, None}
-use Rattle.std.proofs.lemmas.Bool.{cases_eq, cases_Bool, both_ways, cond-true, cond-false, eq-eqb, ne_eqb, lt-ltb, le-ltb, or_left, or_right, ltb-true}
+use Rattle.std.proofs.lemmas.Bool.{cases_eq, cases_Bool, cond-true, cond-false, eq-eqb, ne_eqb, lt-ltb, le-ltb, or_left, or_right}
 use Rattle.lrc_time.specs.Time.{entry}
 use Rattle.lrc_exact.specs.Memory as memory
 use Rattle.lrc_exact.specs.Memory.{Rank, Interval, is_lower, replaces}
@@ -10,7 +10,7 @@ use Rattle.lrc_exact.specs.Rule.{Shape, State, page_of, with_change}
 use Rattle.lrc_exact_copies.specs.declared.copy.Word.{Word}
 use Rattle.lrc_exact_copies.specs.declared.copy.Look.{Look}
 use Rattle.lrc_exact_copies.specs.declared.made.Change.{Change}
-use Rattle.lrc_exact_copies.specs.Copies.{word_of, before_of, IsCopyOf, Puts, with_one_change, with_one_page, with_all_changes, with_all_pages}
+use Rattle.lrc_exact_copies.specs.Copies.{word_of, IsCopyOf, Puts, with_one_change, with_one_page, with_all_changes, with_all_pages}
 use Rattle.lrc_exact_copies.specs.Made.{has, change_in}
 use Rattle.lrc_exact_copies.proofs.Copying.{put-here, put-other, put-keeps, a_word, same-view, has-push, has-push_here, has-push_other}
 

@@ -1,6 +1,6 @@
 -- What a map has once a value was put into it.
 use Rattle.std.proofs.Common.{◌≡◌, ℕ, inl, inr, sym, ap, ◌∙◌, arith}
-use Rattle.std.specs.Prelude.{◌==◌, false, Option, Some, None, unwrap_or}
+use Rattle.std.specs.Prelude.{◌==◌, false, Some, unwrap_or}
 use Rattle.std.specs.Ordering.{is_eq, nat_cmp}
 use Rattle.std.specs.declared.cmp.Ordering.TheVariants.{Less, Greater}
 use Rattle.std.specs.Cmp.{nat_cmp_is}

@@ -1,9 +1,8 @@
 -- What a copy is of, once its node has learned intervals of one node, and of all.
-use Rattle.std.proofs.Common.{◌≡◌, ℕ, zero, suc, ◌+◌, ◌<◌, ◌≤◌, ◌⊎◌, ◌||◌, ◌&&◌, Bool, true, false, cond, List, length, max}
-use Rattle.std.proofs.Common.{inl, inr, refl, sym, subst, ap, ◌∙◌, arith}
-use Rattle.std.specs.Prelude.{◌==◌, Option, Some, None, Vec, nat_le, slice_get}
-use Rattle.std.specs.declared.alloc.Global.{Global}
-use Rattle.std.proofs.lemmas.Bool.{cases_Bool, cases_lt, cond-true, cond-false, le-leb, lt-leb}
+use Rattle.std.proofs.Common.{◌≡◌, ℕ, zero, suc, ◌+◌, ◌<◌, ◌≤◌, ◌||◌, ◌&&◌, Bool, true, false, cond, List}
+use Rattle.std.proofs.Common.{refl, sym, ap, ◌∙◌, arith}
+use Rattle.std.specs.Prelude.{◌==◌, nat_le}
+use Rattle.std.proofs.lemmas.Bool.{cond-true, cond-false, le-leb, lt-leb}
 use Rattle.lrc_time.specs.Time.{entry, joined}
 use Rattle.lrc_time.proofs.Times.{entry-joined}
 use Rattle.lrc_exact.specs.Memory as memory
@@ -14,7 +13,7 @@ use Rattle.lrc_exact_copies.specs.declared.copy.Look.{Look}
 use Rattle.lrc_exact_copies.specs.declared.made.Made.{Made}
 use Rattle.lrc_exact_copies.specs.Copies.{IsCopyOf, before_of, with_one_interval, with_all_changes, with_all_pages}
 use Rattle.lrc_exact_copies.specs.Learned.{with_row, with_rows}
-use Rattle.lrc_exact_copies.specs.Made.{AreAmong, in_row, interval_of, row_of}
+use Rattle.lrc_exact_copies.specs.Made.{in_row, interval_of}
 use Rattle.lrc_exact_copies.proofs.Copying.{same-view}
 
 -- ---- the intervals of one node

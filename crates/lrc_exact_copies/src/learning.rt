@@ -55,15 +55,7 @@ pub fn learn_all(
     let mut known = copy.time.copy();
     for node in 0..time.nodes() {
         let row = made[usize::from(node)].as_slice();
-        learn_row(
-            copy,
-            row,
-            node,
-            known.at(node),
-            time.at(node),
-            size,
-            now,
-        )?;
+        learn_row(copy, row, node, known.at(node), time.at(node), size, now)?;
     }
     known.join(time);
     copy.time = known;

@@ -1,4 +1,4 @@
-use Rattle.std.proofs.Common.{◌≡◌, ◌++◌, ◌∷◌, [], ℕ, ◌+◌, take, cond, get_or, sym, subst, ap, ◌∙◌}
+use Rattle.std.proofs.Common.{◌≡◌, ℕ, ◌+◌, take, cond, get_or, sym, subst, ap, ◌∙◌}
 use Rattle.std.specs.Prelude.{List, None}
 use Rattle.lrc_exact.specs.Rule.{change_of}
 use Rattle.lrc_exact_copies.specs.declared.made.Change.{Change}

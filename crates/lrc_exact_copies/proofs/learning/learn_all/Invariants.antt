@@ -1,5 +1,4 @@
-use Rattle.std.proofs.Common.{◌≡◌, ℕ, ◌<◌, ◌≤◌, ◌+◌}
-use Rattle.lrc_time.specs.Time.{entry}
+use Rattle.std.proofs.Common.{◌≡◌, ℕ, ◌<◌}
 use Rattle.lrc_exact.specs.Rule.{Knowledge, Shape, State}
 use Rattle.lrc_exact_copies.specs.Copies.{CopyOf}
 use Rattle.lrc_exact_copies.specs.Learned.{with_rows}

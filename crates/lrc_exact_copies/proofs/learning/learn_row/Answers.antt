@@ -1,4 +1,4 @@
-use Rattle.std.proofs.Common.{◌≡◌, ◌<◌, ◌≤◌, ◌+◌, suc, length, refl, sym, subst, ap, ◌∙◌, arith, inl, inr, add-one}
+use Rattle.std.proofs.Common.{◌≡◌, ◌≤◌, suc, refl, sym, subst, ap, ◌∙◌, arith, inl, inr, add-one}
 use Rattle.std.specs.Prelude.{Some, slice_get}
 use Rattle.std.proofs.lemmas.Bool.{cases_lt}
 use Rattle.std.proofs.lemmas.Option.{slice_get-get_or}
@@ -22,8 +22,7 @@ loop-index-preserved c =
     let there = c.requires.there in
     let test = c.loop-index-test.true in
     let stands : slice_get row i ≡ Some made = slice_get-get_or row i made (omega arith) ∙ ap Some (sym c.index-row-index.is) in
-    let interval : in_row row (suc i) ≡ interval_of made = ap interval_or stands in
-    (
+    let interval : in_row row (suc i) ≡ interval_of made = ap interval_or stands in (
       λ le. omega arith,
       λ shape node a state lt same old.
           let so_far = c.loop-index.invariant.1 shape node a state lt same old in

@@ -1,4 +1,4 @@
-use Rattle.std.proofs.Common.{◌≡◌, ℕ, ◌*◌, ◌-◌, ◌≤◌, sym, subst, slice_index}
+use Rattle.std.proofs.Common.{◌*◌, ◌-◌, ◌≤◌, sym, subst, slice_index}
 use Rattle.lrc_exact_copies.specs.Copies.{CopyOf, with_fixed_words, with_fresh_page, with_fixed_page}
 use Rattle.lrc_exact_copies.proofs.Fixing.{fixed-page}
 use Rattle.lrc_exact_copies.proofs.copy.NodeCopy.fix_page.Goals as goal

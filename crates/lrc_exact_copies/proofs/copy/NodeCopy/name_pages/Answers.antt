@@ -1,4 +1,4 @@
-use Rattle.std.proofs.Common.{ℕ, List, [], take, take_all, get_or, refl, sym, subst, arith}
+use Rattle.std.proofs.Common.{[], take, take_all, get_or, refl, sym, subst, arith}
 use Rattle.std.proofs.lemmas.List.{take_more}
 use Rattle.lrc_exact_copies.specs.Copies.{CopyOf, with_all_pages}
 use Rattle.lrc_exact_copies.proofs.Copying.{or-none, same-view}

@@ -1,4 +1,4 @@
-use Rattle.std.proofs.Common.{◌≡◌, ◌++◌, ap, ◌∙◌, sym}
+use Rattle.std.proofs.Common.{◌++◌, ap, ◌∙◌, sym}
 use Rattle.lrc_exact_copies.specs.Made.{has}
 use Rattle.lrc_exact_copies.proofs.copy.NodeCopy.named_pages.Goals as goal
 

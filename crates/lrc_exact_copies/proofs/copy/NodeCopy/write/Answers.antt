@@ -1,7 +1,7 @@
-use Rattle.std.proofs.Common.{◌≡◌, ℕ, ◌+◌, ap, ◌∙◌, sym, subst, refl, arith}
+use Rattle.std.proofs.Common.{◌≡◌, ◌+◌, ap, ◌∙◌, sym}
 use Rattle.lrc_time.specs.Time.{entry}
-use Rattle.lrc_exact.specs.Rule.{accessed, page_of}
-use Rattle.lrc_exact_copies.specs.Copies.{CopyOf, with_page, with_value}
+use Rattle.lrc_exact.specs.Rule.{accessed}
+use Rattle.lrc_exact_copies.specs.Copies.{with_page}
 use Rattle.lrc_exact_copies.proofs.Copying.{writes-page}
 use Rattle.lrc_exact_copies.proofs.copy.NodeCopy.write.Goals as goal
 
