@@ -33,11 +33,11 @@ pub fn states_parts(
     range: Range,
 ) -> Result<Vec<Vec<u8>>, StatesFault>
     requires few { told.now.nodes ≤ 16 }
-    ensures states { (made : World) → run_of told.now.source.now.program told.now.nodes told.now.options
-        told.now.events.now ≡ Some made
+    ensures states { (made : World) → run_of told.now.source.now.program told.now.nodes
+        told.now.options told.now.events.now ≡ Some made
         → IfOk result (λ parts. AreStates (told_seen told.now) range (whole_text parts.items)) }
-    ensures fault { (made : World) → run_of told.now.source.now.program told.now.nodes told.now.options
-        told.now.events.now ≡ Some made
+    ensures fault { (made : World) → run_of told.now.source.now.program told.now.nodes
+        told.now.options told.now.events.now ≡ Some made
         → IfErr result (IsUnshown (told_seen told.now) range) }
 {
     let source = told.source;
@@ -66,11 +66,11 @@ fn parts_of(
     requires setting { IsSetting (told_seen told.now)
         (plan_with code.now told.now.nodes lines.now (map (λ name. name.now) names.now))
         (map label_seen labels.now) }
-    ensures states { (made : World) → run_of told.now.source.now.program told.now.nodes told.now.options
-        told.now.events.now ≡ Some made
+    ensures states { (made : World) → run_of told.now.source.now.program told.now.nodes
+        told.now.options told.now.events.now ≡ Some made
         → IfOk result (λ parts. AreStates (told_seen told.now) range (whole_text parts.items)) }
-    ensures fault { (made : World) → run_of told.now.source.now.program told.now.nodes told.now.options
-        told.now.events.now ≡ Some made
+    ensures fault { (made : World) → run_of told.now.source.now.program told.now.nodes
+        told.now.options told.now.events.now ≡ Some made
         → IfErr result (IsUnshown (told_seen told.now) range) }
 {
     let skipped = events_skipped(alloc, code, told, range.from)?;
