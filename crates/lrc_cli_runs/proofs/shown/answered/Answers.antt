@@ -7,7 +7,7 @@ use Rattle.lrc_world.specs.declared.keep.Keep.{Keep}
 use Rattle.lrc_cli_answer.specs.Texts.{IsTextOf}
 use Rattle.lrc_cli_answer.proofs.FaultLemmas.{fault_up}
 use Rattle.lrc_cli_runs.specs.Runs.{IsRunOfWay}
-use Rattle.lrc_cli_runs.specs.Shown.{IsShowFault, IsShown}
+use Rattle.lrc_cli_runs.specs.Shown.{IsShowFault, IsShown, keep_for}
 use Rattle.lrc_cli_runs.proofs.ShowingLemmas.{printed_of, unshown_of}
 use Rattle.lrc_cli_runs.proofs.RunLemmas.{run_for}
 use Rattle.lrc_cli_runs.proofs.shown.answered.Goals as goal
@@ -21,13 +21,15 @@ returns-in_err-run-clause-err c =
     fault_up c.from_residual-in_err-run.result _ _ c.from_residual-in_err-run.ensures.1
     (inr (c.program.result.now, is, inl c.in_err-run.ensures.err))
 
-pub shown-requires-clause-ran : goal.shown-requires-clause-ran
-shown-requires-clause-ran c =
+pub shown-requires : goal.shown-requires
+shown-requires c =
     let events : _ = option_map (λ (e : Bor (List ℕ)). e.now) c.args.events in
-    run_for c.args.choice.now.way c.args.shape c.in_ok-source.source.program c.args.choice.now.options events c.in_ok-run.run'
-    (subst (λ (program : Program). IsRunOfWay c.args.choice.now.way program c.args.choice.now.options events _ c.in_ok-run.run') c.program.ensures.program
-    (subst (λ (keep : Keep). IsRunOfWay c.args.choice.now.way c.program.result.now c.args.choice.now.options events keep c.in_ok-run.run')
-    c.keep_for.ensures c.in_ok-run.ensures.ok))
+    record {
+      ran = run_for c.args.choice.now.way c.args.shape c.in_ok-source.source.program c.args.choice.now.options events c.in_ok-run.run'
+          (subst (λ (program : Program). IsRunOfWay c.args.choice.now.way program c.args.choice.now.options events (keep_for c.args.shape) c.in_ok-run.run') c.program.ensures.program
+          (subst (λ (keep : Keep). IsRunOfWay c.args.choice.now.way c.program.result.now c.args.choice.now.options events keep c.in_ok-run.run')
+          c.keep_for.ensures c.in_ok-run.ensures.ok));
+    }
 
 pub returns-clause-ok : goal.returns-clause-ok
 returns-clause-ok c =
@@ -36,7 +38,7 @@ returns-clause-ok c =
     let same : source.text ≡ c.args.read.now.text = ap (λ (s : SourceRecord). s.text) c.in_ok-source.ensures in
     let is : IsTextOf c.args.read.now.text source.program = subst (λ (text : List ℕ). IsTextOf text source.program) same c.program.ensures.text in
     printed_of c.args.choice.now c.args.shape c.args.read.now.text events source.program c.in_ok-run.run' c.shown.result is
-    (subst (λ (program : Program). IsRunOfWay c.args.choice.now.way program c.args.choice.now.options events _ c.in_ok-run.run') c.program.ensures.program
+    (subst (λ (program : Program). IsRunOfWay c.args.choice.now.way program c.args.choice.now.options events (keep_for c.args.shape) c.in_ok-run.run') c.program.ensures.program
     (subst (λ (keep : Keep). IsRunOfWay c.args.choice.now.way c.program.result.now c.args.choice.now.options events keep c.in_ok-run.run')
     c.keep_for.ensures c.in_ok-run.ensures.ok))
     (subst (λ (text : List ℕ). IfOk c.shown.result
@@ -50,7 +52,7 @@ returns-clause-err c =
     let same : source.text ≡ c.args.read.now.text = ap (λ (s : SourceRecord). s.text) c.in_ok-source.ensures in
     let is : IsTextOf c.args.read.now.text source.program = subst (λ (text : List ℕ). IsTextOf text source.program) same c.program.ensures.text in
     unshown_of c.args.choice.now c.args.shape c.args.read.now.text events source.program c.in_ok-run.run' c.shown.result is
-    (subst (λ (program : Program). IsRunOfWay c.args.choice.now.way program c.args.choice.now.options events _ c.in_ok-run.run') c.program.ensures.program
+    (subst (λ (program : Program). IsRunOfWay c.args.choice.now.way program c.args.choice.now.options events (keep_for c.args.shape) c.in_ok-run.run') c.program.ensures.program
     (subst (λ (keep : Keep). IsRunOfWay c.args.choice.now.way c.program.result.now c.args.choice.now.options events keep c.in_ok-run.run')
     c.keep_for.ensures c.in_ok-run.ensures.ok))
     (subst (λ (text : List ℕ). IfErr c.shown.result (IsShowFault c.args.shape c.args.choice.now text source.program c.in_ok-run.run')) same

@@ -25,8 +25,8 @@ reasons_of_run-requires c =
     subst (λ (acts : List Act). All (λ act. act.node < 16) acts) (sym c.as_slice-acts.ensures.value)
     (acts_of_few c.args.source.now.program c.args.choice.now.options c.requires.ran.0 c.args.run.now c.requires.ran.2)
 
-pub stepped-requires-clause-ran : goal.stepped-requires-clause-ran
-stepped-requires-clause-ran c = (c.requires.ran.0, c.requires.ran.2)
+pub stepped-requires : goal.stepped-requires
+stepped-requires c = record { ran = (c.requires.ran.0, c.requires.ran.2) }
 
 pub returns-in-Trace-clause-err : goal.returns-in-Trace-clause-err
 returns-in-Trace-clause-err c =

@@ -28,14 +28,16 @@ returns-in_err-run-clause-err g c =
           (sym c.requires) c.in_err-run.ensures.err),
     ))
 
-pub shown-printout-requires-clause-ran : goal.shown-printout-requires-clause-ran
-shown-printout-requires-clause-ran g c =
-    run_for c.args.choice.now.way c.args.shape c.in_ok-source.source.program c.args.choice.now.options None c.in_ok-run.run'
-    (subst (λ (way : Way). IsRunOfWay way c.in_ok-source.source.program c.args.choice.now.options None (keep_for c.args.shape) c.in_ok-run.run')
-    (sym c.requires) (subst (λ (program : Program). IsRunOfWay (Threads c.args.order) program c.args.choice.now.options None (keep_for c.args.shape) c.in_ok-run.run')
-    c.program-program.ensures.program
-    (subst (λ (keep : Keep). IsRunOfWay (Threads c.args.order) c.program-program.result.now c.args.choice.now.options None keep c.in_ok-run.run')
-    c.keep_for.ensures c.in_ok-run.ensures.run)))
+pub shown-printout-requires : goal.shown-printout-requires
+shown-printout-requires g c =
+    record {
+      ran = run_for c.args.choice.now.way c.args.shape c.in_ok-source.source.program c.args.choice.now.options None c.in_ok-run.run'
+          (subst (λ (way : Way). IsRunOfWay way c.in_ok-source.source.program c.args.choice.now.options None (keep_for c.args.shape) c.in_ok-run.run')
+          (sym c.requires) (subst (λ (program : Program). IsRunOfWay (Threads c.args.order) program c.args.choice.now.options None (keep_for c.args.shape) c.in_ok-run.run')
+          c.program-program.ensures.program
+          (subst (λ (keep : Keep). IsRunOfWay (Threads c.args.order) c.program-program.result.now c.args.choice.now.options None keep c.in_ok-run.run')
+          c.keep_for.ensures c.in_ok-run.ensures.run)));
+    }
 
 pub returns-clause-ok : goal.returns-clause-ok
 returns-clause-ok g c =
