@@ -24,6 +24,7 @@ use lrc_cli_answer::printout::in_one;
 use lrc_cli_args::choice::{Charting, RunChoice, RunOptions};
 use lrc_explain_waits::{stands_of, waits_of};
 use lrc_judge::first_pairs::first_pairs;
+use lrc_labels::read_labels;
 use lrc_lines::walks::follow_acts;
 use lrc_source::source::Source;
 use lrc_svg::document_part;
@@ -46,7 +47,12 @@ pub(crate) fn charted(
         source.now.program run.now) }
 {
     let nodes = choice.options.nodes.count as u8;
-    let labels = source.labels();
+    let program = source.program();
+    // The labels borrow the text that they are read from, and all that the course has is borrowed for one time: so they are read from a copy.
+    let bytes = Vec::from_slice(alloc, source.text())?;
+    let copied = bytes.as_slice();
+    let labelling = read_labels(alloc, copied, program.words, program.locks)?;
+    let labels = labelling.said.as_slice();
     let acts = run.report.acts.as_slice();
     let places = lines_kept(alloc, source, &run.origins.statements)?;
     let lines = places.as_slice();

@@ -44,7 +44,25 @@ pub fn show(
         (option_map (λ e. e.now) events.entry)) }
 {
     let read = SourceText::read(alloc, text)?;
-    let source = Source::of(alloc, &read)?;
+    answered(alloc, choice, shape, &read, events)
+}
+
+// The same of a text that is read.
+fn answered(
+    alloc: Global,
+    choice: &RunChoice<'_>,
+    shape: Shape,
+    read: &SourceText<'_>,
+    events: Option<&[u8]>,
+) -> Result<Printout, Fault>
+    requires threadless { is_on_threads choice.now.way ≡ false }
+    requires events { is_some events ≡ is_some (events_along choice.now.way) }
+    ensures ok { IfOk result (λ printout. ShowsRun choice.now shape read.now.text
+        (option_map (λ e. e.now) events.entry) (whole_text printout.parts.items) printout.status) }
+    ensures err { IfErr result (RefusesRun choice.now shape read.now.text
+        (option_map (λ e. e.now) events.entry)) }
+{
+    let source = Source::of(alloc, read)?;
     let run = run_of(alloc, choice, source.program(), events, keep_for(shape))?;
     shown(alloc, shape, choice, &source, &run)
 }

@@ -41,7 +41,24 @@ pub fn show_on_threads<R: Threads + Wait + Sync>(
     ensures err { IfErr result (RefusesRun choice.now shape text.now None) }
 {
     let read = SourceText::read(alloc, text)?;
-    let source = Source::of(alloc, &read)?;
+    answered_on_threads(rt, alloc, choice, order, shape, &read)
+}
+
+// The same of a text that is read.
+fn answered_on_threads<R: Threads + Wait + Sync>(
+    rt: &R,
+    alloc: Global,
+    choice: &RunChoice<'_>,
+    order: Picker,
+    shape: Shape,
+    read: &SourceText<'_>,
+) -> Result<Printout, Fault>
+    requires { choice.now.way ≡ OnThreads order }
+    ensures ok { IfOk result (λ printout. ShowsRun choice.now shape read.now.text None
+        (whole_text printout.parts.items) printout.status) }
+    ensures err { IfErr result (RefusesRun choice.now shape read.now.text None) }
+{
+    let source = Source::of(alloc, read)?;
     let program = source.program();
     let run = threaded(rt, alloc, &choice.options, order, program, keep_for(shape))?;
     let printout = shown(alloc, shape, choice, &source, &run);

@@ -1,7 +1,9 @@
-use Rattle.std.proofs.Common.{◌∙◌, ◌<◌, ℕ, All, List, Option, ap, map, sym, subst}
+use Rattle.std.proofs.Common.{◌∙◌, ◌<◌, ℕ, All, List, Option, ap, ap₂, map, sym, subst}
 use Rattle.lrc_judge.specs.FirstPairs.{AreFirstPairs}
 use Rattle.lrc_judge.specs.declared.lanes.Pair.{Pair}
 use Rattle.lrc_labels.specs.Reading.{label_seen}
+use Rattle.lrc_lang.specs.declared.program.Program.{Program}
+use Rattle.lrc_cli_answer.specs.Labels.{labels_in}
 use Rattle.lrc_trace.specs.declared.act.Act.{Act}
 use Rattle.lrc_chart_build.specs.Course.{CourseRecord}
 use Rattle.lrc_timeline.specs.Timeline.{times_in}
@@ -27,7 +29,7 @@ returns-in_err-part-clause-err c =
     let options = c.args.choice.now.options in
     let acts = c.as_slice-acts.result.now in
     let known = course_of_run c.args.source.now.text c.args.source.now.program options c.args.run.now
-    c.as_slice-turns.result.now acts c.as_slice-lines.result.now (times_in c.args.run.now.origins.times) c.as_slice-pairs.result.now (map label_seen c.labels-labels.result.now) c.as_slice-waits.result.now
+    c.as_slice-turns.result.now acts c.as_slice-lines.result.now (times_in c.args.run.now.origins.times) c.as_slice-pairs.result.now (map label_seen c.as_slice-labels.result.now) c.as_slice-waits.result.now
     (c.as_slice-turns.ensures.value ∙ c.in_ok-made.ensures ∙ ap (λ logs. turns_told (map (λ log. log.items) logs) c.deref-3.result.now) c.deref-2.ensures.value
     ∙ ap (turns_told (map (λ log. log.items) c.args.run.now.report.logs.items))
     (c.deref-3.ensures.value ∙ c.in_ok-order.ensures c.args.source.now.program options c.requires))
@@ -37,7 +39,9 @@ returns-in_err-part-clause-err c =
     (statements_of c.args.source.now.program options c.args.run.now acts c.requires c.as_slice-acts.ensures.value c.deref.result.now c.deref.ensures.value)))
     (times_of c.args.source.now.program options c.args.run.now acts c.requires c.as_slice-acts.ensures.value)
     (subst (λ (pairs : List Pair). AreFirstPairs acts pairs) (sym c.as_slice-pairs.ensures.value) c.in_ok-found.ensures)
-    (c.labels-labels.ensures.labels ∙ c.labels-labels.ensures.text)
+    (ap (map label_seen) c.as_slice-labels.ensures.value ∙ c.in_ok-labelling.ensures.said
+    ∙ ap₂ (λ (program : Program) (text : List ℕ). labels_in text program) c.program-program.ensures.program
+    (c.as_slice-copied.ensures.value ∙ c.in_ok-bytes.ensures.items ∙ c.text.ensures))
     (subst (λ (waits : List (Option ℕ)). AreWaitsIn c.args.source.now.text c.args.source.now.program options acts waits) (sym c.as_slice-waits.ensures.value)
     c.in_ok-standing.ensures) in
     fault_up c.from_residual-in_err-part.result c.in_err-part.field-0.0
@@ -50,7 +54,7 @@ pub returns-clause-ok : goal.returns-clause-ok
 returns-clause-ok c =
     let options = c.args.choice.now.options in
     let acts = c.as_slice-acts.result.now in
-    let labels = map label_seen c.labels-labels.result.now in
+    let labels = map label_seen c.as_slice-labels.result.now in
     let course : CourseRecord = record {
       turns = c.as_slice-turns.result.now;
       known = record { acts = acts; lines = c.as_slice-lines.result.now; times = (times_in c.args.run.now.origins.times); pairs = c.as_slice-pairs.result.now; labels = labels };
@@ -68,7 +72,9 @@ returns-clause-ok c =
     (statements_of c.args.source.now.program options c.args.run.now acts c.requires c.as_slice-acts.ensures.value c.deref.result.now c.deref.ensures.value)))
     (times_of c.args.source.now.program options c.args.run.now acts c.requires c.as_slice-acts.ensures.value)
     (subst (λ (pairs : List Pair). AreFirstPairs acts pairs) (sym c.as_slice-pairs.ensures.value) c.in_ok-found.ensures)
-    (c.labels-labels.ensures.labels ∙ c.labels-labels.ensures.text)
+    (ap (map label_seen) c.as_slice-labels.ensures.value ∙ c.in_ok-labelling.ensures.said
+    ∙ ap₂ (λ (program : Program) (text : List ℕ). labels_in text program) c.program-program.ensures.program
+    (c.as_slice-copied.ensures.value ∙ c.in_ok-bytes.ensures.items ∙ c.text.ensures))
     (subst (λ (waits : List (Option ℕ)). AreWaitsIn c.args.source.now.text c.args.source.now.program options acts waits) (sym c.as_slice-waits.ensures.value)
     c.in_ok-standing.ensures) in (
       course,
@@ -78,5 +84,5 @@ returns-clause-ok c =
           (subst (λ (title : List ℕ). IsChart c.args.charting title options.nodes.count course c.args.source.now.text c.in_ok-part.part.items)
           (c.deref-4.ensures.value ∙ c.in_ok-title.ensures)
           (subst (λ (text : List ℕ). IsChart c.args.charting c.deref-4.result.now options.nodes.count course text c.in_ok-part.part.items)
-          c.text.ensures c.in_ok-part.ensures.ok)),
+          c.text-2.ensures c.in_ok-part.ensures.ok)),
     )

@@ -7,26 +7,26 @@ use Rattle.lrc_cli_runs.proofs.RunLemmas.{acts_of_few, whole_run}
 use Rattle.lrc_cli_runs.proofs.StatedLemmas.{step_unshown, trace_unshown}
 use Rattle.lrc_cli_runs.proofs.shown.parts_of.Goals as goal
 
-pub traced-requires-clause-ran : goal.traced-requires-clause-ran
-traced-requires-clause-ran c =
+pub traced-requires : goal.traced-requires
+traced-requires c =
     subst (λ (shape : Shape). IsRunFor shape c.args.source.now.program c.args.choice.now.options c.args.run.now) c.in-Trace.is c.requires.ran
 
 pub charted-requires : goal.charted-requires
 charted-requires c =
     whole_run c.args.shape c.args.source.now.program c.args.choice.now.options c.args.run.now c.requires.ran (ap keep_for c.in-Chart.is)
 
-pub explained-requires-clause-acts : goal.explained-requires-clause-acts
-explained-requires-clause-acts c =
+pub explained-requires : goal.explained-requires
+explained-requires c =
     subst (λ (acts : List Act). All (λ act. act.node < 16) acts) (sym c.as_slice-acts.ensures.value)
     (acts_of_few c.args.source.now.program c.args.choice.now.options c.requires.ran.0 c.args.run.now c.requires.ran.2)
 
-pub reasons_of_run-requires-clause-acts : goal.reasons_of_run-requires-clause-acts
-reasons_of_run-requires-clause-acts c =
+pub reasons_of_run-requires : goal.reasons_of_run-requires
+reasons_of_run-requires c =
     subst (λ (acts : List Act). All (λ act. act.node < 16) acts) (sym c.as_slice-acts.ensures.value)
     (acts_of_few c.args.source.now.program c.args.choice.now.options c.requires.ran.0 c.args.run.now c.requires.ran.2)
 
-pub stepped-requires-clause-ran : goal.stepped-requires-clause-ran
-stepped-requires-clause-ran c = (c.requires.ran.0, c.requires.ran.2)
+pub stepped-requires : goal.stepped-requires
+stepped-requires c = record { ran = (c.requires.ran.0, c.requires.ran.2) }
 
 pub returns-in-Trace-clause-err : goal.returns-in-Trace-clause-err
 returns-in-Trace-clause-err c =

@@ -7,8 +7,8 @@ use Rattle.lrc_cli_runs.proofs.RunLemmas.{acts_of_few}
 use Rattle.lrc_cli_runs.proofs.StatedLemmas.{explained_so}
 use Rattle.lrc_cli_runs.proofs.stated.explained_text.Goals as goal
 
-pub explained-requires-clause-acts : goal.explained-requires-clause-acts
-explained-requires-clause-acts c =
+pub explained-requires : goal.explained-requires
+explained-requires c =
     subst (λ (acts : List Act). All (λ act. act.node < 16) acts) (sym c.as_slice-acts.ensures.value)
     (acts_of_few c.args.source.now.program c.args.options.now c.requires.ran.0 c.args.run.now c.requires.ran.1)
 
