@@ -207,7 +207,7 @@ module _ {layout : Layout} {a l most : ℕ} {copies : List NodeCopy} {made : Lis
                   stands = get-set_same copies node copy (omega arith);
                   is = step before;
                   among = closed-among made made' node more grown (having.have node).knows (open_interval (having.have node)) n.among (omega arith) own
-                  (is_interval before);
+                      (is_interval before);
                   own = omega arith;
                   wide = length-set (having.have node).knows.time node (entry (having.have node).knows.time node + 1) ∙ nw;
                   dropped_is = n.dropped_is;

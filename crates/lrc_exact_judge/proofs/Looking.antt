@@ -52,8 +52,8 @@ unbroken nodes run (Some p) first =
       synchronized =
           (no_break nodes (take p run)).0
           (λ j b.
-              let less = Breaks-within b in
-              first.earlier j (omega arith) (subst (λ ys. Breaks nodes ys j) (take-append-drop p run) (Breaks-longer (drop p run) b)));
+          let less = Breaks-within b in
+          first.earlier j (omega arith) (subst (λ ys. Breaks nodes ys j) (take-append-drop p run) (Breaks-longer (drop p run) b)));
       all = inr first.broken;
     }
 
@@ -92,7 +92,7 @@ looked nodes run xs o p s n found is taken between end =
               subst WaitsAtBarriers inner
               (waits-never (take k (take s run))
               (λ j less h.
-                  let m = ap length inner in
-                  b.earlier j (omega arith) (subst (λ ys. IsBetween ys j) (take-append-drop k (take s run)) (Between-longer (drop k (take s run)) h))));
+              let m = ap length inner in
+              b.earlier j (omega arith) (subst (λ ys. IsBetween ys j) (take-append-drop k (take s run)) (Between-longer (drop k (take s run)) h))));
           all = inr (inr (subst (λ ys. IsBetween ys k) (take-append-drop s run) (Between-longer (drop s run) b.between)));
         }

@@ -35,7 +35,7 @@ reads-more shape run act within old last =
       keeps = keeps-more rule shape.nodes run old.states act state old.keeps within refl;
       reads = λ j node word value d.
           let alike : (k : ℕ) → k ≤ length run
-              → exact_value shape run old.states node k word ≡ exact_value shape (run ++ act ∷ []) (old.states ++ state ∷ []) node k word =
+          → exact_value shape run old.states node k word ≡ exact_value shape (run ++ act ∷ []) (old.states ++ state ∷ []) node k word =
           λ k le. sym (ap (λ (s : State). (s.words word).value)
           (before-same rule (run ++ act ∷ []) run (old.states ++ state ∷ []) old.states k
           (prefix-alike run (act ∷ []) old.states (state ∷ []) old.keeps.stated k le) node)) in

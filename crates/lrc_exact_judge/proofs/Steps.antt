@@ -185,8 +185,7 @@ pub left-already : (run : List Act) (now : ℕ) (memory : Memory) (node place : 
 left-already run now memory node place old within le is apart =
     let count = old.departs node within in
     let behind = old.current.behind node within in
-    let here = ap (slice_index memory.departs) is in
-    (
+    let here = ap (slice_index memory.departs) is in (
       record {
         states = old.states;
         keeps = old.keeps;

@@ -219,7 +219,13 @@ impl Memory {
     }
 
     // A node departs.
-    fn depart(&mut self, alloc: Global, acts: &[Act], act: Act, now: usize) -> Result<(), AllocError>
+    fn depart(
+        &mut self,
+        alloc: Global,
+        acts: &[Act],
+        act: Act,
+        now: usize,
+    ) -> Result<(), AllocError>
         requires memory { IsMemoryOf acts.now self.old }
         requires node { act.node < self.old.layout.nodes }
         requires short { length acts.now < 4294967295 }

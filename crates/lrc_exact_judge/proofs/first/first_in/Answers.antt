@@ -60,7 +60,7 @@ loop-position-preserved c =
     let shape = shape_of c.args.layout in
     let inv = c.loop-position.invariant in
     let last : (word value : ℕ) (states : List State) → act.deed ≡ Read word value → KeepsExact shape (take j run) states
-        → value ≡ exact_value shape (take j run) states act.node (length (take j run)) word =
+    → value ≡ exact_value shape (take j run) states act.node (length (take j run)) word =
     elim c.match-acts-position.branch [
       | in-Read+else-read-given w ↦ λ word value states is keeps.
           let same = one_read (sym is ∙ w.in-Read.is) in

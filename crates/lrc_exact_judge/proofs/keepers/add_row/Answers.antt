@@ -23,14 +23,13 @@ loop-index-preserved c =
     let there = c.requires in
     let test = c.loop-index-test.true in
     let stands : slice_get row i ≡ Some made = slice_get-get_or row i made (omega arith) ∙ ap Some (sym c.index-row-index.is) in
-    let interval : interval_of made ≡ in_row row (suc i) = sym (ap interval_or stands) in
-    (
+    let interval : interval_of made ≡ in_row row (suc i) = sym (ap interval_or stands) in (
       λ le. omega arith,
       subst (λ n. AddsKeeper c.args.node (λ page. names_between (in_row row) page first n) c.args.keepers.now c.add_pages.new.keepers) (sym (add-one i))
-      (row-more c.args.node (in_row row) first i c.args.keepers.now c.loop-index.keepers c.add_pages.new.keepers low c.loop-index.invariant.1
-      (subst (λ (k : Interval). AddsKeeper c.args.node k.names c.loop-index.keepers c.add_pages.new.keepers) interval
-      (subst (λ (m : Made). AddsKeeper c.args.node (has m.pages.items) c.loop-index.keepers c.add_pages.new.keepers) (sym c.index-row-index.is)
-      (subst (λ xs. AddsKeeper c.args.node (has xs) c.loop-index.keepers c.add_pages.new.keepers) c.deref.ensures.value c.in_ok-add_pages.ensures)))),
+          (row-more c.args.node (in_row row) first i c.args.keepers.now c.loop-index.keepers c.add_pages.new.keepers low c.loop-index.invariant.1
+          (subst (λ (k : Interval). AddsKeeper c.args.node k.names c.loop-index.keepers c.add_pages.new.keepers) interval
+          (subst (λ (m : Made). AddsKeeper c.args.node (has m.pages.items) c.loop-index.keepers c.add_pages.new.keepers) (sym c.index-row-index.is)
+          (subst (λ xs. AddsKeeper c.args.node (has xs) c.loop-index.keepers c.add_pages.new.keepers) c.deref.ensures.value c.in_ok-add_pages.ensures)))),
     )
 
 pub returns : goal.returns

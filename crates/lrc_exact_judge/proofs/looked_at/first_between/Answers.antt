@@ -47,9 +47,9 @@ loop-position-preserved c =
             never = never-more run n inv.never
                 (not-between run n node act.deed here
                 (λ other.
-                    let a = inv.arrives_are node (let long = inv.all_arrives in omega arith) in
-                    let d = inv.departs_are node (let long = inv.all_departs in omega arith) in
-                    omega arith));
+                let a = inv.arrives_are node (let long = inv.all_arrives in omega arith) in
+                let d = inv.departs_are node (let long = inv.all_departs in omega arith) in
+                omega arith));
           }
       | in_default+else-departs-node-2 w ↦
           record {
@@ -64,9 +64,9 @@ loop-position-preserved c =
             never = never-more run n inv.never
                 (not-between run n node act.deed here
                 (λ other.
-                    let a = inv.arrives_are node (let long = inv.all_arrives in omega arith) in
-                    let d = inv.departs_are node (let long = inv.all_departs in omega arith) in
-                    omega arith));
+                let a = inv.arrives_are node (let long = inv.all_arrives in omega arith) in
+                let d = inv.departs_are node (let long = inv.all_departs in omega arith) in
+                omega arith));
           }
     ]
 

@@ -19,8 +19,7 @@ loop-offset-preserved c =
     let at : c.from.result * c.from-2.result + c.from-in-loop-offset.result ≡ page * words + i =
     ap (λ n. n * c.from-2.result + c.from-in-loop-offset.result) c.from.ensures
     ∙ ap (λ n. page * n + c.from-in-loop-offset.result) c.from-2.ensures
-    ∙ ap (λ n. page * words + n) c.from-in-loop-offset.ensures in
-    (
+    ∙ ap (λ n. page * words + n) c.from-in-loop-offset.ensures in (
       ap length pushed ∙ length_push items x ∙ ap (λ n. n + 1) long,
       λ a k most having kept offset lt.
           elim (cases_lt offset i) [

@@ -33,8 +33,7 @@ loop-copy-preserved c =
     let long = ready.kept.all_copies in
     let within : i < n = omega arith in
     let had : item ≡ get_or items i item = c.copy-item.is ∙ ap (λ xs. get_or xs i item) c.as_slice-copy-items.ensures.value in
-    let wide = long-at ready.kept i within item had in
-    (
+    let wide = long-at ready.kept i within item had in (
       ap length c.join.ensures ∙ length-joined_same c.loop-copy.all item.time (c.loop-copy.invariant.0 ∙ sym wide) ∙ c.loop-copy.invariant.0,
       λ a k most having kept.
           c.join.ensures

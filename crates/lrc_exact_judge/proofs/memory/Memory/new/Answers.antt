@@ -33,8 +33,7 @@ loop-node-preserved c =
                 let old = inv.copies_are q less in
                 (old.0, ap (λ xs. slice_get xs q) pushed ∙ slice_get-front copies (c.new.result ∷ []) q (omega arith) ∙ old.1, old.2)
             | inr le ↦
-                let same : q ≡ length copies = omega arith in
-                (
+                let same : q ≡ length copies = omega arith in (
                   c.new.result,
                   ap (λ xs. slice_get xs q) pushed ∙ ap (slice_get (copies ++ c.new.result ∷ [])) same ∙ slice_get-seam copies c.new.result [],
                   λ shape node e. c.new.ensures shape node e,

@@ -34,13 +34,13 @@ returns-in_ok-fix_page-clause-kept c = λ a l most having values are old.
     let now = λ (w : ℕ). slice_index list (w - page * size) in
     let agree : (w : ℕ) → page_of shape w ≡ page → slice_index list (w - page * size) ≡ values w =
     λ w here.
-        let on = on_page size w page self.layout.sized here in
-        let at : page * size + (w - page * size) ≡ w = omega arith in
-        ap (λ xs. slice_index xs (w - page * size)) c.as_slice.ensures.value
-        ∙ c.in_ok-values.ensures.values a l most having old (w - page * size) (omega arith)
-        ∙ ap (λ v. value_at (get nat_cmp c.args.keepers.now page) having.have v) at
-        ∙ ap (λ p. value_at (get nat_cmp c.args.keepers.now p) having.have w) (sym here)
-        ∙ are w in
+    let on = on_page size w page self.layout.sized here in
+    let at : page * size + (w - page * size) ≡ w = omega arith in
+    ap (λ xs. slice_index xs (w - page * size)) c.as_slice.ensures.value
+    ∙ c.in_ok-values.ensures.values a l most having old (w - page * size) (omega arith)
+    ∙ ap (λ v. value_at (get nat_cmp c.args.keepers.now page) having.have v) at
+    ∙ ap (λ p. value_at (get nat_cmp c.args.keepers.now p) having.have w) (sym here)
+    ∙ are w in
     kept-have having place (with_fixed_page shape page now state) (with_taken shape values (page ∷ []) state)
     (one-stale shape values state page now stale agree)
     (kept-still old a l place c.index_mut.result.now c.fix_page.new.self (with_fixed_page shape page now state) (omega arith) (omega arith) within

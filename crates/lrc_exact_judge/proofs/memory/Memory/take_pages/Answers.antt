@@ -87,8 +87,8 @@ returns-clause-kept c = λ a k most having values are old.
     let same : item ≡ node.copy = element-at self.copies.items place item node.copy (omega arith) c.index.ensures node.stands in
     let layouts = c.loop-page.invariant.alike.layout in
     let named : (p : ℕ) → state.stale p ≡ true → has pages p ≡ true = λ p stale.
-        ap (λ xs. has xs p) c.as_slice-page-items.ensures.value
-        ∙ c.in_ok-pages.ensures shape place a k state (subst (λ (x : NodeCopy). CopyOf shape place a k x state) (sym same) node.is) p stale in
+    ap (λ xs. has xs p) c.as_slice-page-items.ensures.value
+    ∙ c.in_ok-pages.ensures shape place a k state (subst (λ (x : NodeCopy). CopyOf shape place a k x state) (sym same) node.is) p stale in
     let whole : take c.loop-page.page-index pages ≡ pages = take_all c.loop-page.page-index pages (omega arith) in
     let fixed = with_values shape values state in
     let next = with_have having place fixed in
