@@ -1,12 +1,12 @@
 -- What is known is among the intervals that were closed, whatever is learned and closed.
-use Rattle.std.proofs.Common.{◌≡◌, ◌≢◌, ℕ, zero, suc, ◌+◌, ◌<◌, ◌≤◌, ◌&&◌, Bool, true, false, List, [], ◌∷◌, ◌++◌, length, max}
-use Rattle.std.proofs.Common.{inl, inr, refl, sym, subst, ap, ◌∙◌, arith}
+use Rattle.std.proofs.Common.{◌≡◌, ◌≢◌, ℕ, zero, suc, ◌+◌, ◌<◌, ◌≤◌, ◌&&◌, List, [], ◌∷◌, ◌++◌, length}
+use Rattle.std.proofs.Common.{inl, inr, refl, sym, ap, ◌∙◌, arith}
 use Rattle.std.specs.Prelude.{◌==◌, Option, Some, None, Vec, nat_le, slice_get}
 use Rattle.std.specs.declared.alloc.Global.{Global}
 use Rattle.std.proofs.lemmas.Bool.{cases_eq, cases_lt, cond-true, cond-false, le-leb, lt-leb, eq-eqb, ne_eqb, and_from, and_left, and_right}
 use Rattle.std.proofs.lemmas.List.{length_push}
 use Rattle.lrc_trace.proofs.Positions.{slice_get-front, slice_get-seam}
-use Rattle.lrc_time.specs.Time.{zeros, entry, joined}
+use Rattle.lrc_time.specs.Time.{entry}
 use Rattle.lrc_time.proofs.Times.{entry-zeros, entry-joined, entry-set_same, entry-set_other}
 use Rattle.lrc_exact.specs.Memory.{Interval}
 use Rattle.lrc_exact.specs.Rule.{State, Knowledge, nothing_known, known_together, known_by_all, with_arrived, with_interval}

@@ -1,6 +1,6 @@
 -- What nodes have after one act more, and once a barrier is settled.
-use Rattle.std.proofs.Common.{◌≡◌, ◌≢◌, ℕ, zero, suc, ◌+◌, ◌<◌, ◌≤◌, ◌⊎◌, ◌&&◌, Bool, true, false, cond, List, [], ◌∷◌, ◌++◌, length, take, inl, inr, refl, sym, subst, ap, ◌∙◌, arith}
-use Rattle.std.specs.Prelude.{◌==◌, Option, Some, None, slice_get, nat_lt, unwrap_or}
+use Rattle.std.proofs.Common.{◌≡◌, ◌≢◌, ℕ, ◌+◌, ◌<◌, ◌≤◌, ◌⊎◌, true, false, List, [], ◌∷◌, ◌++◌, length, take, inl, inr, refl, sym, ap, ◌∙◌, arith}
+use Rattle.std.specs.Prelude.{Some, None, nat_lt}
 use Rattle.std.proofs.lemmas.Bool.{cases_Bool, cases_eq, cases_lt, both_ways, cond-true, cond-false, lt-ltb, le-ltb, and_parts}
 use Rattle.std.proofs.lemmas.List.{length_push}
 use Rattle.lrc_trace.specs.declared.act.Act.{Act}
@@ -11,8 +11,8 @@ use Rattle.lrc_trace.proofs.Positions.{Does-last, arrives_before-prefix, departs
 use Rattle.lrc_trace.proofs.Intervals.{count_of-more, count_of-same}
 use Rattle.lrc_clock.proofs.Passing.{acts_at-act}
 use Rattle.lrc_clock.specs.Times.{acts_at, arrives_at}
-use Rattle.lrc_exact.specs.LocalRule.{state_before, released_state, arrived_state, arrives_there, state_after}
-use Rattle.lrc_exact.specs.Rule.{Shape, State, exact_rule, KeepsExact, departed}
+use Rattle.lrc_exact.specs.LocalRule.{state_before, arrived_state, arrives_there}
+use Rattle.lrc_exact.specs.Rule.{Shape, State, exact_rule, departed}
 use Rattle.lrc_exact.proofs.LocalRules.{same_function, last-cases}
 use Rattle.lrc_exact_judge.specs.Current.{AreCurrent}
 use Rattle.lrc_exact_judge.specs.Memory.{Having, all_of, with_all}

@@ -1,14 +1,13 @@
 -- What is kept of all nodes and locks, when a node does something.
-use Rattle.std.proofs.Common.{◌≡◌, ◌≢◌, ℕ, suc, ◌+◌, ◌<◌, ◌≤◌, max, Bool, true, false, cond, List, [], ◌∷◌, ◌++◌, length, set, get_or, length-set, get_or-set_same, get_or-set_other, inl, inr, refl, sym, subst, ap, ◌∙◌, arith}
+use Rattle.std.proofs.Common.{◌≡◌, ◌≢◌, ℕ, ◌+◌, ◌<◌, ◌≤◌, List, [], ◌∷◌, ◌++◌, length, set, get_or, length-set, get_or-set_same, get_or-set_other, inl, inr, sym, subst, ap, ◌∙◌, arith}
 use Rattle.std.specs.Prelude.{◌==◌, Option, Some, None, Vec, slice_get, slice_index_or}
 use Rattle.std.specs.declared.alloc.Global.{Global}
 use Rattle.std.proofs.lemmas.Bool.{cases_eq, cases_lt, cond-true, cond-false, eq-eqb, ne_eqb}
 use Rattle.std.proofs.lemmas.List.{length_push}
-use Rattle.std.proofs.lemmas.Option.{same_Some, slice_get-get_or, slice_get_past, slice_get_within}
-use Rattle.lrc_time.specs.Time.{entry, joined}
+use Rattle.std.proofs.lemmas.Option.{same_Some, slice_get-get_or, slice_get_past}
+use Rattle.lrc_time.specs.Time.{entry}
 use Rattle.lrc_time.proofs.Times.{entry-joined, entry-set_same, length-joined_same}
-use Rattle.lrc_exact.specs.Memory.{Interval}
-use Rattle.lrc_exact.specs.Rule.{State, Knowledge, closed, open_interval, known_together, with_learned, acquired}
+use Rattle.lrc_exact.specs.Rule.{State, Knowledge, closed, open_interval, with_learned}
 use Rattle.lrc_exact_copies.specs.declared.copy.NodeCopy.{NodeCopy}
 use Rattle.lrc_exact_copies.specs.declared.made.Made.{Made}
 use Rattle.lrc_exact_copies.specs.Copies.{CopyOf}
@@ -18,7 +17,7 @@ use Rattle.lrc_exact_judge.specs.Memory.{Having, IsNodeOf, IsReleased, AreKept, 
 use Rattle.lrc_exact_judge.specs.Memory.{never, once}
 use Rattle.lrc_exact_judge.specs.Shape.{shape_of}
 use Rattle.lrc_exact_judge.specs.declared.layout.Layout.{Layout}
-use Rattle.lrc_exact_judge.proofs.Among.{AreRowsWith, closed-among, row-longer, still-among, together-among}
+use Rattle.lrc_exact_judge.proofs.Among.{AreRowsWith, closed-among, still-among, together-among}
 
 -- ---- one place of a list
 

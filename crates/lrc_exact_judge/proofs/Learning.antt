@@ -1,6 +1,6 @@
 -- What a node learns at an acquire, and at a barrier.
-use Rattle.std.proofs.Common.{◌≡◌, ℕ, ◌+◌, ◌<◌, ◌≤◌, List, length, set, get_or, refl, sym, subst, ap, ◌∙◌, arith}
-use Rattle.std.specs.Prelude.{Option, Some, None, Vec, slice_index_or}
+use Rattle.std.proofs.Common.{◌≡◌, ℕ, ◌<◌, ◌≤◌, List, length, set, get_or, refl, sym, subst, ap, ◌∙◌, arith}
+use Rattle.std.specs.Prelude.{Option, Some, None, Vec}
 use Rattle.std.specs.declared.alloc.Global.{Global}
 use Rattle.std.proofs.lemmas.List.{get_or_default}
 use Rattle.lrc_time.specs.Time.{entry}
@@ -8,12 +8,12 @@ use Rattle.lrc_exact.specs.Rule.{State, Knowledge, acquired, closed, with_learne
 use Rattle.lrc_exact_copies.specs.declared.copy.NodeCopy.{NodeCopy}
 use Rattle.lrc_exact_copies.specs.declared.made.Made.{Made}
 use Rattle.lrc_exact_copies.specs.Copies.{CopyOf}
-use Rattle.lrc_exact_copies.specs.Made.{AreAmong, row_of}
+use Rattle.lrc_exact_copies.specs.Made.{AreAmong}
 use Rattle.lrc_exact_copies.proofs.Copying.{weaker}
 use Rattle.lrc_exact_judge.specs.Memory.{AreKept, Having, IsReleased, never, once, with_have}
 use Rattle.lrc_exact_judge.specs.Shape.{shape_of}
 use Rattle.lrc_exact_judge.specs.declared.layout.Layout.{Layout}
-use Rattle.lrc_exact_judge.proofs.Kept.{kept-later, kept-learned}
+use Rattle.lrc_exact_judge.proofs.Kept.{kept-learned}
 use Rattle.lrc_exact_judge.proofs.Loops.{have-here, kept-have, kept-twice, time-at}
 
 -- what was known at a release

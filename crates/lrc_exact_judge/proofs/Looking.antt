@@ -1,9 +1,8 @@
 -- How far acts are looked at.
-use Rattle.std.proofs.Common.{◌≡◌, ℕ, ◌+◌, ◌<◌, ◌≤◌, ◌⊎◌, List, [], ◌∷◌, ◌++◌, length, take, take_all, drop, take-append-drop, inl, inr, refl, sym, subst, ap, ◌∙◌, arith}
+use Rattle.std.proofs.Common.{◌≡◌, ℕ, ◌≤◌, ◌⊎◌, List, ◌++◌, length, take, take_all, drop, take-append-drop, inl, inr, refl, sym, subst, ap, arith}
 use Rattle.std.specs.Prelude.{MatchOption, Option, Some, None, unwrap_or}
 use Rattle.std.proofs.lemmas.List.{length-take-le, take-take}
 use Rattle.lrc_trace.specs.declared.act.Act.{Act}
-use Rattle.lrc_trace.specs.Run.{Does, arrives_before, departs_before}
 use Rattle.lrc_trace.specs.Synchronization.{IsWellSynchronized, WaitsAtBarriers}
 use Rattle.lrc_trace.proofs.Positions.{Does-longer, Does-within, arrives_before-prefix, departs_before-prefix}
 use Rattle.lrc_trace.proofs.Prefixes.{Holds-longer, Holds-shorter, IsWellSynchronized-shorter}

@@ -1,22 +1,20 @@
 -- What is kept while nodes are gone through one by one.
-use Rattle.std.proofs.Common.{◌≡◌, ◌≢◌, ℕ, zero, suc, ◌+◌, ◌<◌, ◌≤◌, ◌&&◌, ◌||◌, Bool, true, false, cond, List, [], ◌∷◌, length, get_or, inl, inr, refl, sym, subst, ap, ◌∙◌, arith}
-use Rattle.std.specs.Prelude.{◌==◌, Option, Some, None, Vec, nat_le, nat_lt, slice_get}
+use Rattle.std.proofs.Common.{◌≡◌, ℕ, zero, suc, ◌+◌, ◌<◌, ◌≤◌, ◌||◌, Bool, true, false, cond, List, length, get_or, inl, inr, refl, sym, subst, ap, ◌∙◌, arith}
+use Rattle.std.specs.Prelude.{◌==◌, Option, Some, None, Vec, nat_le, nat_lt}
 use Rattle.std.specs.declared.alloc.Global.{Global}
 use Rattle.std.proofs.lemmas.Bool.{cases_eq, cases_lt, cond-true, cond-false, eq-eqb, ne_eqb, lt-ltb, le-ltb}
 use Rattle.std.proofs.lemmas.Option.{same_Some}
-use Rattle.lrc_time.specs.Time.{zeros, entry, joined, weight_of}
+use Rattle.lrc_time.specs.Time.{entry, joined, weight_of}
 use Rattle.lrc_time.proofs.Times.{length-zeros, length-joined_same}
-use Rattle.lrc_exact.specs.Rule.{Shape, State, Knowledge, asks, some_asks, known_by_all, with_arrived, kept_value, with_learned, departed, collects, collected}
-use Rattle.lrc_exact.proofs.LocalRules.{same_function}
+use Rattle.lrc_exact.specs.Rule.{State, Knowledge, asks, some_asks, known_by_all, with_arrived, kept_value, with_learned}
 use Rattle.lrc_exact_copies.specs.declared.copy.NodeCopy.{NodeCopy}
 use Rattle.lrc_exact_copies.specs.declared.made.Made.{Made}
-use Rattle.lrc_exact_copies.specs.Made.{AreAmong, row_of}
+use Rattle.lrc_exact_copies.specs.Made.{AreAmong}
 use Rattle.lrc_exact_copies.proofs.Copying.{same-view}
 use Rattle.lrc_exact_judge.specs.Keepers.{AreKeptValues}
-use Rattle.lrc_exact_judge.specs.Memory.{Having, IsNodeOf, AreKept, IsKept, IsReady, all_of, with_all, with_have}
+use Rattle.lrc_exact_judge.specs.Memory.{Having, IsNodeOf, AreKept, all_of, with_all, with_have}
 use Rattle.lrc_exact_judge.specs.Shape.{shape_of}
 use Rattle.lrc_exact_judge.specs.declared.layout.Layout.{Layout}
-use Rattle.lrc_exact_judge.specs.declared.memory.Memory.{Memory}
 use Rattle.lrc_exact_judge.proofs.Among.{all-among}
 use Rattle.lrc_exact_judge.proofs.Kept.{element-at}
 

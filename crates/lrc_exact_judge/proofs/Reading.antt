@@ -1,5 +1,5 @@
 -- Reads that give what the memory has, one act more.
-use Rattle.std.proofs.Common.{◌≡◌, ◌≢◌, ℕ, ◌+◌, ◌<◌, ◌≤◌, List, [], ◌∷◌, ◌++◌, length, take, drop, take-append-drop, get_or, inl, inr, refl, sym, subst, ap, ◌∙◌, arith}
+use Rattle.std.proofs.Common.{◌≡◌, ℕ, ◌+◌, ◌<◌, ◌≤◌, List, [], ◌∷◌, ◌++◌, length, take, drop, take-append-drop, get_or, inl, inr, refl, sym, subst, ap, ◌∙◌, arith}
 use Rattle.std.specs.Prelude.{MatchOption, Option, Some, None}
 use Rattle.std.proofs.lemmas.List.{length-take-le, take-take, take_more}
 use Rattle.lrc_trace.specs.declared.act.Act.{Act}
@@ -10,9 +10,8 @@ use Rattle.lrc_trace.specs.Synchronization.{IsWellSynchronized, WaitsAtBarriers}
 use Rattle.lrc_trace.proofs.Positions.{Does-cases, Does-longer, Does-within, arrives_before-prefix, departs_before-prefix}
 use Rattle.lrc_trace.proofs.Prefixes.{IsWellSynchronized-shorter}
 use Rattle.lrc_exact.specs.LocalRule.{state_after}
-use Rattle.lrc_exact.specs.Memory as memory
 use Rattle.lrc_exact.specs.Rule.{Shape, State, exact_rule, exact_value, KeepsExact, ReadsExactly}
-use Rattle.lrc_exact.proofs.LocalRules.{before-same, keeps-more, keeps-none, one_list, prefix-alike}
+use Rattle.lrc_exact.proofs.LocalRules.{before-same, keeps-more, keeps-none, prefix-alike}
 use Rattle.lrc_exact_judge.specs.First.{IsFirstInexact}
 use Rattle.lrc_exact_judge.specs.declared.first.Inexact.{Inexact}
 

@@ -1,14 +1,14 @@
 -- One act more, of the memory.
-use Rattle.std.proofs.Common.{◌≡◌, ◌≢◌, ℕ, zero, suc, ◌+◌, ◌<◌, ◌≤◌, ◌⊎◌, Bool, true, false, cond, List, [], ◌∷◌, ◌++◌, length, set, get_or, get_or-set_same, get_or-set_other, inl, inr, refl, sym, subst, ap, ◌∙◌, arith}
-use Rattle.std.specs.Prelude.{◌==◌, Option, Some, None, slice_index}
-use Rattle.std.proofs.lemmas.Bool.{cases_eq, cases_Bool, both_ways, cond-true, cond-false, eq-eqb, ne_eqb}
+use Rattle.std.proofs.Common.{◌≡◌, ◌≢◌, ℕ, ◌+◌, ◌<◌, ◌≤◌, ◌⊎◌, Bool, true, false, List, [], ◌∷◌, ◌++◌, length, set, get_or-set_same, get_or-set_other, inl, inr, refl, sym, subst, ap, ◌∙◌, arith}
+use Rattle.std.specs.Prelude.{◌==◌, Some, None, slice_index}
+use Rattle.std.proofs.lemmas.Bool.{cases_eq, both_ways, cond-true, cond-false, eq-eqb, ne_eqb}
 use Rattle.lrc_trace.specs.declared.act.Act.{Act}
 use Rattle.lrc_trace.specs.declared.act.Deed.{Deed}
 use Rattle.lrc_trace.specs.declared.act.Deed.TheVariants.{Read, Write, Acquire, Release, Arrive, Depart}
 use Rattle.lrc_trace.specs.Run.{is_depart, arrives_before, departs_before}
 use Rattle.lrc_trace.specs.Synchronization.{MayGoOn, WaitsAtBarriers}
 use Rattle.lrc_trace.proofs.Prefixes.{WaitsAtBarriers-last}
-use Rattle.lrc_exact.specs.LocalRule.{state_before, state_after, released_state}
+use Rattle.lrc_exact.specs.LocalRule.{state_before, state_after}
 use Rattle.lrc_exact.specs.Rule.{Shape, State, exact_rule, KeepsExact, accessed, acquired, closed, departed, page_of, state_at_start, with_write}
 use Rattle.lrc_exact.proofs.LocalRules.{keeps-more}
 use Rattle.lrc_exact_judge.specs.Current.{AreCurrent, IsMemoryAt, IsMemoryOf}
@@ -18,7 +18,6 @@ use Rattle.lrc_exact_judge.specs.declared.layout.Layout.{Layout}
 use Rattle.lrc_exact_judge.specs.declared.memory.Memory.{Memory}
 use Rattle.lrc_exact_judge.proofs.Currents.{after-act, after-depart, after-settling, counted, have-now}
 use Rattle.lrc_exact_judge.proofs.Kept.{kept-later}
-use Rattle.lrc_exact_judge.proofs.Loops.{have-here}
 
 module _ (run : List Act) (act : Act) (old new : Memory) (memory : IsMemoryOf run old) (within : act.node < old.layout.nodes) where
   abbrev pub shape : Shape

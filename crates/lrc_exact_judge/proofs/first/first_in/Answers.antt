@@ -1,12 +1,11 @@
-use Rattle.std.proofs.Common.{◌≡◌, ◌≤◌, ◌<◌, ◌+◌, ℕ, List, [], ◌∷◌, ◌++◌, length, take, take_all, refl, sym, subst, ap, ◌∙◌, arith}
+use Rattle.std.proofs.Common.{◌≡◌, ◌<◌, ℕ, List, length, take, take_all, sym, subst, ap, ◌∙◌, arith}
 use Rattle.std.proofs.lemmas.List.{length-take-le}
-use Rattle.lrc_trace.specs.declared.act.Act.{Act}
 use Rattle.lrc_trace.specs.declared.act.Deed.TheVariants.{Read}
 use Rattle.lrc_trace.specs.Run.{is_depart}
 use Rattle.lrc_trace.specs.Synchronization.{MayGoOn}
 use Rattle.lrc_trace.proofs.Positions.{Does-deed, Does-read}
 use Rattle.lrc_trace.proofs.Prefixes.{MayGoOn-last, WaitsAtBarriers-last}
-use Rattle.lrc_exact.specs.Rule.{Shape, State, KeepsExact, ReadsExactly, exact_value}
+use Rattle.lrc_exact.specs.Rule.{State, KeepsExact, ReadsExactly, exact_value}
 use Rattle.lrc_exact_judge.specs.Current.{IsMemoryAt}
 use Rattle.lrc_exact_judge.specs.Shape.{shape_of}
 use Rattle.lrc_exact_judge.specs.declared.layout.Layout.{Layout}

@@ -1,4 +1,4 @@
-use Rattle.std.proofs.Common.{◌≡◌, ◌<◌, ◌≤◌, ◌+◌, ℕ, suc, length, refl, sym, subst, ap, ◌∙◌, arith, add-one}
+use Rattle.std.proofs.Common.{◌≡◌, suc, length, sym, subst, ap, ◌∙◌, arith, add-one}
 use Rattle.std.specs.Prelude.{Some, slice_get}
 use Rattle.std.specs.Ordering.{nat_cmp}
 use Rattle.std.specs.BTreeMap.{get}
@@ -6,7 +6,7 @@ use Rattle.std.proofs.lemmas.Option.{slice_get-get_or}
 use Rattle.lrc_time.specs.Time.{entry}
 use Rattle.lrc_exact.specs.Rule.{is_writer, keeper_of, names_between}
 use Rattle.lrc_exact_copies.specs.Made.{in_row, row_of, row_or}
-use Rattle.lrc_exact_judge.specs.Keepers.{AddsKeeper, IsKeeper, kept_or, known_of}
+use Rattle.lrc_exact_judge.specs.Keepers.{IsKeeper, kept_or, known_of}
 use Rattle.lrc_exact_judge.proofs.Keeping.{keeper-more}
 use Rattle.lrc_exact_judge.proofs.keepers.keepers_of.Goals as goal
 

@@ -1,5 +1,4 @@
 use Rattle.std.proofs.Common.{◌≡◌, ◌<◌, ℕ, length, get_or}
-use Rattle.std.specs.Prelude.{slice_index}
 use Rattle.lrc_trace.specs.Run.{arrives_before, departs_before}
 use Rattle.lrc_exact_judge.specs.LookedAt.{IsBetween}
 use Rattle.lrc_exact_judge.proofs.looked_at.first_between.Given as goal

@@ -1,7 +1,6 @@
-use Rattle.std.proofs.Common.{◌≡◌, ◌≤◌, ◌<◌, ◌+◌, ℕ, length, set, get_or, rules, refl, sym, subst, ap, ◌∙◌, arith}
-use Rattle.std.specs.Prelude.{List, Option, Some, None}
+use Rattle.std.proofs.Common.{◌≤◌, ◌<◌, ◌+◌, length, set, get_or, rules, refl, sym, subst, ap, ◌∙◌, arith}
 use Rattle.lrc_time.specs.Time.{entry}
-use Rattle.lrc_exact.specs.Rule.{State, acquired, closed}
+use Rattle.lrc_exact.specs.Rule.{acquired, closed}
 use Rattle.lrc_exact_copies.specs.Made.{AreAmong, row_of}
 use Rattle.lrc_exact_judge.specs.declared.layout.Layout.{Layout}
 use Rattle.lrc_exact_judge.specs.Memory.{AreKept, IsReleased, with_have}

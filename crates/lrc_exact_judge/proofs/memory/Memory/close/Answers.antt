@@ -1,4 +1,4 @@
-use Rattle.std.proofs.Common.{◌≡◌, ◌≤◌, ◌<◌, ◌+◌, ℕ, length, set, get_or, length-set, refl, sym, subst, ap, ◌∙◌, arith}
+use Rattle.std.proofs.Common.{◌≡◌, ◌+◌, set, get_or, length-set, sym, subst, ap, ◌∙◌, arith}
 use Rattle.lrc_exact.specs.Rule.{closed}
 use Rattle.lrc_exact_judge.specs.Memory.{AreKept, with_have}
 use Rattle.lrc_exact_judge.specs.Shape.{shape_of}

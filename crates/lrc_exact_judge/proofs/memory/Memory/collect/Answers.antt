@@ -1,5 +1,5 @@
-use Rattle.std.proofs.Common.{◌≡◌, ◌<◌, ℕ, length, refl, sym, subst, ap, ◌∙◌}
-use Rattle.lrc_exact.specs.Rule.{State, collected, keeper_of, kept_value, page_of}
+use Rattle.std.proofs.Common.{◌≡◌, ◌<◌, ℕ, length, sym, subst, ap, ◌∙◌}
+use Rattle.lrc_exact.specs.Rule.{collected, keeper_of, kept_value, page_of}
 use Rattle.lrc_exact_judge.specs.Collecting.{with_values}
 use Rattle.lrc_exact_judge.specs.Keepers.{AreKeepers}
 use Rattle.lrc_exact_judge.specs.Memory.{with_all}

@@ -1,4 +1,4 @@
-use Rattle.std.proofs.Common.{◌≡◌, ◌≤◌, ◌<◌, ◌+◌, ℕ, length, refl, sym, subst, ap, ◌∙◌, arith}
+use Rattle.std.proofs.Common.{◌<◌, refl, sym, subst, arith}
 use Rattle.lrc_exact_judge.specs.declared.layout.Layout.{Layout}
 use Rattle.lrc_exact_judge.proofs.Steps.{step-depart}
 use Rattle.lrc_exact_judge.proofs.memory.Memory.depart.Goals as goal

@@ -1,9 +1,7 @@
-use Rattle.std.proofs.Common.{◌≡◌, ◌≤◌, ◌<◌, ◌+◌, ℕ, length, get_or, refl, sym, subst, ap, ◌∙◌, arith, add-one}
-use Rattle.std.specs.Prelude.{List}
+use Rattle.std.proofs.Common.{◌≡◌, ◌<◌, length, get_or, sym, ap, ◌∙◌, arith, add-one}
 use Rattle.lrc_time.specs.Time.{joined}
 use Rattle.lrc_time.proofs.Times.{length-joined_same}
 use Rattle.lrc_exact.specs.Rule.{known_by_all}
-use Rattle.lrc_exact_copies.specs.declared.copy.NodeCopy.{NodeCopy}
 use Rattle.lrc_exact_judge.specs.Memory.{all_of}
 use Rattle.lrc_exact_judge.proofs.Loops.{known-more, long-at, time-at}
 use Rattle.lrc_exact_judge.proofs.memory.Memory.known_by_all.Goals as goal

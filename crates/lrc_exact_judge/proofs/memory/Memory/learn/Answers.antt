@@ -1,9 +1,9 @@
-use Rattle.std.proofs.Common.{◌≡◌, ◌≤◌, ◌<◌, ◌+◌, ℕ, length, set, get_or, refl, sym, subst, ap, ◌∙◌, arith}
+use Rattle.std.proofs.Common.{◌≡◌, ◌≤◌, ◌<◌, length, get_or, refl, sym, subst, ap, ◌∙◌, arith}
 use Rattle.lrc_time.specs.Time.{entry}
-use Rattle.lrc_exact.specs.Rule.{Knowledge, State, known_by_all, with_learned}
+use Rattle.lrc_exact.specs.Rule.{known_by_all, with_learned}
 use Rattle.lrc_exact_copies.specs.Made.{AreAmong, row_of}
 use Rattle.lrc_exact_judge.specs.declared.layout.Layout.{Layout}
-use Rattle.lrc_exact_judge.specs.Memory.{Having, IsKept, all_of, with_have}
+use Rattle.lrc_exact_judge.specs.Memory.{all_of}
 use Rattle.lrc_exact_judge.specs.Shape.{shape_of}
 use Rattle.lrc_exact_judge.proofs.Kept.{kept-later}
 use Rattle.lrc_exact_judge.proofs.Learning.{learned-at, own-at}

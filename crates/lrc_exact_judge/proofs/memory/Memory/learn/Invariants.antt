@@ -1,4 +1,4 @@
-use Rattle.std.proofs.Common.{◌≡◌, ◌<◌, ◌≤◌, ℕ, length}
+use Rattle.std.proofs.Common.{◌≡◌, ◌<◌, ◌≤◌, ℕ}
 use Rattle.lrc_exact.specs.Rule.{known_by_all, with_learned}
 use Rattle.lrc_exact_judge.specs.Memory.{CountAlike, Having, IsKept, all_of}
 use Rattle.lrc_exact_judge.proofs.Loops.{with_below}

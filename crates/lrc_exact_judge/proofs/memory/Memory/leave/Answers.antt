@@ -1,4 +1,4 @@
-use Rattle.std.proofs.Common.{◌≡◌, ◌≤◌, ◌<◌, ◌+◌, ℕ, length, refl, sym, subst, ap, ◌∙◌, arith}
+use Rattle.std.proofs.Common.{refl, arith}
 use Rattle.lrc_exact_judge.proofs.Steps.{left-already, settled-now}
 use Rattle.lrc_exact_judge.proofs.memory.Memory.leave.Goals as goal
 

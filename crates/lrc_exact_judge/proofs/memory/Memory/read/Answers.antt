@@ -1,10 +1,9 @@
-use Rattle.std.proofs.Common.{◌≡◌, ◌≤◌, ◌<◌, ◌+◌, ℕ, length, set, get_or, refl, sym, subst, ap, ◌∙◌, arith}
+use Rattle.std.proofs.Common.{◌≡◌, set, get_or, refl, sym, subst, ap, ◌∙◌, arith}
 use Rattle.lrc_exact_judge.specs.Memory.{AreKept, with_have}
 use Rattle.std.specs.Prelude.{◌/◌}
-use Rattle.lrc_exact.specs.Rule.{accessed, with_write}
+use Rattle.lrc_exact.specs.Rule.{accessed}
 use Rattle.lrc_exact_judge.specs.Shape.{shape_of}
 use Rattle.lrc_exact_judge.proofs.Kept.{kept-still}
-use Rattle.lrc_exact_judge.proofs.Loops.{few-at, long-at}
 use Rattle.lrc_exact_judge.proofs.memory.Memory.read.Goals as goal
 
 pub returns-clause-kept : goal.returns-clause-kept

@@ -1,6 +1,6 @@
-use Rattle.std.proofs.Common.{◌≡◌, ◌≤◌, ◌<◌, ◌+◌, ℕ, length, set, get_or, rules, refl, sym, subst, ap, ◌∙◌, arith}
+use Rattle.std.proofs.Common.{◌≡◌, ◌<◌, ◌+◌, set, get_or, rules, sym, subst, ap, ◌∙◌, arith}
 use Rattle.std.specs.Prelude.{Some}
-use Rattle.lrc_exact.specs.Rule.{State, closed}
+use Rattle.lrc_exact.specs.Rule.{closed}
 use Rattle.lrc_exact_judge.specs.declared.layout.Layout.{Layout}
 use Rattle.lrc_exact_judge.specs.Memory.{AreKept, with_have, with_release}
 use Rattle.lrc_exact_judge.proofs.Kept.{kept-released}

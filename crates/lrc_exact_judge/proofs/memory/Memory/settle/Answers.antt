@@ -1,7 +1,7 @@
-use Rattle.std.proofs.Common.{◌≡◌, ◌≤◌, ◌<◌, ◌+◌, ℕ, true, false, length, refl, sym, subst, ap, ◌∙◌, arith}
+use Rattle.std.proofs.Common.{◌≡◌, true, false, length, sym, subst, ap, ◌∙◌, arith}
 use Rattle.std.proofs.lemmas.Bool.{cond-true, cond-false}
 use Rattle.lrc_time.specs.Time.{entry}
-use Rattle.lrc_exact.specs.Rule.{Shape, State, collected, collects, departed, known_by_all, with_learned}
+use Rattle.lrc_exact.specs.Rule.{Shape, collected, collects, departed, known_by_all, with_learned}
 use Rattle.lrc_exact_copies.specs.Made.{AreAmong, row_of}
 use Rattle.lrc_exact_judge.specs.declared.layout.Layout.{Layout}
 use Rattle.lrc_exact_judge.specs.Keepers.{AreKeptValues}

@@ -1,4 +1,4 @@
-use Rattle.std.proofs.Common.{◌≡◌, ◌≤◌, ◌<◌, ◌+◌, ℕ, length, refl, sym, subst, ap, ◌∙◌, arith}
+use Rattle.std.proofs.Common.{◌+◌, length, arith}
 use Rattle.lrc_exact_judge.proofs.Steps.{step-acquire, step-arrive, step-other, step-read, step-release, step-write}
 use Rattle.lrc_exact_judge.proofs.memory.Memory.step.Goals as goal
 

@@ -1,4 +1,4 @@
-use Rattle.std.proofs.Common.{◌≡◌, ℕ, length}
+use Rattle.std.proofs.Common.{◌≡◌, ℕ}
 use Rattle.lrc_exact_judge.specs.Collecting.{with_values}
 use Rattle.lrc_exact_judge.specs.Keepers.{AreValues}
 use Rattle.lrc_exact_judge.specs.Memory.{CountAlike, Having, IsKept}

@@ -1,4 +1,4 @@
-use Rattle.std.proofs.Common.{◌≡◌, ◌≤◌, ◌<◌, ◌+◌, ◌-◌, ◌*◌, ℕ, false, true, [], ◌∷◌, length, get_or, refl, sym, subst, ap, ◌∙◌, arith}
+use Rattle.std.proofs.Common.{◌≡◌, ◌+◌, ◌-◌, ◌*◌, ℕ, false, true, [], ◌∷◌, refl, sym, ap, ◌∙◌, arith}
 use Rattle.std.specs.Prelude.{slice_index}
 use Rattle.std.specs.Ordering.{nat_cmp}
 use Rattle.std.specs.BTreeMap.{get}
@@ -8,7 +8,6 @@ use Rattle.lrc_exact_copies.specs.Copies.{look_in, with_fixed_page}
 use Rattle.lrc_exact_copies.proofs.Fixing.{on_page}
 use Rattle.lrc_exact_judge.specs.Collecting.{with_taken}
 use Rattle.lrc_exact_judge.specs.Keepers.{value_at}
-use Rattle.lrc_exact_judge.specs.Memory.{with_have}
 use Rattle.lrc_exact_judge.specs.Shape.{shape_of}
 use Rattle.lrc_exact_judge.proofs.Kept.{element-at, kept-still}
 use Rattle.lrc_exact_judge.proofs.Loops.{kept-have, kept-itself}

@@ -1,5 +1,4 @@
-use Rattle.std.proofs.Common.{◌≡◌, ◌<◌, ℕ, length, get_or, refl, sym, subst, ap, ◌∙◌, arith}
-use Rattle.std.specs.Prelude.{List}
+use Rattle.std.proofs.Common.{◌≡◌, length, get_or, sym, ap, ◌∙◌, arith}
 use Rattle.lrc_exact.specs.Memory as memory
 use Rattle.lrc_exact.specs.Rule.{State, exact_rule, exact_value}
 use Rattle.lrc_exact.proofs.LocalRules.{one_list}

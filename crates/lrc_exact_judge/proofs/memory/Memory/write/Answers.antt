@@ -1,4 +1,4 @@
-use Rattle.std.proofs.Common.{◌≡◌, ◌≤◌, ◌<◌, ◌+◌, ℕ, length, set, get_or, refl, sym, subst, ap, ◌∙◌, arith}
+use Rattle.std.proofs.Common.{◌≡◌, set, get_or, refl, sym, subst, ap, ◌∙◌, arith}
 use Rattle.lrc_exact_judge.specs.Memory.{AreKept, with_have}
 use Rattle.std.specs.Prelude.{◌/◌}
 use Rattle.lrc_exact.specs.Rule.{accessed, with_write}
