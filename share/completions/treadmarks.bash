@@ -12,7 +12,7 @@ _treadmarks_options() {
     why) echo "--nodes --steps --collect --order --page --events --seed --acts --act --and" ;;
     stats) echo "--nodes --steps --collect --order --page --events --seed --threads" ;;
     chart) echo "--nodes --steps --collect --order --page --events --seed --threads --acts --text --from --to --hide --source" ;;
-    judge) echo "--nodes --pairs" ;;
+    judge) echo "--nodes --pairs --all" ;;
     races) echo "--as --group --sure" ;;
     explore) echo "--nodes --most --outcomes --outcome --memory --tries --ignore-races" ;;
     esac
@@ -29,7 +29,7 @@ _treadmarks_values() {
     *,--hide) echo "quiet" ;;
     *,--memory) echo "flat lazy" ;;
     *,--events | *,--acts) echo FILE ;;
-    *,--threads | *,--messages | *,--text | *,--source | *,--pairs | *,--group | *,--sure | *,--outcomes | *,--ignore-races) ;;
+    *,--threads | *,--messages | *,--text | *,--source | *,--pairs | *,--all | *,--group | *,--sure | *,--outcomes | *,--ignore-races) ;;
     *,--*) echo NUMBER ;;
     esac
 }

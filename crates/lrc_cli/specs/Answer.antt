@@ -1,5 +1,5 @@
 -- What the program answers to a choice: a text that it prints and its status, or the first fault.
-use Rattle.std.specs.Prelude.{◌≡◌, ◌⊎◌, ℕ, Bool, true, false, List, Option, None, Some, Result, Ok, Err, codes, option_map}
+use Rattle.std.specs.Prelude.{◌≡◌, ◌⊎◌, ◌&&◌, ℕ, Bool, true, false, not, List, Option, None, Some, Result, Ok, Err, codes, option_map}
 use Rattle.lrc_acts.specs.ActsText.{ReadsActs}
 use Rattle.lrc_acts.specs.declared.reading.ActsFault.TheVariants.{BadAct, TooLong}
 use Rattle.lrc_exec.specs.Rounds.{AreActsOfRounds}
@@ -13,6 +13,7 @@ use Rattle.lrc_explore_text.specs.Explored.{Explores, MeetsFew, MeetsTooMany}
 use Rattle.lrc_explore_text.specs.Orders.{TellsFindings}
 use Rattle.lrc_explore_text.specs.OutcomeRun.{HasFewerOutcomes, TellsNumberedRun}
 use Rattle.lrc_labels.specs.Reading.{Label}
+use Rattle.lrc_judge_all.specs.JudgesAll.{JudgesAll}
 use Rattle.lrc_judge_text.specs.Judgement.{Judges}
 use Rattle.lrc_judge_text.specs.PairsTold.{HasItsRaces, told_text}
 use Rattle.lrc_lint_fault.specs.Told.{TellsNoProgram}
@@ -145,6 +146,11 @@ pub record IsActsCharted (acts : ChartedActs) (charting : Charting) (text out : 
   pub drawn : IsDrawn charting.text picture out
   pub ended : status ≡ 0
 
+-- a judgement of acts; where that is asked for, with each read that breaks a rule
+abbrev pub IsJudged : (all : Bool) → Judging → List ℕ → List ℕ → ℕ → Type 0
+IsJudged true judging text out status = JudgesAll (judged_nodes judging) judging.pairs text out status
+IsJudged false judging text out status = Judges (judged_nodes judging) judging.pairs text out status
+
 -- What is printed, with the status: `ok` where the text is a program's, the report of what the program does in rounds on
 -- the plain machine, what is shown of its run, a judgement of acts, or what every order of the program comes to.
 abbrev pub Prints : Choice → List ℕ → Option (List ℕ) → List ℕ → ℕ → Type 0
@@ -153,7 +159,7 @@ Prints (Plain run) text events_text out status =
     (program : Program) × IsTextOf text program
     × IsPrintoutOfRounds program run.nodes.count run.steps.count out status
 Prints (Show run shape) text events_text out status = ShowsRun run shape text events_text out status
-Prints (Judge judging) text events_text out status = Judges (judged_nodes judging) judging.pairs text out status
+Prints (Judge judging) text events_text out status = IsJudged judging.all judging text out status
 Prints (Explore exploring) text events_text out status =
     (program : Program) × IsTextOf text program × IsExploration exploring text program out status
 Prints (Lint file) text events_text out status = IsLinted file.now text out status
@@ -248,9 +254,9 @@ IsFault (Lint file) text events_text fault = fault ≡ NoMemory
 IsFault (WhyActs acts asking) text events_text fault = IsWhyFault acts asking text fault
 IsFault (ChartActs acts charting) text events_text fault = IsActsChartFault acts charting text fault
 
--- whether the choice asks for racing pairs
+-- whether the choice asks for racing pairs that are found while they are written
 abbrev pub asks_pairs : Choice → Bool
-asks_pairs (Judge judging) = judging.pairs
+asks_pairs (Judge judging) = judging.pairs && not judging.all
 asks_pairs _ = false
 
 -- What is answered to a choice: what is printed, a judgement with the racing pairs that are asked for, or the first fault.

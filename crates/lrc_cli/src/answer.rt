@@ -9,7 +9,7 @@ ghost use Rattle.lrc_cli_args.specs.Files.{names_events, starts_threads};
 ghost use Rattle.lrc_cli_args.specs.declared.choice.Choice.TheVariants.{Judge, Plain};
 
 use crate::explored::explored;
-use crate::judged::{judged, judged_with_pairs};
+use crate::judged::{judged, judged_all, judged_with_pairs};
 use crate::linted::linted;
 use crate::pictured::pictured;
 use crate::reasoned::reasoned;
@@ -74,7 +74,9 @@ pub(crate) fn printed(printout: Result<Printout, Fault>) -> Result<Answered, Fau
 fn judgement(alloc: Global, judging: &Judging<'_>, text: &[u8]) -> Result<Answered, Fault>
     ensures { Answers (Judge judging.now) text.now None result }
 {
-    if judging.pairs {
+    if judging.all {
+        printed(judged_all(alloc, judging, text))
+    } else if judging.pairs {
         let judgement = judged_with_pairs(alloc, judging, text)?;
         Ok(Answered::Judged(judgement))
     } else {

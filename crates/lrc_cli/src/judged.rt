@@ -3,12 +3,14 @@
 ghost use Rattle.std.specs.Prelude.{◌≡◌, ◌≤◌, IfErr, IfOk, IfSome, false, true};
 ghost use Rattle.lrc_cli.specs.Answer.{IsActsFault, judged_nodes};
 ghost use Rattle.lrc_text.specs.Parts.{whole_text};
+ghost use Rattle.lrc_judge_all.specs.JudgesAll.{JudgesAll};
 ghost use Rattle.lrc_judge_text.specs.Judgement.{Judges};
 ghost use Rattle.lrc_judge_text.specs.PairsTold.{HasItsRaces, told_text};
 
 use lrc_cli_answer::fault::Fault;
 use lrc_cli_answer::printout::Printout;
 use lrc_cli_args::choice::Judging;
+use lrc_judge_all::judge_all;
 use lrc_judge_text::judge::judge;
 use lrc_judge_text::pairs::{PairsJudgement, judge_pairs};
 use std::alloc::Global;
@@ -40,6 +42,24 @@ pub(crate) fn judged_with_pairs(
 {
     let judgement = judge_pairs(alloc, text, nodes_of(judging))?;
     Ok(judgement)
+}
+
+/// Answers the command `judge`, with each read that breaks a rule, for a text of acts.
+pub(crate) fn judged_all(
+    alloc: Global,
+    judging: &Judging<'_>,
+    text: &[u8],
+) -> Result<Printout, Fault>
+    ensures ok { IfOk result (λ printout.
+        JudgesAll (judged_nodes judging.now) judging.now.pairs text.now
+        (whole_text printout.parts.items) printout.status) }
+    ensures err { IfErr result (IsActsFault (judged_nodes judging.now) text.now) }
+{
+    let judged = judge_all(alloc, text, nodes_of(judging), judging.pairs)?;
+    Ok(Printout {
+        parts: judged.parts,
+        status: judged.status,
+    })
 }
 
 // How many nodes the acts are of, where that is said.

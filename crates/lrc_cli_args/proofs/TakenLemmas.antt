@@ -463,6 +463,7 @@ judge_taken words none =
       file = file;
       nodes = bare_taken judge_built rows level (codes "nodes") refl;
       pairs = flag_taken judge_built rows level (codes "pairs") refl;
+      all = flag_taken judge_built rows level (codes "all") refl;
     }
 
 explore_taken : (words : List Text) → level_fault explore_built [] nothing_held words false [] ≡ [] → IsExploreTaken (rows_after explore_built.rules [] words)

@@ -121,6 +121,7 @@ pub record IsJudging (rows : List Row) (judging : Judging) : Type 0 where
   pub file : first_of (codes "FILE") rows ≡ Some judging.file.now
   pub nodes : some_number_in (codes "nodes") rows ≡ option_map (λ nodes. nodes.count) judging.nodes
   pub pairs : IsFlag (codes "pairs") judging.pairs rows
+  pub all : IsFlag (codes "all") judging.all rows
 
 -- what is to be explored
 pub record IsExploring (rows : List Row) (exploring : Exploring) : Type 0 where

@@ -142,6 +142,7 @@ pub record IsJudgeTaken (rows : List Row) : Type 0 where
   pub file : HasValue (codes "FILE") rows
   pub nodes : IsBareNumber (codes "nodes") rows
   pub pairs : IsFlagOption (codes "pairs") rows
+  pub all : IsFlagOption (codes "all") rows
 
 -- of `explore`
 pub record IsExploreTaken (rows : List Row) : Type 0 where

@@ -159,6 +159,8 @@ pub struct Judging<'w> {
     pub nodes: Option<Nodes>,
     /// Whether every racing pair is listed, instead of the named races.
     pub pairs: bool,
+    /// Whether each read that is not allowed, and each that is not in order, is named, instead of the first.
+    pub all: bool,
 }
 
 /// The memory whose runs are searched.

@@ -226,6 +226,7 @@ fn judge_choice<'w>(options: &ArgMatches<'w>) -> Result<Choice<'w>, Misfit>
         file: text_of(options, "FILE"),
         nodes,
         pairs: is_named(options, "pairs"),
+        all: is_named(options, "all"),
     }))
 }
 

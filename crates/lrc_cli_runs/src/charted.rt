@@ -1,7 +1,6 @@
 // A run as a picture.
 
 ghost use Rattle.std.specs.Prelude.{◌≡◌, IfErr, IfOk, Some, map, option_map};
-ghost use Rattle.lrc_cli_answer.specs.Texts.{IsTextOf};
 ghost use Rattle.lrc_cli_runs.specs.Charted.{AreWaitsIn, IsChart, IsCharted, IsChartFault, IsDrawn, part_of, source_of};
 ghost use Rattle.lrc_cli_runs.specs.Runs.{IsRunWith, turns_in};
 ghost use Rattle.lrc_cli_runs.specs.Shown.{IsShowFault};
@@ -23,42 +22,33 @@ use lrc_chart_title::title_of;
 use lrc_cli_answer::fault::Fault;
 use lrc_cli_answer::printout::in_one;
 use lrc_cli_args::choice::{Charting, RunChoice, RunOptions};
-use lrc_exec::code::Code;
 use lrc_explain_waits::{stands_of, waits_of};
 use lrc_judge::first_pairs::first_pairs;
-use lrc_labels::read_labels;
-use lrc_lang::lines::lines_of;
-use lrc_lang::program::Program;
 use lrc_lines::walks::follow_acts;
+use lrc_source::source::Source;
 use lrc_svg::document_part;
 use lrc_trace::act::Act;
 use lrc_world::run::Run;
 use std::alloc::{AllocError, Global};
 
-/// Returns a chart of a run of the program in this text.
+/// Returns a chart of a run of the program of this source.
 pub(crate) fn charted(
     alloc: Global,
     charting: Charting,
     choice: &RunChoice<'_>,
-    text: &[u8],
-    program: &Program,
+    source: &Source<'_>,
     run: &Run,
 ) -> Result<Vec<Vec<u8>>, Fault>
-    requires text { IsTextOf text.now program.now }
-    requires ran { IsRunWith program.now choice.now.options Whole run.now }
-    ensures ok { IfOk result (λ parts. IsCharted charting choice.now text.now program.now run.now
-        (whole_text parts.items)) }
-    ensures err { IfErr result (IsShowFault (Chart charting) choice.now text.now program.now
-        run.now) }
+    requires { IsRunWith source.now.program choice.now.options Whole run.now }
+    ensures ok { IfOk result (λ parts. IsCharted charting choice.now source.now.text
+        source.now.program run.now (whole_text parts.items)) }
+    ensures err { IfErr result (IsShowFault (Chart charting) choice.now source.now.text
+        source.now.program run.now) }
 {
     let nodes = choice.options.nodes.count as u8;
-    // The labels borrow the text that they are read from, and all that the course has is borrowed for one time: so they are read from a copy.
-    let bytes = Vec::from_slice(alloc, text)?;
-    let source = bytes.as_slice();
-    let labelling = read_labels(alloc, source, program.words, program.locks)?;
-    let labels = labelling.said.as_slice();
+    let labels = source.labels();
     let acts = run.report.acts.as_slice();
-    let places = lines_kept(alloc, text, &run.origins.statements)?;
+    let places = lines_kept(alloc, source, &run.origins.statements)?;
     let lines = places.as_slice();
     let times = &run.origins.times;
     let found = first_pairs(alloc, acts)?;
@@ -66,7 +56,7 @@ pub(crate) fn charted(
     let order = order_of(alloc, run)?;
     let made = turns_of(alloc, &run.report.logs, &order)?;
     let turns = made.as_slice();
-    let standing = waits_in(alloc, text, program, &choice.options, acts)?;
+    let standing = waits_behind(alloc, source, &choice.options, acts)?;
     let waits = standing.as_slice();
     let known = Known {
         acts,
@@ -81,48 +71,23 @@ pub(crate) fn charted(
         waits,
     };
     let title = title_of(alloc, choice, &charting)?;
-    let part = chart_part(alloc, charting, &title, nodes, &course, text)?;
+    let part = chart_part(alloc, charting, &title, nodes, &course, source.text())?;
     Ok(in_one(alloc, part)?)
 }
 
 // For whom each node waits when a run has made these acts.
-fn waits_in(
+fn waits_behind(
     alloc: Global,
-    text: &[u8],
-    program: &Program,
+    source: &Source<'_>,
     options: &RunOptions<'_>,
     acts: &[Act],
 ) -> Result<Vec<Option<usize>>, AllocError>
-    requires { IsTextOf text.now program.now }
-    ensures { IfOk result (λ waits. AreWaitsIn text.now program.now options.now acts.now
-        waits.items) }
+    ensures { IfOk result (λ waits. AreWaitsIn source.now.text source.now.program options.now
+        acts.now waits.items) }
 {
-    let places = lines_of(alloc, text)?;
-    let code = Code::new(alloc, program)?;
-    waits_behind(
-        alloc,
-        &code,
-        &places,
-        options.nodes.count as u8,
-        options.steps.count,
-        acts,
-    )
-}
-
-// The same of a program whose statements, and the text's end behind them, have these lines.
-fn waits_behind(
-    alloc: Global,
-    code: &Code<'_>,
-    places: &[u32],
-    nodes: u8,
-    steps: u32,
-    acts: &[Act],
-) -> Result<Vec<Option<usize>>, AllocError>
-    ensures { IfOk result (λ waits. waits.items
-        ≡ waits_of (stands_of code.now nodes places.now (Some steps) acts.now)) }
-{
-    let followed = follow_acts(alloc, code, places, nodes, acts)?;
-    let stands = stands_of(alloc, &followed, nodes, Some(steps), acts)?;
+    let nodes = options.nodes.count as u8;
+    let followed = follow_acts(alloc, source.code(), source.lines(), nodes, acts)?;
+    let stands = stands_of(alloc, &followed, nodes, Some(options.steps.count), acts)?;
     waits_of(alloc, &stands)
 }
 

@@ -1,14 +1,13 @@
 // What is told of acts of a run that are asked of.
 
 ghost use Rattle.std.specs.Prelude.{◌≡◌, ◌≢◌, ◌<◌, All, IfErr, IfOk, IfSome, length};
-ghost use Rattle.lrc_cli_answer.specs.Texts.{IsTextOf};
 ghost use Rattle.lrc_cli_runs.specs.Reasoned.{IsUntold, asked_of};
 ghost use Rattle.lrc_text.specs.Parts.{whole_text};
 ghost use Rattle.lrc_why_run.specs.Answers.{AnswersRun};
 
 use lrc_cli_answer::fault::Fault;
 use lrc_cli_args::choice::{Asking, RunOptions};
-use lrc_lang::program::Program;
+use lrc_source::source::Source;
 use lrc_trace::act::Act;
 use lrc_why_run::why_run;
 use lrc_why_text::asked::Asked;
@@ -17,21 +16,20 @@ use std::alloc::Global;
 /// Returns the reasons for the acts of a run that the question names.
 pub(crate) fn reasons_of_run(
     alloc: Global,
-    text: &[u8],
-    program: &Program,
+    source: &Source<'_>,
     options: &RunOptions<'_>,
     acts: &[Act],
     asking: &Asking,
 ) -> Result<Vec<Vec<u8>>, Fault>
-    requires text { IsTextOf text.now program.now }
-    requires acts { All (λ act. act.node < 16) acts.now }
-    ensures ok { IfOk result (λ parts. AnswersRun text.now program.now options.now.nodes.count
-        options.now.size acts.now (asked_of asking.now) (whole_text parts.items)) }
+    requires { All (λ act. act.node < 16) acts.now }
+    ensures ok { IfOk result (λ parts. AnswersRun source.now.text source.now.program
+        options.now.nodes.count options.now.size acts.now (asked_of asking.now)
+        (whole_text parts.items)) }
     ensures err { IfErr result (IsUntold asking.now (length acts.now)) }
 {
     let nodes = options.nodes.count as u8;
     let asked = asked_of(asking);
-    let parts = why_run(alloc, text, program, nodes, options.size, acts, asked)?;
+    let parts = why_run(alloc, source, nodes, options.size, acts, asked)?;
     Ok(parts)
 }
 

@@ -1,7 +1,6 @@
 // What the program answers to a run without threads, and what is shown of any run.
 
 ghost use Rattle.std.specs.Prelude.{◌≡◌, ◌<◌, All, IfErr, IfOk, false, is_some, length, option_map};
-ghost use Rattle.lrc_cli_answer.specs.Texts.{IsTextOf};
 ghost use Rattle.lrc_cli_runs.specs.Showing.{RefusesRun, ShowsRun};
 ghost use Rattle.lrc_cli_runs.specs.Explained.{IsExplained};
 ghost use Rattle.lrc_cli_runs.specs.Shown.{IsRunFor, IsShowFault, IsShown, keep_for, shown_status};
@@ -18,14 +17,11 @@ use crate::trace::traced;
 use lrc_cli_answer::fault::Fault;
 use lrc_cli_answer::printout::{Printout, in_one};
 use lrc_cli_args::choice::{Form, RunChoice, RunOptions, Shape};
-use lrc_exec::code::Code;
 use lrc_explain::explain;
-use lrc_labels::read_labels;
-use lrc_lang::lines::lines_of;
-use lrc_lang::parse;
-use lrc_lang::program::Program;
 use lrc_node::End;
 use lrc_report::report::{run_parts, status_after_run};
+use lrc_source::source::Source;
+use lrc_source::text::SourceText;
 use lrc_stats::stats_part;
 use lrc_trace::act::Act;
 use lrc_world::keep::Keep;
@@ -47,9 +43,10 @@ pub fn show(
     ensures err { IfErr result (RefusesRun choice.now shape text.now
         (option_map (λ e. e.now) events.entry)) }
 {
-    let program = parse(alloc, text)?;
-    let run = run_of(alloc, choice, &program, events, keep_for(shape))?;
-    shown(alloc, shape, choice, text, &program, &run)
+    let read = SourceText::read(alloc, text)?;
+    let source = Source::of(alloc, &read)?;
+    let run = run_of(alloc, choice, source.program(), events, keep_for(shape))?;
+    shown(alloc, shape, choice, &source, &run)
 }
 
 // What is kept of a run that is shown so.
@@ -67,25 +64,24 @@ pub(crate) fn keep_for(shape: Shape) -> Keep
     }
 }
 
-/// Shows a run of the program in this text. The run has kept what is shown of it.
+/// Shows a run of the program of this source. The run has kept what is shown of it.
 pub(crate) fn shown(
     alloc: Global,
     shape: Shape,
     choice: &RunChoice<'_>,
-    text: &[u8],
-    program: &Program,
+    source: &Source<'_>,
     run: &Run,
 ) -> Result<Printout, Fault>
-    requires text { IsTextOf text.now program.now }
-    requires ran { IsRunFor shape program.now choice.now.options run.now }
-    ensures text { IfOk result (λ printout. IsShown shape choice.now text.now program.now run.now
-        (whole_text printout.parts.items)) }
+    requires ran { IsRunFor shape source.now.program choice.now.options run.now }
+    ensures text { IfOk result (λ printout. IsShown shape choice.now source.now.text
+        source.now.program run.now (whole_text printout.parts.items)) }
     ensures status { IfOk result (λ printout.
         printout.status ≡ shown_status shape run.now.report.first_race run.now.report.ends.items) }
-    ensures err { IfErr result (IsShowFault shape choice.now text.now program.now run.now) }
+    ensures err { IfErr result (IsShowFault shape choice.now source.now.text source.now.program
+        run.now) }
 {
     Ok(Printout {
-        parts: parts_of(alloc, shape, choice, text, program, run)?,
+        parts: parts_of(alloc, shape, choice, source, run)?,
         status: status_of(shape, &run.report.ends, run.report.first_race),
     })
 }
@@ -106,15 +102,14 @@ fn parts_of(
     alloc: Global,
     shape: Shape,
     choice: &RunChoice<'_>,
-    text: &[u8],
-    program: &Program,
+    source: &Source<'_>,
     run: &Run,
 ) -> Result<Vec<Vec<u8>>, Fault>
-    requires text { IsTextOf text.now program.now }
-    requires ran { IsRunFor shape program.now choice.now.options run.now }
-    ensures ok { IfOk result (λ parts. IsShown shape choice.now text.now program.now run.now
-        (whole_text parts.items)) }
-    ensures err { IfErr result (IsShowFault shape choice.now text.now program.now run.now) }
+    requires ran { IsRunFor shape source.now.program choice.now.options run.now }
+    ensures ok { IfOk result (λ parts. IsShown shape choice.now source.now.text source.now.program
+        run.now (whole_text parts.items)) }
+    ensures err { IfErr result (IsShowFault shape choice.now source.now.text source.now.program
+        run.now) }
 {
     let options = &choice.options;
     let report = &run.report;
@@ -122,37 +117,32 @@ fn parts_of(
     let first_race = report.first_race;
     match shape {
         Shape::Report => Ok(run_parts(alloc, acts, &report.ends, &report.races, first_race)?),
-        Shape::Trace(form) => traced(alloc, form, text, program, options, run),
-        Shape::Explain => Ok(explained(alloc, text, program, options, acts, first_race)?),
+        Shape::Trace(form) => traced(alloc, form, source, options, run),
+        Shape::Explain => Ok(explained(alloc, source, options, acts, first_race)?),
         Shape::Stats => Ok(counted(alloc, run)?),
-        Shape::Chart(charting) => charted(alloc, charting, choice, text, program, run),
-        Shape::Step(part) => stepped(alloc, part, text, program, options, run),
-        Shape::Why(asking) => Ok(reasons_of_run(alloc, text, program, options, acts, &asking)?),
+        Shape::Chart(charting) => charted(alloc, charting, choice, source, run),
+        Shape::Step(part) => stepped(alloc, part, source, options, run),
+        Shape::Why(asking) => Ok(reasons_of_run(alloc, source, options, acts, &asking)?),
     }
 }
 
 /// Returns the report of a run with reasons, with the labels of the text.
 pub(crate) fn explained(
     alloc: Global,
-    text: &[u8],
-    program: &Program,
+    source: &Source<'_>,
     options: &RunOptions<'_>,
     acts: &[Act],
     first_race: Option<usize>,
 ) -> Result<Vec<Vec<u8>>, AllocError>
-    requires text { IsTextOf text.now program.now }
-    requires acts { All (λ act. act.node < 16) acts.now }
-    ensures { IfOk result (λ parts. IsExplained text.now program.now options.now acts.now first_race
-        (whole_text parts.items)) }
+    requires { All (λ act. act.node < 16) acts.now }
+    ensures { IfOk result (λ parts. IsExplained source.now.text source.now.program options.now
+        acts.now first_race (whole_text parts.items)) }
 {
-    let places = lines_of(alloc, text)?;
-    let code = Code::new(alloc, program)?;
-    let labels = read_labels(alloc, text, program.words, program.locks)?;
     explain(
         alloc,
-        &labels.said,
-        &code,
-        &places,
+        source.labels(),
+        source.code(),
+        source.lines(),
         options.nodes.count as u8,
         options.steps.count,
         acts,

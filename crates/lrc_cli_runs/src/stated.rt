@@ -1,7 +1,6 @@
 // The turns of a run with the states of its nodes, and the document that shows them.
 
 ghost use Rattle.std.specs.Prelude.{◌≡◌, ◌≤◌, ℕ, IfErr, IfOk, List, length};
-ghost use Rattle.lrc_cli_answer.specs.Texts.{IsTextOf};
 ghost use Rattle.lrc_judge.specs.Order.{IsOrderOf};
 ghost use Rattle.lrc_cli_runs.specs.Explained.{IsExplained};
 ghost use Rattle.lrc_cli_runs.specs.Lines.{AreLinesIn};
@@ -16,12 +15,10 @@ use crate::runs::setting_of;
 use crate::shown::explained;
 use lrc_cli_answer::fault::Fault;
 use lrc_cli_args::choice::{Part, RunOptions};
-use lrc_exec::code::Code;
 use lrc_judge::order::{Order, happens_before};
-use lrc_lang::lines::lines_of;
-use lrc_lang::program::Program;
 use lrc_lines::walks::lines_of_acts;
 use lrc_node::options_of;
+use lrc_source::source::Source;
 use lrc_states::{Range, StatesFault, Told, states_parts};
 use lrc_step::{Part as ShownActs, races_part, reasons_part, step_document};
 use lrc_trace::act::Act;
@@ -32,21 +29,19 @@ use std::alloc::{AllocError, Global};
 pub(crate) fn stated(
     alloc: Global,
     part: Part,
-    text: &[u8],
-    program: &Program,
+    source: &Source<'_>,
     options: &RunOptions<'_>,
     run: &Run,
 ) -> Result<Vec<Vec<u8>>, Fault>
-    requires text { IsTextOf text.now program.now }
-    requires ran { (keep : AnyKeep) × IsRunWith program.now options.now keep run.now }
-    ensures ok { IfOk result (λ parts. IsStated part text.now program.now options.now run.now
-        (whole_text parts.items)) }
-    ensures err { IfErr result (IsStatesFault part text.now program.now options.now run.now) }
+    requires ran { (keep : AnyKeep) × IsRunWith source.now.program options.now keep run.now }
+    ensures ok { IfOk result (λ parts. IsStated part source.now.text source.now.program
+        options.now run.now (whole_text parts.items)) }
+    ensures err { IfErr result (IsStatesFault part source.now.text source.now.program options.now
+        run.now) }
 {
     let setting = setting_of(options);
     let told = Told {
-        text,
-        program,
+        source,
         nodes: options.nodes.count as u8,
         options: options_of(&setting),
         events: &run.events,
@@ -131,19 +126,17 @@ fn joined(alloc: Global, parts: &[Vec<u8>]) -> Result<Vec<u8>, AllocError>
 // The text of a run with reasons.
 fn explained_text(
     alloc: Global,
-    text: &[u8],
-    program: &Program,
+    source: &Source<'_>,
     options: &RunOptions<'_>,
     run: &Run,
 ) -> Result<Vec<u8>, AllocError>
-    requires text { IsTextOf text.now program.now }
-    requires ran { (keep : AnyKeep) × IsRunWith program.now options.now keep run.now }
-    ensures { IfOk result (λ told. IsExplained text.now program.now options.now
+    requires ran { (keep : AnyKeep) × IsRunWith source.now.program options.now keep run.now }
+    ensures { IfOk result (λ told. IsExplained source.now.text source.now.program options.now
         run.now.report.acts.items
         run.now.report.first_race told.items) }
 {
     let acts = run.report.acts.as_slice();
-    let parts = explained(alloc, text, program, options, acts, run.report.first_race)?;
+    let parts = explained(alloc, source, options, acts, run.report.first_race)?;
     joined(alloc, &parts)
 }
 
@@ -151,23 +144,22 @@ fn explained_text(
 fn races_text(
     alloc: Global,
     part: Part,
-    text: &[u8],
-    program: &Program,
+    source: &Source<'_>,
     options: &RunOptions<'_>,
     run: &Run,
     order: &Order,
 ) -> Result<Vec<u8>, AllocError>
-    requires text { IsTextOf text.now program.now }
-    requires ran { (keep : AnyKeep) × IsRunWith program.now options.now keep run.now }
+    requires ran { (keep : AnyKeep) × IsRunWith source.now.program options.now keep run.now }
     requires order { IsOrderOf run.now.report.acts.items order.now }
     ensures { IfOk result (λ told. (lines : List ℕ)
-        × AreLinesIn text.now program.now options.now.nodes.count run.now.report.acts.items lines
+        × AreLinesIn source.now.text source.now.program options.now.nodes.count
+        run.now.report.acts.items lines
         × TellsRaces run.now.report.acts.items lines
         (acts_shown part (length run.now.report.acts.items)) told.items) }
 {
     let acts = run.report.acts.as_slice();
     let nodes = options.nodes.count as u8;
-    let lines = lines_in(alloc, text, program, nodes, acts)?;
+    let lines = lines_of_acts(alloc, source.code(), source.lines(), nodes, acts)?;
     let shown = acts_shown(part, acts.len());
     races_part(alloc, acts, &lines, order, nodes, shown)
 }
@@ -176,74 +168,44 @@ fn races_text(
 fn reasons_text(
     alloc: Global,
     part: Part,
-    text: &[u8],
-    program: &Program,
+    source: &Source<'_>,
     options: &RunOptions<'_>,
     run: &Run,
     order: &Order,
 ) -> Result<Vec<u8>, AllocError>
-    requires text { IsTextOf text.now program.now }
-    requires ran { (keep : AnyKeep) × IsRunWith program.now options.now keep run.now }
+    requires ran { (keep : AnyKeep) × IsRunWith source.now.program options.now keep run.now }
     requires order { IsOrderOf run.now.report.acts.items order.now }
-    ensures { IfOk result (λ told. TellsWhys text.now program.now options.now.nodes.count
-        options.now.size
-        run.now.report.acts.items (acts_shown part (length run.now.report.acts.items)) told.items) }
+    ensures { IfOk result (λ told. TellsWhys source.now.text source.now.program
+        options.now.nodes.count options.now.size run.now.report.acts.items
+        (acts_shown part (length run.now.report.acts.items)) told.items) }
 {
     let acts = run.report.acts.as_slice();
     let nodes = options.nodes.count as u8;
     let shown = acts_shown(part, acts.len());
-    reasons_part(
-        alloc,
-        text,
-        program,
-        nodes,
-        options.size,
-        acts,
-        order,
-        shown,
-    )
+    reasons_part(alloc, source, nodes, options.size, acts, order, shown)
 }
 
 /// Returns the document that shows the turns of a part of a run.
 pub(crate) fn stepped(
     alloc: Global,
     part: Part,
-    text: &[u8],
-    program: &Program,
+    source: &Source<'_>,
     options: &RunOptions<'_>,
     run: &Run,
 ) -> Result<Vec<Vec<u8>>, Fault>
-    requires text { IsTextOf text.now program.now }
-    requires ran { (keep : AnyKeep) × IsRunWith program.now options.now keep run.now }
-    ensures ok { IfOk result (λ parts. IsStepped
-        (name_of options.now.file.now) part text.now program.now options.now run.now
-        (whole_text parts.items)) }
-    ensures err { IfErr result (IsStatesFault part text.now program.now options.now run.now) }
+    requires ran { (keep : AnyKeep) × IsRunWith source.now.program options.now keep run.now }
+    ensures ok { IfOk result (λ parts. IsStepped (name_of options.now.file.now) part
+        source.now.text source.now.program options.now run.now (whole_text parts.items)) }
+    ensures err { IfErr result (IsStatesFault part source.now.text source.now.program options.now
+        run.now) }
 {
-    let states = stated(alloc, part, text, program, options, run)?;
-    let explained = explained_text(alloc, text, program, options, run)?;
+    let states = stated(alloc, part, source, options, run)?;
+    let explained = explained_text(alloc, source, options, run)?;
     let order = happens_before(alloc, &run.report.acts)?;
-    let races = races_text(alloc, part, text, program, options, run, &order)?;
-    let reasons = reasons_text(alloc, part, text, program, options, run, &order)?;
+    let races = races_text(alloc, part, source, options, run, &order)?;
+    let reasons = reasons_text(alloc, part, source, options, run, &order)?;
     let name = name_of(alloc, options.file.as_bytes())?;
+    let text = source.text();
     let document = step_document(alloc, &name, text, states, &explained, races, reasons)?;
     Ok(document)
-}
-
-// For each act, the line of the text that holds the act's statement.
-fn lines_in(
-    alloc: Global,
-    text: &[u8],
-    program: &Program,
-    nodes: u8,
-    acts: &[Act],
-) -> Result<Vec<u32>, AllocError>
-    requires { IsTextOf text.now program.now }
-    ensures lines { IfOk result (λ lines. AreLinesIn text.now program.now nodes acts.now
-        lines.items) }
-    ensures each { IfOk result (λ lines. length lines.items ≡ length acts.now) }
-{
-    let places = lines_of(alloc, text)?;
-    let code = Code::new(alloc, program)?;
-    lines_of_acts(alloc, &code, &places, nodes, acts)
 }

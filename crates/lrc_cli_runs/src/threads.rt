@@ -14,9 +14,10 @@ use lrc_cli_answer::fault::Fault;
 use lrc_cli_answer::printout::Printout;
 use lrc_cli_args::choice::{RunChoice, RunOptions, Shape};
 use lrc_envelope::Picker;
-use lrc_lang::parse;
 use lrc_lang::program::Program;
 use lrc_run::{Halt, OpenGate, ThreadedRun, run_on_threads};
+use lrc_source::source::Source;
+use lrc_source::text::SourceText;
 use lrc_world::keep::Keep;
 use lrc_world::run::Run;
 use std::alloc::Global;
@@ -39,9 +40,11 @@ pub fn show_on_threads<R: Threads + Wait + Sync>(
         (whole_text printout.parts.items) printout.status) }
     ensures err { IfErr result (RefusesRun choice.now shape text.now None) }
 {
-    let program = parse(alloc, text)?;
-    let run = threaded(rt, alloc, &choice.options, order, &program, keep_for(shape))?;
-    let printout = shown(alloc, shape, choice, text, &program, &run);
+    let read = SourceText::read(alloc, text)?;
+    let source = Source::of(alloc, &read)?;
+    let program = source.program();
+    let run = threaded(rt, alloc, &choice.options, order, program, keep_for(shape))?;
+    let printout = shown(alloc, shape, choice, &source, &run);
     // The program ends with its answer, so all that the run kept is not walked to be freed.
     mem::forget(run);
     printout

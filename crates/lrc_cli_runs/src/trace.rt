@@ -2,7 +2,6 @@
 
 ghost use Rattle.std.specs.Prelude.{◌≡◌, ◌≢◌, ℕ, IfErr, IfOk, List, length, map};
 ghost use Rattle.lrc_protocol.specs.Run.{turns_of_logs};
-ghost use Rattle.lrc_cli_answer.specs.Texts.{IsTextOf};
 ghost use Rattle.lrc_cli_answer.specs.Labels.{labels_in};
 ghost use Rattle.lrc_cli_runs.specs.Lines.{AreLinesIn};
 ghost use Rattle.lrc_cli_runs.specs.Runs.{IsRunWith, turns_in};
@@ -29,37 +28,34 @@ use lrc_cli_answer::fault::Fault;
 use lrc_cli_answer::printout::in_one;
 use lrc_cli_args::choice::{Form, Part, RunOptions};
 use lrc_events::events_part;
-use lrc_labels::read_labels;
-use lrc_lang::lines::lines_of;
-use lrc_lang::program::Program;
 use lrc_lines::statements::lines_of_statements;
 use lrc_node::Entry;
 use lrc_protocol::Event;
+use lrc_source::source::Source;
 use lrc_turns_text::messages_part;
 use lrc_world::run::Run;
 use lrc_world::turned::Turned;
 use std::alloc::{AllocError, Global};
 
-/// Returns a trace of a run of the program in this text, in the chosen form.
+/// Returns a trace of a run of the program of this source, in the chosen form.
 pub(crate) fn traced(
     alloc: Global,
     form: Form,
-    text: &[u8],
-    program: &Program,
+    source: &Source<'_>,
     options: &RunOptions<'_>,
     run: &Run,
 ) -> Result<Vec<Vec<u8>>, Fault>
-    requires text { IsTextOf text.now program.now }
-    requires ran { IsRunFor (Trace form) program.now options.now run.now }
-    ensures ok { IfOk result (λ parts. IsTraceShown form text.now program.now options.now run.now
-        (whole_text parts.items)) }
-    ensures err { IfErr result (IsTraceFault form text.now program.now options.now run.now) }
+    requires { IsRunFor (Trace form) source.now.program options.now run.now }
+    ensures ok { IfOk result (λ parts. IsTraceShown form source.now.text source.now.program
+        options.now run.now (whole_text parts.items)) }
+    ensures err { IfErr result (IsTraceFault form source.now.text source.now.program options.now
+        run.now) }
 {
     match form {
-        Form::States(part) => stated(alloc, part, text, program, options, run),
+        Form::States(part) => stated(alloc, part, source, options, run),
         Form::Bytes(part) => Ok(bytes_parts(alloc, part, run)?),
         Form::Acts | Form::Messages | Form::Events | Form::Json | Form::Rapid => {
-            Ok(trace_parts(alloc, form, text, program, options, run)?)
+            Ok(trace_parts(alloc, form, source, options, run)?)
         }
     }
 }
@@ -68,20 +64,18 @@ pub(crate) fn traced(
 fn trace_parts(
     alloc: Global,
     form: Form,
-    text: &[u8],
-    program: &Program,
+    source: &Source<'_>,
     options: &RunOptions<'_>,
     run: &Run,
 ) -> Result<Vec<Vec<u8>>, AllocError>
-    requires text { IsTextOf text.now program.now }
-    requires ran { IsRunWith program.now options.now Whole run.now }
+    requires ran { IsRunWith source.now.program options.now Whole run.now }
     requires stateless { (part : ShownPart) → form ≢ States part }
     requires byteless { (part : ShownPart) → form ≢ Bytes part }
-    ensures { IfOk result (λ parts. IsFormShown form text.now program.now options.now run.now
-        (whole_text parts.items)) }
+    ensures { IfOk result (λ parts. IsFormShown form source.now.text source.now.program
+        options.now run.now (whole_text parts.items)) }
 {
-    let lines = lines_kept(alloc, text, &run.origins.statements)?;
-    let part = form_part(alloc, form, text, program, options, run, &lines)?;
+    let lines = lines_kept(alloc, source, &run.origins.statements)?;
+    let part = form_part(alloc, form, source, options, run, &lines)?;
     in_one(alloc, part)
 }
 
@@ -89,18 +83,17 @@ fn trace_parts(
 fn form_part(
     alloc: Global,
     form: Form,
-    text: &[u8],
-    program: &Program,
+    source: &Source<'_>,
     options: &RunOptions<'_>,
     run: &Run,
     lines: &[u32],
 ) -> Result<Vec<u8>, AllocError>
-    requires ran { IsRunWith program.now options.now Whole run.now }
+    requires ran { IsRunWith source.now.program options.now Whole run.now }
     requires each { length lines.now ≡ length run.now.report.acts.items }
     requires stateless { (part : ShownPart) → form ≢ States part }
     requires byteless { (part : ShownPart) → form ≢ Bytes part }
-    ensures { IfOk result (λ part. IsWrittenAs form text.now program.now options.now run.now
-        lines.now part.items) }
+    ensures { IfOk result (λ part. IsWrittenAs form source.now.text source.now.program
+        options.now run.now lines.now part.items) }
 {
     let acts = run.report.acts.as_slice();
     let logs = run.report.logs.as_slice();
@@ -110,8 +103,8 @@ fn form_part(
         Form::Acts => acts_part(alloc, acts, lines),
         Form::Messages => messages_of(alloc, logs, turns, lines),
         Form::Events => events_of(alloc, turns),
-        Form::Json => json_of(alloc, text, program, run, lines),
-        Form::Rapid => rapid_part(alloc, acts, lines, program.locks, nodes),
+        Form::Json => json_of(alloc, source, run, lines),
+        Form::Rapid => rapid_part(alloc, acts, lines, source.program().locks, nodes),
         Form::States(_) | Form::Bytes(_) => unreachable!(),
     }
 }
@@ -195,32 +188,30 @@ fn events_of(alloc: Global, turns: &[Turned]) -> Result<Vec<u8>, AllocError>
 // The acts of a run as JSON, each with the time that its node has just after it, and with the labels of the program's text.
 fn json_of(
     alloc: Global,
-    text: &[u8],
-    program: &Program,
+    source: &Source<'_>,
     run: &Run,
     lines: &[u32],
 ) -> Result<Vec<u8>, AllocError>
     requires lined { length lines.now ≡ length run.now.report.acts.items }
     requires timed { length (times_in run.now.origins.times) ≡ length run.now.report.acts.items }
-    ensures { IfOk result (λ part. part.items ≡ json_of_acts (labels_in text.now program.now)
-        run.now.report.acts.items lines.now (times_in run.now.origins.times)) }
+    ensures { IfOk result (λ part. part.items
+        ≡ json_of_acts (labels_in source.now.text source.now.program) run.now.report.acts.items
+        lines.now (times_in run.now.origins.times)) }
 {
-    let labels = read_labels(alloc, text, program.words, program.locks)?;
     let acts = run.report.acts.as_slice();
-    json_part(alloc, &labels.said, acts, lines, &run.origins.times)
+    json_part(alloc, source.labels(), acts, lines, &run.origins.times)
 }
 
 /// Returns, for each act of a run of which all is kept, the line of the text that holds the act's statement.
 pub(crate) fn lines_kept(
     alloc: Global,
-    text: &[u8],
+    source: &Source<'_>,
     statements: &[u32],
 ) -> Result<Vec<u32>, AllocError>
-    ensures lines { IfOk result (λ lines. (program : AnyProgram) (nodes : ℕ) (acts : List AnyAct)
-        → IsTextOf text.now program → statements.now ≡ act_statements program nodes acts
-        → AreLinesIn text.now program nodes acts lines.items) }
+    ensures lines { IfOk result (λ lines. (nodes : ℕ) (acts : List AnyAct)
+        → statements.now ≡ act_statements source.now.program nodes acts
+        → AreLinesIn source.now.text source.now.program nodes acts lines.items) }
     ensures each { IfOk result (λ lines. length lines.items ≡ length statements.now) }
 {
-    let places = lines_of(alloc, text)?;
-    lines_of_statements(alloc, &places, statements)
+    lines_of_statements(alloc, source.lines(), statements)
 }

@@ -103,7 +103,8 @@ stats_command = with_showing_options (new_app (codes "stats"))
 
 -- the number of nodes need not be given
 abbrev pub judge_command : App
-judge_command = with_rule (with_rule (with_rule (new_app (codes "judge")) file) (bare_number (codes "nodes"))) (flag_option (codes "pairs"))
+judge_command = with_rule (with_rule (with_rule (with_rule (new_app (codes "judge")) file) (bare_number (codes "nodes"))) (flag_option (codes "pairs")))
+    (flag_option (codes "all"))
 
 abbrev pub explore_command : App
 explore_command = with_rule (with_rule (with_rule (with_rule (with_rule (with_rule (with_rule (with_rule (new_app (codes "explore")) file) nodes) most)

@@ -74,6 +74,9 @@ const ACTS_NODES_HELP: &str =
 
 const PAIRS_HELP: &str = "Names every pair of acts that race, in place of the races";
 
+const ALL_HELP: &str =
+    "Where reads are not allowed, or not in order, names each of them, in place of the first";
+
 const MOST_HELP: &str = "How many states the search may meet: 1 to 100000000";
 
 const OUTCOMES_HELP: &str = "Shows every outcome of the runs, and looks for no race";
@@ -350,7 +353,8 @@ fn judge_command<'w>(alloc: Global) -> Result<Command<'w>, AllocError>
     );
     let command = taking(Ok(command), file(alloc, ACTS_FILE_HELP));
     let command = taking(command, bare_number(alloc, "nodes", "N", ACTS_NODES_HELP));
-    taking(command, flag_option(alloc, "pairs", PAIRS_HELP))
+    let command = taking(command, flag_option(alloc, "pairs", PAIRS_HELP));
+    taking(command, flag_option(alloc, "all", ALL_HELP))
 }
 
 fn explore_command<'w>(alloc: Global) -> Result<Command<'w>, AllocError>

@@ -1,3 +1,4 @@
 pub mod Line
+pub mod Cause
 pub mod Table
 pub mod Lacking

@@ -8,10 +8,10 @@ ghost use Rattle.lrc_races_lines.specs.Lacking.{Lacks};
 use crate::line::{Kind, Line, Named};
 
 /// The greatest length of a line, in bytes.
-const LONGEST_LINE: usize = 4096;
+pub(crate) const LONGEST_LINE: usize = 4096;
 
 /// The greatest length of a name, in bytes.
-const LONGEST_NAME: usize = 255;
+pub(crate) const LONGEST_NAME: usize = 255;
 
 const KINDS: [Kind; 10] = [
     Kind::Read,
@@ -36,6 +36,22 @@ pub fn split(text: &[u8], byte: u8) -> Option<(&[u8], &[u8])>
         if *other == byte {
             return Some((&text[..at], &text[at + 1..]));
         }
+    }
+    None
+}
+
+/// Splits a text at the last such byte: returns what precedes it and what follows it, or none if the text lacks the
+/// byte.
+pub(crate) fn split_last(text: &[u8], byte: u8) -> Option<(&[u8], &[u8])>
+    ensures { MatchOption result (Lacks byte text.now)
+        (λ parts. (text.now ≡ parts.0.now ++ byte ∷ parts.1.now) × Lacks byte parts.1.now) }
+{
+    let mut at = text.len();
+    while at > 0 {
+        if text[at - 1] == byte {
+            return Some((&text[..at - 1], &text[at..]));
+        }
+        at -= 1;
     }
     None
 }
@@ -80,7 +96,7 @@ fn is(text: &[u8], word: &[u8]) -> bool
 }
 
 // The operation with a target of this word.
-fn kind_of(text: &[u8]) -> Option<Kind>
+pub(crate) fn kind_of(text: &[u8]) -> Option<Kind>
     ensures { MatchOption result ((kind : Kind) → (kind ≡ Idle → ⊥) → text.now ≡ word kind → ⊥)
         (λ kind. (kind ≡ Idle → ⊥) × (text.now ≡ word kind)) }
 {
@@ -92,7 +108,7 @@ fn kind_of(text: &[u8]) -> Option<Kind>
     None
 }
 
-fn is_idle_word(text: &[u8]) -> bool
+pub(crate) fn is_idle_word(text: &[u8]) -> bool
     ensures { IsTrue result ↔ IsIdleWord text.now }
 {
     if is(text, b"begin") {
@@ -195,7 +211,7 @@ fn event_of(body: &[u8]) -> Option<Named<'_>>
 }
 
 // What of the line is no carriage return at its end.
-fn body_of(line: &[u8]) -> &[u8]
+pub(crate) fn body_of(line: &[u8]) -> &[u8]
     ensures { IsBody line.now result.now }
 {
     match without_last(line, b'\r') {

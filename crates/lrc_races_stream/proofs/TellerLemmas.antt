@@ -4,7 +4,7 @@ use Rattle.std.proofs.Math.Seq.{take-append-add}
 use Rattle.std.proofs.lemmas.List.{append_assoc, append-nil, take-append-le}
 use Rattle.std.specs.Io.KnownBytes.{Appends, Keeps}
 use Rattle.std.specs.declared.io.ErrorKind.{ErrorKind}
-use Rattle.lrc_races_text.specs.Session.{HasEnded, HasFailed, HasGoneOn, HasRead, IsStoppedAt}
+use Rattle.lrc_races_text.specs.Session.{HasEnded, HasFailed, HasGoneOn, HasRead, IsStoppedAt, Text}
 use Rattle.lrc_races_text.specs.declared.fault.Fault.{Fault}
 use Rattle.lrc_races_text.specs.declared.fault.Fault.TheVariants as faults
 use Rattle.lrc_races_text.specs.declared.asked.Asked.{Asked}
@@ -78,21 +78,21 @@ module _ (form : Form) (asked : Asked) (held left : Held) (start out : Option (L
       (front_on start out now u.told g.0 u.written (subst (AppendsFront out now) new_is wrote))
 
   -- a line of the block is bad
-  pub broken_at : (after : Held) (now : Option (List ℕ)) (line : ℕ) (fault : Fault) (block old new text : List ℕ) → IsReadOff left block after → old ≡ []
-      → fault ≡ faults.BadEvent line → IsStoppedAt session block old new fault → text ≡ new → Appends out now text
-      → Comes form asked held start now (BadEvent line)
-  broken_at after now line fault block old new text off empty fault_is gone text_is wrote =
+  pub broken_at : (after : Held) (now : Option (List ℕ)) (line : ℕ) (why : Text) (fault : Fault) (block old new text : List ℕ) → IsReadOff left block after → old ≡ []
+      → fault ≡ faults.BadEvent line why → IsStoppedAt session block old new fault → text ≡ new → Appends out now text
+      → Comes form asked held start now (BadEvent line why)
+  broken_at after now line why fault block old new text off empty fault_is gone text_is wrote =
       let g = subst (IsStoppedAt session block old new) fault_is gone form asked u.bytes u.told u.said in
       let new_is = text_is ∙ added old new g.0 empty g.1 in
       stopped (u.bytes ++ block) (u.told ++ g.0) after (read_on held left after u.bytes block u.read off) g.2
       (write_on start out now u.told g.0 u.written (subst (Appends out now) new_is wrote))
 
-  pub broken_unwritten : (after : Held) (now : Option (List ℕ)) (line : ℕ) (fault : Fault) (block old new text : List ℕ) → IsReadOff left block after → old ≡ []
-      → fault ≡ faults.BadEvent line → IsStoppedAt session block old new fault → text ≡ new → AppendsFront out now text → Comes form asked held start now Unwritten
-  broken_unwritten after now line fault block old new text off empty fault_is gone text_is wrote =
+  pub broken_unwritten : (after : Held) (now : Option (List ℕ)) (line : ℕ) (why : Text) (fault : Fault) (block old new text : List ℕ) → IsReadOff left block after → old ≡ []
+      → fault ≡ faults.BadEvent line why → IsStoppedAt session block old new fault → text ≡ new → AppendsFront out now text → Comes form asked held start now Unwritten
+  broken_unwritten after now line why fault block old new text off empty fault_is gone text_is wrote =
       let g = subst (IsStoppedAt session block old new) fault_is gone form asked u.bytes u.told u.said in
       let new_is = text_is ∙ added old new g.0 empty g.1 in
-      unwritten (u.bytes ++ block) (u.told ++ g.0) after (read_on held left after u.bytes block u.read off) (broken g.2)
+      unwritten (u.bytes ++ block) (u.told ++ g.0) after (read_on held left after u.bytes block u.read off) (broken why g.2)
       (front_on start out now u.told g.0 u.written (subst (AppendsFront out now) new_is wrote))
 
   -- the trace has ended
@@ -111,19 +111,19 @@ module _ (form : Form) (asked : Asked) (held left : Held) (start out : Option (L
       unwritten u.bytes (u.told ++ g.0) left u.read (whole g.2) (front_on start out now u.told g.0 u.written (subst (AppendsFront out now) new_is wrote))
 
   -- its last line is bad
-  pub cut_at : (now : Option (List ℕ)) (line : ℕ) (fault : Fault) (old new text : List ℕ) → IsAtEnd left → old ≡ []
-      → fault ≡ faults.BadEvent line → HasFailed session old new fault → text ≡ new → Appends out now text → Comes form asked held start now (BadEvent line)
-  cut_at now line fault old new text end empty fault_is gone text_is wrote =
+  pub cut_at : (now : Option (List ℕ)) (line : ℕ) (why : Text) (fault : Fault) (old new text : List ℕ) → IsAtEnd left → old ≡ []
+      → fault ≡ faults.BadEvent line why → HasFailed session old new fault → text ≡ new → Appends out now text → Comes form asked held start now (BadEvent line why)
+  cut_at now line why fault old new text end empty fault_is gone text_is wrote =
       let g = subst (HasFailed session old new) fault_is gone form asked u.bytes u.told u.said in
       let new_is = text_is ∙ added old new g.0 empty g.1 in
       cut u.bytes (u.told ++ g.0) left u.read end g.2 (write_on start out now u.told g.0 u.written (subst (Appends out now) new_is wrote))
 
-  pub cut_unwritten : (now : Option (List ℕ)) (line : ℕ) (fault : Fault) (old new text : List ℕ) → IsAtEnd left → old ≡ []
-      → fault ≡ faults.BadEvent line → HasFailed session old new fault → text ≡ new → AppendsFront out now text → Comes form asked held start now Unwritten
-  cut_unwritten now line fault old new text end empty fault_is gone text_is wrote =
+  pub cut_unwritten : (now : Option (List ℕ)) (line : ℕ) (why : Text) (fault : Fault) (old new text : List ℕ) → IsAtEnd left → old ≡ []
+      → fault ≡ faults.BadEvent line why → HasFailed session old new fault → text ≡ new → AppendsFront out now text → Comes form asked held start now Unwritten
+  cut_unwritten now line why fault old new text end empty fault_is gone text_is wrote =
       let g = subst (HasFailed session old new) fault_is gone form asked u.bytes u.told u.said in
       let new_is = text_is ∙ added old new g.0 empty g.1 in
-      unwritten u.bytes (u.told ++ g.0) left u.read (failed g.2) (front_on start out now u.told g.0 u.written (subst (AppendsFront out now) new_is wrote))
+      unwritten u.bytes (u.told ++ g.0) left u.read (failed why g.2) (front_on start out now u.told g.0 u.written (subst (AppendsFront out now) new_is wrote))
 
   -- memory ran out, and nothing more is written
   pub out_of_memory : Comes form asked held start out NoMemory

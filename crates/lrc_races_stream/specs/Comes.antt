@@ -2,7 +2,7 @@
 use Rattle.std.specs.Prelude.{ℕ, List, Option}
 use Rattle.std.specs.Io.KnownBytes.{Appends}
 use Rattle.std.specs.declared.io.ErrorKind.{ErrorKind}
-use Rattle.lrc_races_text.specs.Session.{HasRead}
+use Rattle.lrc_races_text.specs.Session.{HasRead, Text}
 use Rattle.lrc_races_text.specs.Told.{Ends, Fails, Stops, Tells}
 use Rattle.lrc_races_text.specs.declared.fault.Fault.TheVariants as faults
 use Rattle.lrc_races_text.specs.declared.asked.Asked.{Asked}
@@ -17,8 +17,8 @@ use Rattle.lrc_races_stream.specs.declared.outcome.Outcome.TheVariants.{Ended, B
 pub data IsTold (form : Form) (asked : Asked) (bytes told : List ℕ) : Type 0 where
   so_far : Tells form asked bytes told → IsTold form asked bytes told
   whole : {status : ℕ} → Ends form asked bytes status told → IsTold form asked bytes told
-  broken : {line : ℕ} → Stops form asked bytes (faults.BadEvent line) told → IsTold form asked bytes told
-  failed : {line : ℕ} → Fails form asked bytes (faults.BadEvent line) told → IsTold form asked bytes told
+  broken : {line : ℕ} (why : Text) → Stops form asked bytes (faults.BadEvent line why) told → IsTold form asked bytes told
+  failed : {line : ℕ} (why : Text) → Fails form asked bytes (faults.BadEvent line why) told → IsTold form asked bytes told
 
 -- What comes of a trace that is held so, by what the writer has before and after. What is read are its first bytes, and all of them
 -- where it ends; what is written is what is told of these.
@@ -27,11 +27,11 @@ pub data Comes (form : Form) (asked : Asked) (held : Held) (out out' : Option (L
   ended : (bytes told : List ℕ) (left : Held) {status : ℕ} → IsReadOff held bytes left → IsAtEnd left → Ends form asked bytes status told
       → Appends out out' told → Comes form asked held out out' (Ended status)
   -- or up to the first line that is bad,
-  stopped : (bytes told : List ℕ) (left : Held) {line : ℕ} → IsReadOff held bytes left → Stops form asked bytes (faults.BadEvent line) told
-      → Appends out out' told → Comes form asked held out out' (BadEvent line)
+  stopped : (bytes told : List ℕ) (left : Held) {line : ℕ} {why : Text} → IsReadOff held bytes left → Stops form asked bytes (faults.BadEvent line why) told
+      → Appends out out' told → Comes form asked held out out' (BadEvent line why)
   -- which may be the last one, without a line feed;
-  cut : (bytes told : List ℕ) (left : Held) {line : ℕ} → IsReadOff held bytes left → IsAtEnd left
-      → Fails form asked bytes (faults.BadEvent line) told → Appends out out' told → Comes form asked held out out' (BadEvent line)
+  cut : (bytes told : List ℕ) (left : Held) {line : ℕ} {why : Text} → IsReadOff held bytes left → IsAtEnd left
+      → Fails form asked bytes (faults.BadEvent line why) told → Appends out out' told → Comes form asked held out out' (BadEvent line why)
   -- or memory ran out,
   exhausted : (bytes told : List ℕ) (left : Held) → IsReadOff held bytes left → Tells form asked bytes told → Appends out out' told
       → Comes form asked held out out' NoMemory

@@ -3,12 +3,12 @@
 use std::io::ErrorKind;
 
 /// The outcome of reporting a trace while it is read.
-#[derive(Clone, Copy)]
+#[derive(Drop)]
 pub enum Outcome {
     /// The trace was read to its end, and this is the exit status.
     Ended(u8),
-    /// The line with this number, counted from 1, does not have the trace's form.
-    BadEvent(u64),
+    /// The line with this number, counted from 1, does not have the trace's form, and this says why.
+    BadEvent(u64, Vec<u8>),
     /// Memory ran out.
     NoMemory,
     /// The trace can be read no further.

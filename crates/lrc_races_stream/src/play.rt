@@ -1,7 +1,6 @@
 // From a path to the status: the races of a file.
 
 ghost use Rattle.std.specs.Prelude.{◌≡◌, ◌⊎◌, IfOk};
-ghost use Rattle.std.specs.String.{string_bytes};
 ghost use Rattle.lrc_races_stream.specs.Comes.{Comes};
 ghost use Rattle.lrc_races_stream.specs.Plays.{IsConcluded, IsRacesPlayed, bad_line};
 ghost use Rattle.lrc_races_stream.specs.declared.outcome.Outcome.{Outcome as AnyOutcome};
@@ -14,6 +13,7 @@ use lrc_races_text::form::Form;
 use lrc_shell_sources::blocks::Blocks;
 use lrc_shell_sources::refusal::{FAULT, refuse_file, refuse_memory, refuse_read, tell_line};
 use lrc_shell_sources::sources::Sources;
+use lrc_text::push_number;
 use std::alloc::{AllocError, Global};
 use std::io::Write;
 
@@ -64,7 +64,7 @@ fn conclude<E: Write>(alloc: Global, outcome: Outcome, err: &mut E) -> u8
 {
     match outcome {
         Outcome::Ended(status) => status,
-        Outcome::BadEvent(line) => refuse_line(alloc, line, err),
+        Outcome::BadEvent(line, why) => refuse_line(alloc, line, &why, err),
         Outcome::NoMemory => refuse_memory(err),
         Outcome::Unread(kind) => refuse_read(kind, err),
         Outcome::Unwritten => FAULT,
@@ -72,22 +72,27 @@ fn conclude<E: Write>(alloc: Global, outcome: Outcome, err: &mut E) -> u8
 }
 
 // Says which line of a trace is bad, or, where there is no memory for that, that there is none.
-fn refuse_line<E: Write>(alloc: Global, line: u64, err: &mut E) -> u8
-    ensures told { IsTold (E.contents err.old) (E.contents err.new) (bad_line line)
+fn refuse_line<E: Write>(alloc: Global, line: u64, why: &[u8], err: &mut E) -> u8
+    ensures told { IsTold (E.contents err.old) (E.contents err.new) (bad_line line why.now)
         ⊎ IsTold (E.contents err.old) (E.contents err.new) memory_line }
     ensures status { result ≡ 1 }
 {
-    match bad_line(alloc, line) {
+    match bad_line(alloc, line, why) {
         Ok(text) => {
-            tell_line(text.as_bytes(), err);
+            tell_line(&text, err);
             FAULT
         }
         Err(_error) => refuse_memory(err),
     }
 }
 
-fn bad_line(alloc: Global, line: u64) -> Result<String, AllocError>
-    ensures { IfOk result (λ text. string_bytes text ≡ bad_line line) }
+fn bad_line(alloc: Global, line: u64, why: &[u8]) -> Result<Vec<u8>, AllocError>
+    ensures { IfOk result (λ text. text.items ≡ bad_line line why.now) }
 {
-    format!(in alloc; "treadmarks: trace line {line}: bad event\n")
+    let mut text = Vec::new(alloc);
+    push_number(&mut text, b"treadmarks: trace line ", line)?;
+    text.extend_from_slice(b": bad event: ")?;
+    text.extend_from_slice(why)?;
+    text.extend_from_slice(b"\n")?;
+    Ok(text)
 }

@@ -110,8 +110,8 @@ impl Teller {
                 Ok(()) => None,
                 Err(_error) => Some(Outcome::Unwritten),
             },
-            Err(Fault::BadEvent(line)) => match write(&self.told, out) {
-                Ok(()) => Some(Outcome::BadEvent(line)),
+            Err(Fault::BadEvent(line, why)) => match write(&self.told, out) {
+                Ok(()) => Some(Outcome::BadEvent(line, why)),
                 Err(_error) => Some(Outcome::Unwritten),
             },
             Err(Fault::NoMemory) => Some(Outcome::NoMemory),
@@ -131,8 +131,8 @@ impl Teller {
                 Ok(()) => Outcome::Ended(status),
                 Err(_error) => Outcome::Unwritten,
             },
-            Err(Fault::BadEvent(line)) => match write(&self.told, out) {
-                Ok(()) => Outcome::BadEvent(line),
+            Err(Fault::BadEvent(line, why)) => match write(&self.told, out) {
+                Ok(()) => Outcome::BadEvent(line, why),
                 Err(_error) => Outcome::Unwritten,
             },
             Err(Fault::NoMemory) => Outcome::NoMemory,

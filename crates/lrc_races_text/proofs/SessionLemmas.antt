@@ -3,6 +3,7 @@ use Rattle.std.proofs.Common.{◌≡◌, ℕ, suc, ◌+◌, ◌<◌, ◌==◌, B
 use Rattle.std.specs.Prelude.{Result, Ok, Err, IfErr, OnOk, flat_map}
 use Rattle.std.proofs.lemmas.Result.{on_ok_weaker}
 use Rattle.std.proofs.lemmas.Bool.{false≢true, eqb-true, eq-eqb}
+use Rattle.lrc_races_lines.specs.Cause.{Why, line_any, line_long, line_too_long, why_text}
 use Rattle.lrc_races_lines.specs.Line.{Saying}
 use Rattle.lrc_races_text.specs.declared.asked.Asked.{Asked}
 use Rattle.lrc_races_text.specs.declared.form.Form.{Form}
@@ -11,10 +12,10 @@ use Rattle.lrc_races_text.specs.declared.fault.Fault.{Fault}
 use Rattle.lrc_races_text.specs.declared.fault.Fault.TheVariants.{BadEvent, NoMemory}
 use Rattle.lrc_races_text.specs.declared.judged.Judged.{Judged}
 use Rattle.lrc_races_text.specs.declared.session.Session.{Session}
-use Rattle.lrc_races_text.specs.Says.{Said, Say, no_line, blank_line, event_line, Says, SaysNothing, IsBad}
+use Rattle.lrc_races_text.specs.Says.{Said, Say, no_line, blank_line, event_line, Says, SaysNothing, IsBad, IsCauseIn, IsWhyText}
 use Rattle.lrc_races_text.specs.Judged.{HasJudged, HasJudgedOne, HasToldAll}
 use Rattle.lrc_races_text.specs.Told.{IsCut, IsOneLine, AreLines, ended, Stops, IsWholeOf, IsToldOf}
-use Rattle.lrc_races_text.specs.Session.{LineSays, says_none, says_one, HasTakenLine, IsAt, HasCompleted, IsBadLine, HasKept, IsTooLong, HasLines, HasRead}
+use Rattle.lrc_races_text.specs.Session.{Text, FailsLine, LineSays, says_none, says_one, HasTakenLine, IsAt, HasCompleted, IsBadLine, HasKept, IsTooLong, HasLines, HasRead}
 use Rattle.lrc_races_text.specs.Session.{HasDone, HasGoneOn, IsStoppedAt, HasEnded, HasFailed}
 use Rattle.lrc_races_text.proofs.NamingLemmas.{flat_map-push}
 use Rattle.lrc_races_text.proofs.JudgedLemmas.{told_of}
@@ -98,17 +99,73 @@ pub kept_bad : (before mid : Session) (part : List ℕ) (result : Result Unit Fa
 kept_bad before mid part result kept bad =
     if_err result (λ (fault : Fault) (b : IsBadLine mid [] fault).
     λ (form : Form) (asked : Asked) (lines : List (List ℕ)) (rest told : List ℕ) (a : IsAt form asked lines rest told before) (line : ℕ)
-    (e : fault ≡ BadEvent line).
-    let d = b form asked lines (rest ++ part) told (kept form asked lines rest told a) line e in
-    (d.0, subst (λ l. IsBad form l) (append-nil (rest ++ part)) d.1)) bad
+    (why : Text) (e : fault ≡ BadEvent line why).
+    let d = b form asked lines (rest ++ part) told (kept form asked lines rest told a) line why e in (
+      d.0,
+      subst (λ l. IsBad form l) (append-nil (rest ++ part)) d.1,
+      λ one. subst (λ l. IsWhyText form (length lines + 1) l why.items) (append-nil (rest ++ part))
+          (d.2 (subst (λ l. IsOneLine l) (sym (append-nil (rest ++ part))) one)),
+    )) bad
+
+-- why a line is bad, by its form
+pub cause_std : (form : Form) (line : List ℕ) (number : ℕ) (cause : Why) → form ≡ Std
+    → (IsOneLine line → IsBad Std line → IsCauseIn Std number line cause) → IsOneLine line → IsBad form line → IsCauseIn form number line cause
+cause_std form line number cause e h =
+    subst (λ (f : Form). IsOneLine line → IsBad f line → IsCauseIn f number line cause) (sym e) h
+
+pub cause_acts : (form : Form) (line : List ℕ) (number : ℕ) (cause : Why) → form ≡ Acts
+    → IsCauseIn Acts number line cause → IsOneLine line → IsBad form line → IsCauseIn form number line cause
+cause_acts form line number cause e is =
+    subst (λ (f : Form). IsOneLine line → IsBad f line → IsCauseIn f number line cause) (sym e) (λ one bad. is)
+
+-- the fault of a bad line
+pub bad_fault : (form : Form) (line : List ℕ) (number : ℕ) (cause : Why) (fault : Fault) → IsBad form line
+    → (IsOneLine line → IsBad form line → IsCauseIn form number line cause)
+    → ((other : ℕ) (why : Text) → fault ≡ BadEvent other why → (other ≡ number) × (why.items ≡ why_text cause)) → FailsLine form line number fault
+bad_fault form line number cause fault bad causes says other why e =
+    let d = says other why e in
+    (d.0, bad, λ one. (cause, causes one bad, d.1))
+
+-- a line that is bad, behind what was kept of it
+pub bad_line : (before : Session) (line part : List ℕ) (number : ℕ) (fault : Fault) → number ≡ before.lines + 1
+    → FailsLine before.form line number fault → before.rest.items ++ part ≡ line → IsBadLine before part fault
+bad_line before line part number fault next fails is form asked lines rest told a found why e =
+    let d = fails found why e in
+    let counted = a.counted in
+    let line_is : line ≡ rest ++ part = sym is ∙ ap (λ x. x ++ part) a.same_rest in
+    let number_is : number ≡ length lines + 1 = omega arith in (
+      d.0 ∙ number_is,
+      subst (λ l. IsBad form l) line_is (subst (λ f. IsBad f line) a.same_form d.1),
+      λ one. subst (λ l. IsWhyText form (length lines + 1) l why.items) line_is
+          (subst (λ n. IsWhyText form n line why.items) number_is
+          (subst (λ f. IsWhyText f number line why.items) a.same_form (d.2 (subst (λ l. IsOneLine l) (sym line_is) one)))),
+    )
+
+-- what is too long is so whatever was kept of it
+pub too_long : (before : Session) (part : List ℕ) (number : ℕ) (fault : Fault) → number ≡ before.lines + 1
+    → 4096 < length before.rest.items + length part
+    → ((line : ℕ) (why : Text) → fault ≡ BadEvent line why → (line ≡ number) × (why.items ≡ why_text line_too_long))
+    → IsTooLong before part fault
+too_long before part number fault next long says form asked lines rest told a found why e =
+    let d = says found why e in
+    let counted = a.counted in
+    let number_is : number ≡ length lines + 1 = omega arith in
+    let same : length before.rest.items ≡ length rest = ap length a.same_rest in
+    let both = length-append rest part in
+    (d.0 ∙ number_is, omega arith, d.1)
 
 long_bad : (form : Form) (line : List ℕ) → 4096 < length line → IsBad form line
 long_bad Std line long = (λ n. let short = n.short in omega arith, λ saying says. let short = says.short in omega arith)
 long_bad Acts line long = (λ n. let short = n.short in omega arith, λ saying says. let short = says.short in omega arith)
 
+long_cause : (form : Form) (number : ℕ) (line : List ℕ) → 4096 < length line → IsCauseIn form number line line_too_long
+long_cause Std number line long = line_any (line_long long)
+long_cause Acts number line long = line_any (line_long long)
+
 pub too_long_bad : (before : Session) (part : List ℕ) (fault : Fault) → IsTooLong before part fault → IsBadLine before part fault
-too_long_bad before part fault t form asked lines rest told a line e =
-    let d = t form asked lines rest told a line e in (d.0, long_bad form (rest ++ part) d.1)
+too_long_bad before part fault t form asked lines rest told a line why e =
+    let d = t form asked lines rest told a line why e in
+    (d.0, long_bad form (rest ++ part) d.1, λ one. (line_too_long, long_cause form (length lines + 1) (rest ++ part) d.1, d.2))
 
 -- ---- bytes and lines
 
@@ -235,51 +292,81 @@ module _ {form : Form} {asked : Asked} {bytes told block left old mid : List ℕ
   stopped_long : (fault : Fault) → IsOneLine left → IsTooLong session left fault
       → (more : List ℕ) × (mid ≡ old ++ more) × Stops form asked (bytes ++ block) fault (told ++ more)
   stopped_long NoMemory one long = (d.more, d.text, tt)
-  stopped_long (BadEvent line) one long =
+  stopped_long (BadEvent line why) one long =
       let l = d.has_lines in
       let a = l.at in
-      let t = long form asked l.lines l.rest (told ++ d.more) a line refl in (
+      let t = long form asked l.lines l.rest (told ++ d.more) a line why refl in
+      let cut : IsCut (bytes ++ block) l.lines (l.rest ++ left)
+      = subst (λ b. IsCut b l.lines (l.rest ++ left)) (append_assoc bytes d.done left ∙ ap (λ x. bytes ++ x) (sym d.whole)) (cut_rest left l.cut one) in (
         d.more,
         d.text,
-        record {
-          lines = l.lines;
-          rest = l.rest ++ left;
-          cut = subst (λ b. IsCut b l.lines (l.rest ++ left)) (append_assoc bytes d.done left ∙ ap (λ x. bytes ++ x) (sym d.whole)) (cut_rest left l.cut one);
-          said = a.said;
-          first = inr (a.says, t.0, t.1);
-          tells = told_of a.judged;
-        },
+        (
+          record {
+            lines = l.lines;
+            rest = l.rest ++ left;
+            cut = cut;
+            said = a.said;
+            first = inr (a.says, t.0, t.1);
+            tells = told_of a.judged;
+          },
+          record {
+            lines = l.lines;
+            rest = l.rest ++ left;
+            cut = cut;
+            before = l.lines;
+            line = l.rest ++ left;
+            after = [];
+            whole = refl;
+            counted = t.0;
+            why = (line_too_long, long_cause form line (l.rest ++ left) t.1, t.2);
+          },
+        ),
       )
 
   stopped_bad : (part behind new : List ℕ) (fault : Fault) → left ≡ part ++ 10 ∷ behind → IsOneLine part → new ≡ mid → IsBadLine session part fault
       → (more : List ℕ) × (new ≡ old ++ more) × Stops form asked (bytes ++ block) fault (told ++ more)
   stopped_bad part behind new NoMemory split one same bad = (d.more, same ∙ d.text, tt)
-  stopped_bad part behind new (BadEvent line) split one same bad =
+  stopped_bad part behind new (BadEvent line why) split one same bad =
       let l = d.has_lines in
       let a = l.at in
-      let t = bad form asked l.lines l.rest (told ++ d.more) a line refl in
+      let t = bad form asked l.lines l.rest (told ++ d.more) a line why refl in
       let c = cut_of behind in
       let whole : (bytes ++ d.done ++ (part ++ 10 ∷ [])) ++ behind ≡ bytes ++ block
       = append_assoc (bytes ++ d.done) (part ++ 10 ∷ []) behind ∙ ap (λ x. bytes ++ d.done ++ x) (append_assoc part (10 ∷ []) behind)
-      ∙ append_assoc bytes d.done (part ++ 10 ∷ behind) ∙ ap (λ x. bytes ++ (d.done ++ x)) (sym split) ∙ ap (λ x. bytes ++ x) (sym d.whole) in (
+      ∙ append_assoc bytes d.done (part ++ 10 ∷ behind) ∙ ap (λ x. bytes ++ (d.done ++ x)) (sym split) ∙ ap (λ x. bytes ++ x) (sym d.whole) in
+      let cut : IsCut (bytes ++ block) ((l.lines ++ (l.rest ++ part) ∷ []) ++ c.lines) c.rest
+      = subst (λ b. IsCut b ((l.lines ++ (l.rest ++ part) ∷ []) ++ c.lines) c.rest) whole (cut_both (cut_line part l.cut one) c.cut) in (
         d.more,
         same ∙ d.text,
-        record {
-          lines = (l.lines ++ (l.rest ++ part) ∷ []) ++ c.lines;
-          rest = c.rest;
-          cut = subst (λ b. IsCut b ((l.lines ++ (l.rest ++ part) ∷ []) ++ c.lines) c.rest) whole (cut_both (cut_line part l.cut one) c.cut);
-          said = a.said;
-          first = inl (record {
+        (
+          record {
+            lines = (l.lines ++ (l.rest ++ part) ∷ []) ++ c.lines;
+            rest = c.rest;
+            cut = cut;
+            said = a.said;
+            first = inl (record {
+              before = l.lines;
+              line = l.rest ++ part;
+              after = c.lines;
+              whole = append_assoc l.lines ((l.rest ++ part) ∷ []) c.lines;
+              counted = t.0;
+              good = a.says;
+              bad = t.1;
+            });
+            tells = told_of a.judged;
+          },
+          record {
+            lines = (l.lines ++ (l.rest ++ part) ∷ []) ++ c.lines;
+            rest = c.rest;
+            cut = cut;
             before = l.lines;
             line = l.rest ++ part;
-            after = c.lines;
-            whole = append_assoc l.lines ((l.rest ++ part) ∷ []) c.lines;
+            after = c.lines ++ c.rest ∷ [];
+            whole = append_assoc (l.lines ++ (l.rest ++ part) ∷ []) c.lines (c.rest ∷ []) ∙ append_assoc l.lines ((l.rest ++ part) ∷ []) (c.lines ++ c.rest ∷ []);
             counted = t.0;
-            good = a.says;
-            bad = t.1;
-          });
-          tells = told_of a.judged;
-        },
+            why = subst (λ n. IsWhyText form n (l.rest ++ part) why.items) (sym t.0) (t.2 (lacks_both l.rest part l.cut.last one));
+          },
+        ),
       )
 
 abbrev pub Invariant : Session → List ℕ → List ℕ → List ℕ → List ℕ → Session → Type 0
@@ -331,28 +418,43 @@ ended_well before mid old between new status completes all form asked bytes told
 
 pub failed_line : (before : Session) (old new : List ℕ) (fault : Fault) → new ≡ old → IsBadLine before [] fault → HasFailed before old new fault
 failed_line before old new NoMemory same bad form asked bytes told h = ([], same ∙ sym (append-nil old), tt)
-failed_line before old new (BadEvent line) same bad form asked bytes told h =
+failed_line before old new (BadEvent line why) same bad form asked bytes told h =
     let l = h.has_lines in
     let a = l.at in
-    let t = bad form asked l.lines l.rest told a line refl in (
+    let t = bad form asked l.lines l.rest told a line why refl in (
       [],
       same ∙ sym (append-nil old),
-      record {
-        lines = l.lines;
-        rest = l.rest;
-        cut = l.cut;
-        said = a.said;
-        first = record {
+      (
+        record {
+          lines = l.lines;
+          rest = l.rest;
+          cut = l.cut;
+          said = a.said;
+          first = record {
+            before = l.lines;
+            line = l.rest;
+            after = [];
+            whole = refl;
+            counted = t.0;
+            good = a.says;
+            bad = subst (λ x. IsBad form x) (append-nil l.rest) t.1;
+          };
+          tells = subst (λ x. IsToldOf form asked a.said x) (sym (append-nil told)) (told_of a.judged);
+        },
+        record {
+          lines = l.lines;
+          rest = l.rest;
+          cut = l.cut;
           before = l.lines;
           line = l.rest;
           after = [];
           whole = refl;
           counted = t.0;
-          good = a.says;
-          bad = subst (λ x. IsBad form x) (append-nil l.rest) t.1;
-        };
-        tells = subst (λ x. IsToldOf form asked a.said x) (sym (append-nil told)) (told_of a.judged);
-      },
+          why = subst (λ n. IsWhyText form n l.rest why.items) (sym t.0)
+              (subst (λ x. IsWhyText form (length l.lines + 1) x why.items) (append-nil l.rest)
+              (t.2 (subst (λ x. IsOneLine x) (sym (append-nil l.rest)) l.cut.last)));
+        },
+      ),
     )
 
 pub failed_memory : (before mid : Session) (old between new : List ℕ) → HasCompleted before [] old between mid → new ≡ between

@@ -1,5 +1,6 @@
 -- What the lines of a trace say.
 use Rattle.std.specs.Prelude.{◌≡◌, ℕ, ◌+◌, List, [], ◌∷◌, ◌++◌, length}
+use Rattle.lrc_races_lines.specs.Cause.{Why, no_act, why_text, IsCause, IsCauseOf}
 use Rattle.lrc_races_lines.specs.Line.{Saying, Says as SaysStd, SaysNothing as SaysNoStd}
 use Rattle.lrc_races_text.specs.declared.form.Form.{Form}
 use Rattle.lrc_races_text.specs.declared.form.Form.TheVariants.{Std, Acts}
@@ -17,6 +18,15 @@ SaysNothing Acts line = SaysNoAct line
 -- the line has not its form
 abbrev pub IsBad : Form → List ℕ → Type 0
 IsBad form line = ¬ SaysNothing form line × ((saying : Saying) → ¬ Says form line saying)
+
+-- why the line with this number has not its form: the first thing that is wrong with it. Of an act no more is said than that it is none.
+abbrev pub IsCauseIn : Form → ℕ → List ℕ → Why → Type 0
+IsCauseIn Std number line why = IsCause number line why
+IsCauseIn Acts number line why = IsCauseOf number line (λ other. other ≡ no_act) why
+
+-- this text says why
+abbrev pub IsWhyText : Form → ℕ → List ℕ → List ℕ → Type 0
+IsWhyText form number line text = (why : Why) × IsCauseIn form number line why × (text ≡ why_text why)
 
 -- what is said, and the number of its line
 pub record Said : Type 0 where

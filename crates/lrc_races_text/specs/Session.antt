@@ -1,7 +1,9 @@
 -- What a session keeps of the bytes that it has read.
-use Rattle.std.specs.Prelude.{◌≡◌, ℕ, ◌+◌, ◌<◌, ◌≤◌, List, [], ◌∷◌, ◌++◌, length}
+use Rattle.std.specs.Prelude.{◌≡◌, ℕ, ◌+◌, ◌<◌, ◌≤◌, List, [], ◌∷◌, ◌++◌, length, Vec}
+use Rattle.std.specs.declared.alloc.Global.{Global}
 use Rattle.lrc_races_lines.specs.declared.line.Line.{Line}
 use Rattle.lrc_races_lines.specs.declared.line.Line.TheVariants.{Nothing, Event, Bad}
+use Rattle.lrc_races_lines.specs.Cause.{line_too_long, why_text}
 use Rattle.lrc_races_lines.specs.Line.{longest_line, Saying, saying_of}
 use Rattle.lrc_races_text.specs.declared.asked.Asked.{Asked}
 use Rattle.lrc_races_text.specs.declared.form.Form.{Form}
@@ -9,9 +11,13 @@ use Rattle.lrc_races_text.specs.declared.fault.Fault.{Fault}
 use Rattle.lrc_races_text.specs.declared.fault.Fault.TheVariants.{BadEvent}
 use Rattle.lrc_races_text.specs.declared.judged.Judged.{Judged}
 use Rattle.lrc_races_text.specs.declared.session.Session.{Session}
-use Rattle.lrc_races_text.specs.Says.{Said, Say, Says, SaysNothing, IsBad}
+use Rattle.lrc_races_text.specs.Says.{Said, Say, Says, SaysNothing, IsBad, IsWhyText}
 use Rattle.lrc_races_text.specs.Judged.{HasJudged}
-use Rattle.lrc_races_text.specs.Told.{IsCut, Tells, Stops, Ends, Fails}
+use Rattle.lrc_races_text.specs.Told.{IsOneLine, IsCut, Tells, Stops, Ends, Fails}
+
+-- a text of the program's own
+abbrev pub Text : Type 0
+Text = Vec ℕ Global
 
 -- what a line is read as, in this form
 abbrev pub ReadsIn : Form → List ℕ → Line → Type 0
@@ -48,7 +54,8 @@ HasCompleted before part old new after = (form : Form) (asked : Asked) (lines : 
 -- or it is bad
 abbrev pub IsBadLine : Session → List ℕ → Fault → Type 0
 IsBadLine before part fault = (form : Form) (asked : Asked) (lines : List (List ℕ)) (rest told : List ℕ) → IsAt form asked lines rest told before
-    → (line : ℕ) → fault ≡ BadEvent line → (line ≡ length lines + 1) × IsBad form (rest ++ part)
+    → (line : ℕ) (why : Text) → fault ≡ BadEvent line why → (line ≡ length lines + 1) × IsBad form (rest ++ part)
+    × (IsOneLine (rest ++ part) → IsWhyText form (length lines + 1) (rest ++ part) why.items)
 
 -- this part more has come of the next line
 abbrev pub HasKept : Session → List ℕ → Session → Type 0
@@ -58,7 +65,8 @@ HasKept before part after = (form : Form) (asked : Asked) (lines : List (List �
 -- or it is too long
 abbrev pub IsTooLong : Session → List ℕ → Fault → Type 0
 IsTooLong before part fault = (form : Form) (asked : Asked) (lines : List (List ℕ)) (rest told : List ℕ) → IsAt form asked lines rest told before
-    → (line : ℕ) → fault ≡ BadEvent line → (line ≡ length lines + 1) × (longest_line < length (rest ++ part))
+    → (line : ℕ) (why : Text) → fault ≡ BadEvent line why → (line ≡ length lines + 1) × (longest_line < length (rest ++ part))
+    × (why.items ≡ why_text line_too_long)
 
 -- the session has read these bytes
 pub record HasLines (form : Form) (asked : Asked) (bytes told : List ℕ) (session : Session) : Type 0 where
@@ -106,4 +114,5 @@ IsNext session number = number ≡ session.lines + 1
 
 -- a fault of this line is that it is bad, or else that memory ran out
 abbrev pub FailsLine : Form → List ℕ → ℕ → Fault → Type 0
-FailsLine form line number fault = (other : ℕ) → fault ≡ BadEvent other → (other ≡ number) × IsBad form line
+FailsLine form line number fault = (other : ℕ) (why : Text) → fault ≡ BadEvent other why → (other ≡ number) × IsBad form line
+    × (IsOneLine line → IsWhyText form number line why.items)

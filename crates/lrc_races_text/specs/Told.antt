@@ -12,7 +12,7 @@ use Rattle.lrc_races_text.specs.declared.asked.Asked.{Asked}
 use Rattle.lrc_races_text.specs.declared.form.Form.{Form}
 use Rattle.lrc_races_text.specs.declared.fault.Fault.{Fault}
 use Rattle.lrc_races_text.specs.declared.fault.Fault.TheVariants.{BadEvent, NoMemory}
-use Rattle.lrc_races_text.specs.Says.{Said, Say, IsFirstBad}
+use Rattle.lrc_races_text.specs.Says.{Said, Say, IsFirstBad, IsWhyText}
 use Rattle.lrc_races_text.specs.Naming.{Naming, IsTrace}
 use Rattle.lrc_races_text.specs.Sought.{AreSought}
 use Rattle.lrc_races_text.specs.Spelled.{race_lines, group_lines, fault_line, counts_line}
@@ -64,8 +64,20 @@ pub record IsBadEvent (form : Form) (asked : Asked) (bytes : List ℕ) (line : �
   pub first : IsFirstBad form lines line said ⊎ (Say form 1 lines said × (line ≡ length lines + 1) × (longest_line < length rest))
   pub tells : IsToldOf form asked said told
 
+-- This text says why the line with this number, or what has come of it, is bad.
+pub record IsReason (form : Form) (bytes : List ℕ) (number : ℕ) (text : List ℕ) : Type 0 where
+  pub lines : List (List ℕ)
+  pub rest : List ℕ
+  pub cut : IsCut bytes lines rest
+  pub before : List (List ℕ)
+  pub line : List ℕ
+  pub after : List (List ℕ)
+  pub whole : lines ++ rest ∷ [] ≡ before ++ line ∷ after
+  pub counted : number ≡ length before + 1
+  pub why : IsWhyText form number line text
+
 abbrev pub Stops : Form → Asked → List ℕ → Fault → List ℕ → Type 0
-Stops form asked bytes (BadEvent line) told = IsBadEvent form asked bytes line told
+Stops form asked bytes (BadEvent line why) told = IsBadEvent form asked bytes line told × IsReason form bytes line why.items
 Stops form asked bytes NoMemory told = Unit {0}
 
 -- All that is told of a trace: behind the pairs the groups, where they are asked for, the first event that no program would give,
@@ -102,5 +114,5 @@ pub record IsBadTrace (form : Form) (asked : Asked) (bytes : List ℕ) (line : �
   pub tells : IsToldOf form asked said told
 
 abbrev pub Fails : Form → Asked → List ℕ → Fault → List ℕ → Type 0
-Fails form asked bytes (BadEvent line) told = IsBadTrace form asked bytes line told
+Fails form asked bytes (BadEvent line why) told = IsBadTrace form asked bytes line told × IsReason form bytes line why.items
 Fails form asked bytes NoMemory told = Unit {0}

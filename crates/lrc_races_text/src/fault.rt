@@ -5,10 +5,10 @@ ghost use Rattle.lrc_races_text.specs.declared.fault.Fault.TheVariants.{NoMemory
 use std::alloc::{AllocError, AllocFailed};
 
 /// Why the judging of a trace stopped.
-#[derive(Clone, Copy, PartialEq, Eq)]
+#[derive(Drop)]
 pub enum Fault {
-    /// The line with this number, counted from 1, does not have the form of a line of the trace.
-    BadEvent(u64),
+    /// The line with this number, counted from 1, does not have the form of a line of the trace, and this says why.
+    BadEvent(u64, Vec<u8>),
     /// Memory ran out, or a count of lines, events, names or races would pass its limit.
     NoMemory,
 }

@@ -149,7 +149,7 @@ pub record Told : Type 0 where
   pub events : List Event
 
 abbrev pub told_seen : code_told.Told → Told
-told_seen told = record { text = told.text.now; program = told.program.now; nodes = told.nodes; options = told.options; events = told.events.now }
+told_seen told = record { text = told.source.now.text; program = told.source.now.program; nodes = told.nodes; options = told.options; events = told.events.now }
 
 abbrev pub labels_in : Told → List Label
 labels_in told = labels_of told.program.words told.program.locks (cut (divides LineFeed) told.text)

@@ -2,8 +2,6 @@
 
 ghost use Rattle.std.specs.Prelude.{◌≡◌, ◌<◌, ◌≤◌, ◌+◌, ◌++◌, ◌∷◌, [], All, Err, IfErr, IfOk, OnOk, Some, ℕ, length, map};
 ghost use Rattle.lrc_labels.specs.Reading.{label_seen};
-ghost use Rattle.lrc_lang.specs.Faults.{IsText};
-ghost use Rattle.lrc_lang.specs.Tree.{program_of};
 ghost use Rattle.lrc_private_names.specs.Ways.{IsOnWay};
 ghost use Rattle.lrc_protocol.specs.Run.{World, event_on, played, run_of};
 ghost use Rattle.lrc_replay.specs.Turns.{turn_by, turns_from};
@@ -19,10 +17,7 @@ use crate::start::events_skipped;
 use crate::told::{Range, Told};
 use lrc_exec::code::Code;
 use lrc_labels::label::Label;
-use lrc_labels::read_labels;
-use lrc_lang::lines::lines_of;
 use lrc_page::Size;
-use lrc_private_names::names_of;
 use lrc_protocol::Event;
 use lrc_replay::Plan;
 use std::alloc::{AllocError, Global};
@@ -37,20 +32,24 @@ pub fn states_parts(
     told: &Told<'_>,
     range: Range,
 ) -> Result<Vec<Vec<u8>>, StatesFault>
-    requires text { IsText told.now.text.now (program_of told.now.program.now) }
     requires few { told.now.nodes ≤ 16 }
-    ensures states { (made : World) → run_of told.now.program.now told.now.nodes told.now.options
-        told.now.events.now ≡ Some made
+    ensures states { (made : World) → run_of told.now.source.now.program told.now.nodes
+        told.now.options told.now.events.now ≡ Some made
         → IfOk result (λ parts. AreStates (told_seen told.now) range (whole_text parts.items)) }
-    ensures fault { (made : World) → run_of told.now.program.now told.now.nodes told.now.options
-        told.now.events.now ≡ Some made
+    ensures fault { (made : World) → run_of told.now.source.now.program told.now.nodes
+        told.now.options told.now.events.now ≡ Some made
         → IfErr result (IsUnshown (told_seen told.now) range) }
 {
-    let code = Code::new(alloc, told.program)?;
-    let lines = lines_of(alloc, told.text)?;
-    let names = names_of(alloc, told.text)?;
-    let labels = read_labels(alloc, told.text, told.program.words(), told.program.locks())?;
-    parts_of(alloc, told, range, &code, &lines, &names, &labels.said)
+    let source = told.source;
+    parts_of(
+        alloc,
+        told,
+        range,
+        source.code(),
+        source.lines(),
+        source.names(),
+        source.labels(),
+    )
 }
 
 // The same, where the program's code, the lines, the names and the labels of its text are known.
@@ -67,11 +66,11 @@ fn parts_of(
     requires setting { IsSetting (told_seen told.now)
         (plan_with code.now told.now.nodes lines.now (map (λ name. name.now) names.now))
         (map label_seen labels.now) }
-    ensures states { (made : World) → run_of told.now.program.now told.now.nodes told.now.options
-        told.now.events.now ≡ Some made
+    ensures states { (made : World) → run_of told.now.source.now.program told.now.nodes
+        told.now.options told.now.events.now ≡ Some made
         → IfOk result (λ parts. AreStates (told_seen told.now) range (whole_text parts.items)) }
-    ensures fault { (made : World) → run_of told.now.program.now told.now.nodes told.now.options
-        told.now.events.now ≡ Some made
+    ensures fault { (made : World) → run_of told.now.source.now.program told.now.nodes
+        told.now.options told.now.events.now ≡ Some made
         → IfErr result (IsUnshown (told_seen told.now) range) }
 {
     let skipped = events_skipped(alloc, code, told, range.from)?;

@@ -1,15 +1,13 @@
 // What the lines are told of.
 
-use lrc_lang::program::Program;
 use lrc_node::Options;
 use lrc_protocol::Event;
+use lrc_source::source::Source;
 
-/// A run that was made: the text of its program, the program, how many nodes run it with which options, and the events
-/// of the run.
+/// A run that was made: its source, how many nodes run it with which options, and the events of the run.
 #[derive(Clone, Copy)]
 pub struct Told<'a> {
-    pub text: &'a [u8],
-    pub program: &'a Program,
+    pub source: &'a Source<'a>,
     pub nodes: u8,
     pub options: Options,
     pub events: &'a [Event],

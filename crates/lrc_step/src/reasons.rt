@@ -1,8 +1,6 @@
 // The lines of reasons.
 
 ghost use Rattle.std.specs.Prelude.{◌≡◌, ◌<◌, ◌≤◌, All, IfOk};
-ghost use Rattle.lrc_lang.specs.Faults.{IsText};
-ghost use Rattle.lrc_lang.specs.Tree.{program_of};
 ghost use Rattle.lrc_judge.specs.declared.TheConstants.{NODES};
 ghost use Rattle.lrc_judge.specs.Order.{IsOrderOf};
 ghost use Rattle.lrc_step.specs.ReasonLines.{TellsWhys};
@@ -11,34 +9,32 @@ use crate::Part;
 use crate::reason_lines::{asked_of, push_whys};
 use crate::told::positions_told;
 use lrc_judge::order::Order;
-use lrc_lang::program::Program;
 use lrc_page::Size;
+use lrc_source::source::Source;
 use lrc_trace::act::Act;
 use lrc_why_run::why_each;
 use std::alloc::{AllocError, Global};
 
-/// Returns the lines of reasons for a part of a run of the program in this text, on so many nodes and with this page
+/// Returns the lines of reasons for a part of a run of the program of this source, on so many nodes and with this page
 /// size.
 pub fn reasons_part(
     alloc: Global,
-    text: &[u8],
-    program: &Program,
+    source: &Source<'_>,
     nodes: u8,
     page: Size,
     acts: &[Act],
     order: &Order,
     part: Part,
 ) -> Result<Vec<u8>, AllocError>
-    requires text { IsText text.now (program_of program.now) }
     requires few { nodes ≤ NODES }
     requires nodes { All (λ act. act.node < nodes) acts.now }
     requires order { IsOrderOf acts.now order.now }
-    ensures { IfOk result (λ told. TellsWhys text.now program.now nodes page acts.now part
-        told.items) }
+    ensures { IfOk result (λ told. TellsWhys source.now.text source.now.program nodes page
+        acts.now part told.items) }
 {
     let positions = positions_told(alloc, acts, order, nodes, part)?;
     let asked = asked_of(alloc, &positions)?;
-    let printed = why_each(alloc, text, program, nodes, page, acts, &asked)?;
+    let printed = why_each(alloc, source, nodes, page, acts, order, &asked)?;
     let mut told = Vec::new(alloc);
     push_whys(alloc, &mut told, &positions, &printed)?;
     Ok(told)

@@ -1,8 +1,6 @@
 // What is printed of the acts of a run.
 
 ghost use Rattle.std.specs.Prelude.{◌≡◌, ◌≢◌, ◌<◌, ◌≤◌, ℕ, All, IfErr, IfOk, IfSome, List, Some, length, map, slice_get};
-ghost use Rattle.lrc_lang.specs.Faults.{IsText};
-ghost use Rattle.lrc_lang.specs.Tree.{program_of};
 ghost use Rattle.lrc_judge.specs.declared.TheConstants.{NODES};
 ghost use Rattle.lrc_judge.specs.Firsts.{AreIntervals};
 ghost use Rattle.lrc_judge.specs.Order.{IsOrderOf};
@@ -16,12 +14,10 @@ use crate::private::push_private;
 use lrc_exec::code::Code;
 use lrc_judge::intervals_of;
 use lrc_judge::order::{Order, happens_before};
-use lrc_labels::read_labels;
-use lrc_lang::lines::lines_of;
-use lrc_lang::program::Program;
 use lrc_lines::walks::lines_of_acts;
 use lrc_page::Size;
-use lrc_private_names::{Way, names_of};
+use lrc_private_names::Way;
+use lrc_source::source::Source;
 use lrc_trace::act::Act;
 use lrc_why_lines::look::act_at;
 use lrc_why_lines::shown::Shown;
@@ -105,9 +101,11 @@ fn told_each(
     page: Size,
     shown: Shown<'_>,
     names: &[&[u8]],
+    order: &Order,
     asked: &[Asked],
 ) -> Result<Vec<Vec<u8>>, AllocError>
     requires nodes { All (λ act. act.node < NODES) shown.acts.now }
+    requires order { IsOrderOf shown.acts.now order.now }
     requires intervals { AreIntervals shown.acts.now (length shown.acts.now) shown.intervals.now }
     requires asked { All (IsAnswerable (length shown.acts.now)) asked.now }
     ensures { IfOk result (λ parts. OfEach (length asked.now)
@@ -115,90 +113,92 @@ fn told_each(
         → Tells shown.entry (map (λ name. name.now) names.now) code.now nodes page one part.items)
         parts.items) }
 {
-    let order = happens_before(alloc, shown.acts)?;
     let mut parts = Vec::new(alloc);
     for one in asked {
-        let part = told(alloc, code, nodes, page, shown, names, &order, *one)?;
+        let part = told(alloc, code, nodes, page, shown, names, order, *one)?;
         parts.push(part)?;
     }
     Ok(parts)
 }
 
-/// Returns what `why` prints for each question about a run of the program with this text, on `nodes` nodes and pages of
+/// Returns what `why` prints for each question about a run of the program of this source, on `nodes` nodes and pages of
 /// this size. The work that all questions share is done once.
 pub fn why_each(
     alloc: Global,
-    text: &[u8],
-    program: &Program,
+    source: &Source<'_>,
     nodes: u8,
     page: Size,
     acts: &[Act],
+    order: &Order,
     asked: &[Asked],
 ) -> Result<Vec<Vec<u8>>, AllocError>
-    requires text { IsText text.now (program_of program.now) }
     requires nodes { All (λ act. act.node < NODES) acts.now }
+    requires order { IsOrderOf acts.now order.now }
     requires asked { All (IsAnswerable (length acts.now)) asked.now }
     ensures { IfOk result (λ parts. OfEach (length asked.now)
         (λ place part. (one : AskedRecord) → slice_get asked.now place ≡ Some one
-        → AnswersRun text.now program.now nodes page acts.now one part.items) parts.items) }
+        → AnswersRun source.now.text source.now.program nodes page acts.now one part.items)
+        parts.items) }
 {
-    let places = lines_of(alloc, text)?;
-    let code = Code::new(alloc, program)?;
-    let lines = lines_of_acts(alloc, &code, &places, nodes, acts)?;
+    let lines = lines_of_acts(alloc, source.code(), source.lines(), nodes, acts)?;
     let intervals = intervals_of(alloc, acts)?;
-    let labels = read_labels(alloc, text, program.words(), program.locks())?;
-    let names = names_of(alloc, text)?;
     let shown = Shown {
         acts,
         lines: lines.as_slice(),
         intervals: intervals.as_slice(),
-        labels: labels.said.as_slice(),
+        labels: source.labels(),
     };
-    let parts = told_each(alloc, &code, nodes, page, shown, &names, asked)?;
+    let parts = told_each(
+        alloc,
+        source.code(),
+        nodes,
+        page,
+        shown,
+        source.names(),
+        order,
+        asked,
+    )?;
     Ok(parts)
 }
 
 // The same of one.
 fn told_alone(
     alloc: Global,
-    text: &[u8],
-    program: &Program,
+    source: &Source<'_>,
     nodes: u8,
     page: Size,
     acts: &[Act],
     asked: Asked,
 ) -> Result<Vec<Vec<u8>>, AllocError>
-    requires text { IsText text.now (program_of program.now) }
     requires nodes { All (λ act. act.node < NODES) acts.now }
     requires asked { IsAnswerable (length acts.now) asked }
-    ensures { IfOk result (λ parts. AnswersRun text.now program.now nodes page acts.now asked
-        (whole_text parts.items)) }
+    ensures { IfOk result (λ parts. AnswersRun source.now.text source.now.program nodes page
+        acts.now asked (whole_text parts.items)) }
 {
-    let parts = why_each(alloc, text, program, nodes, page, acts, &[asked])?;
+    let order = happens_before(alloc, acts)?;
+    let parts = why_each(alloc, source, nodes, page, acts, &order, &[asked])?;
     Ok(parts)
 }
 
-/// Returns what `why` prints about the acts of a run of the program with this text, on `nodes` nodes and pages of this
+/// Returns what `why` prints about the acts of a run of the program of this source, on `nodes` nodes and pages of this
 /// size. Fails if there is no act at an asked position, or if memory runs out.
 pub fn why_run(
     alloc: Global,
-    text: &[u8],
-    program: &Program,
+    source: &Source<'_>,
     nodes: u8,
     page: Size,
     acts: &[Act],
     asked: Asked,
 ) -> Result<Vec<Vec<u8>>, WhyFault>
-    requires text { IsText text.now (program_of program.now) }
     requires nodes { All (λ act. act.node < NODES) acts.now }
     requires apart { IfSome asked.and (λ other. other ≢ asked.act) }
-    ensures ok { IfOk result (λ parts. AnswersRun text.now program.now nodes page acts.now asked
-        (whole_text parts.items)) }
+    ensures ok { IfOk result (λ parts. AnswersRun source.now.text source.now.program nodes page
+        acts.now asked (whole_text parts.items)) }
     ensures err { IfErr result (RefusesRun asked (length acts.now)) }
 {
     if let Some(position) = missing(asked, acts.len()) {
         return Err(WhyFault::NoAct(position, acts.len()));
     }
-    let parts = told_alone(alloc, text, program, nodes, page, acts, asked)?;
+    let parts = told_alone(alloc, source, nodes, page, acts, asked)?;
     Ok(parts)
 }

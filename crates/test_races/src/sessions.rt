@@ -139,7 +139,7 @@ fn play(session: &mut Session, trace: &[u8], size: usize, out: &mut Vec<u8>) -> 
 fn is_end(found: Result<u8, Fault>, wanted: Result<u8, u64>) -> bool {
     match (found, wanted) {
         (Ok(status), Ok(other)) => status == other,
-        (Err(Fault::BadEvent(line)), Err(other)) => line == other,
+        (Err(Fault::BadEvent(line, _why)), Err(other)) => line == other,
         _ => false,
     }
 }

@@ -1,9 +1,10 @@
 // The lines of a run, beside those that are wanted.
 
 use crate::checks::Mistake;
-use lrc_lang::parse;
 use lrc_node::Options;
 use lrc_protocol::Event;
+use lrc_source::source::Source;
+use lrc_source::text::SourceText;
 use lrc_states::{Range, Told, states_parts};
 use std::alloc::Global;
 
@@ -30,10 +31,10 @@ pub fn lines_of(alloc: Global, run: &Run<'_>, range: Range) -> Result<Vec<Vec<u8
     if run.nodes > 16 {
         return Err(Mistake::Nodes);
     }
-    let program = parse(alloc, run.text)?;
+    let read = SourceText::read(alloc, run.text)?;
+    let source = Source::of(alloc, &read)?;
     let told = Told {
-        text: run.text,
-        program: &program,
+        source: &source,
         nodes: run.nodes,
         options: run.options,
         events: run.events,

@@ -3,8 +3,9 @@
 use crate::checks::passes;
 use lrc_acts::reading::acts_of;
 use lrc_judge::are_in_range;
-use lrc_lang::parse;
 use lrc_page::Size;
+use lrc_source::source::Source;
+use lrc_source::text::SourceText;
 use lrc_why_run::why_run;
 use lrc_why_text::asked::Asked;
 use lrc_why_text::fault::WhyFault;
@@ -214,7 +215,10 @@ fn answer(
     if asked.and == Some(asked.act) {
         return None;
     }
-    let Ok(program) = parse(alloc, text) else {
+    let Ok(read) = SourceText::read(alloc, text) else {
+        return None;
+    };
+    let Ok(source) = Source::of(alloc, &read) else {
         return None;
     };
     let Ok(lined) = acts_of(alloc, acts, Some(u32::from(nodes))) else {
@@ -224,7 +228,7 @@ fn answer(
     if !are_in_range(acts) {
         return None;
     }
-    Some(why_run(alloc, text, &program, nodes, page, acts, asked))
+    Some(why_run(alloc, &source, nodes, page, acts, asked))
 }
 
 fn is_told(alloc: Global, row: &Row) -> bool {

@@ -10,7 +10,6 @@ use Rattle.lrc_cli_args.specs.declared.choice.Shape.TheVariants.{Chart}
 use Rattle.lrc_chart_title.specs.Title.{title_text}
 use Rattle.lrc_world.specs.declared.keep.Keep.TheVariants.{All as Whole}
 use Rattle.lrc_cli_runs.specs.Charted.{AreWaitsIn, IsChart, IsCourse}
-use Rattle.lrc_cli_answer.specs.Labels.{labels_in}
 use Rattle.lrc_cli_runs.specs.Lines.{AreLinesIn}
 use Rattle.lrc_cli_runs.specs.Shown.{IsShowFault}
 use Rattle.lrc_cli_answer.proofs.FaultLemmas.{fault_up}
@@ -21,63 +20,63 @@ use Rattle.lrc_cli_runs.proofs.charted.charted.Goals as goal
 pub first_pairs-requires : goal.first_pairs-requires
 first_pairs-requires c =
     subst (λ (acts : List Act). All (λ act. act.node < 16) acts) (sym c.as_slice-acts.ensures.value)
-    (acts_of_few c.args.program.now c.args.choice.now.options Whole c.args.run.now c.requires.ran)
+    (acts_of_few c.args.source.now.program c.args.choice.now.options Whole c.args.run.now c.requires)
 
 pub returns-in_err-part-clause-err : goal.returns-in_err-part-clause-err
 returns-in_err-part-clause-err c =
     let options = c.args.choice.now.options in
     let acts = c.as_slice-acts.result.now in
-    let known = course_of_run c.args.text.now c.args.program.now options c.args.run.now
-    c.as_slice-turns.result.now acts c.as_slice-lines.result.now (times_in c.args.run.now.origins.times) c.as_slice-pairs.result.now (map label_seen c.as_slice-labels.result.now) c.as_slice-waits.result.now
+    let known = course_of_run c.args.source.now.text c.args.source.now.program options c.args.run.now
+    c.as_slice-turns.result.now acts c.as_slice-lines.result.now (times_in c.args.run.now.origins.times) c.as_slice-pairs.result.now (map label_seen c.labels-labels.result.now) c.as_slice-waits.result.now
     (c.as_slice-turns.ensures.value ∙ c.in_ok-made.ensures ∙ ap (λ logs. turns_told (map (λ log. log.items) logs) c.deref-3.result.now) c.deref-2.ensures.value
     ∙ ap (turns_told (map (λ log. log.items) c.args.run.now.report.logs.items))
-    (c.deref-3.ensures.value ∙ c.in_ok-order.ensures c.args.program.now options c.requires.ran))
+    (c.deref-3.ensures.value ∙ c.in_ok-order.ensures c.args.source.now.program options c.requires))
     c.as_slice-acts.ensures.value
-    (subst (λ (lines : List ℕ). AreLinesIn c.args.text.now c.args.program.now options.nodes.count acts lines) (sym c.as_slice-lines.ensures.value)
-    (c.in_ok-places.ensures.lines c.args.program.now options.nodes.count acts c.requires.text
-    (statements_of c.args.program.now options c.args.run.now acts c.requires.ran c.as_slice-acts.ensures.value c.deref.result.now c.deref.ensures.value)))
-    (times_of c.args.program.now options c.args.run.now acts c.requires.ran c.as_slice-acts.ensures.value)
+    (subst (λ (lines : List ℕ). AreLinesIn c.args.source.now.text c.args.source.now.program options.nodes.count acts lines) (sym c.as_slice-lines.ensures.value)
+    (c.in_ok-places.ensures.lines options.nodes.count acts
+    (statements_of c.args.source.now.program options c.args.run.now acts c.requires c.as_slice-acts.ensures.value c.deref.result.now c.deref.ensures.value)))
+    (times_of c.args.source.now.program options c.args.run.now acts c.requires c.as_slice-acts.ensures.value)
     (subst (λ (pairs : List Pair). AreFirstPairs acts pairs) (sym c.as_slice-pairs.ensures.value) c.in_ok-found.ensures)
-    (ap (map label_seen) c.as_slice-labels.ensures.value ∙ c.in_ok-labelling.ensures.said
-    ∙ ap (λ (t : List ℕ). labels_in t c.args.program.now) (c.as_slice-source.ensures.value ∙ c.in_ok-bytes.ensures.items))
-    (subst (λ (waits : List (Option ℕ)). AreWaitsIn c.args.text.now c.args.program.now options acts waits) (sym c.as_slice-waits.ensures.value)
+    (c.labels-labels.ensures.labels ∙ c.labels-labels.ensures.text)
+    (subst (λ (waits : List (Option ℕ)). AreWaitsIn c.args.source.now.text c.args.source.now.program options acts waits) (sym c.as_slice-waits.ensures.value)
     c.in_ok-standing.ensures) in
     fault_up c.from_residual-in_err-part.result c.in_err-part.field-0.0
-    (IsShowFault (Chart c.args.charting) c.args.choice.now c.args.text.now c.args.program.now c.args.run.now)
+    (IsShowFault (Chart c.args.charting) c.args.choice.now c.args.source.now.text c.args.source.now.program c.args.run.now)
     c.from_residual-in_err-part.ensures.1
-    (chart_unshown c.args.charting c.args.choice.now c.args.text.now c.args.program.now c.args.run.now
+    (chart_unshown c.args.charting c.args.choice.now c.args.source.now.text c.args.source.now.program c.args.run.now
     _ c.in_err-part.field-0.0 known c.in_err-part.ensures.err)
 
 pub returns-clause-ok : goal.returns-clause-ok
 returns-clause-ok c =
     let options = c.args.choice.now.options in
     let acts = c.as_slice-acts.result.now in
-    let labels = map label_seen c.as_slice-labels.result.now in
+    let labels = map label_seen c.labels-labels.result.now in
     let course : CourseRecord = record {
       turns = c.as_slice-turns.result.now;
       known = record { acts = acts; lines = c.as_slice-lines.result.now; times = (times_in c.args.run.now.origins.times); pairs = c.as_slice-pairs.result.now; labels = labels };
       waits = c.as_slice-waits.result.now;
     } in
-    let known : IsCourse c.args.text.now c.args.program.now options c.args.run.now course =
-    course_of_run c.args.text.now c.args.program.now options c.args.run.now
+    let known : IsCourse c.args.source.now.text c.args.source.now.program options c.args.run.now course =
+    course_of_run c.args.source.now.text c.args.source.now.program options c.args.run.now
     c.as_slice-turns.result.now acts c.as_slice-lines.result.now (times_in c.args.run.now.origins.times) c.as_slice-pairs.result.now labels c.as_slice-waits.result.now
     (c.as_slice-turns.ensures.value ∙ c.in_ok-made.ensures ∙ ap (λ logs. turns_told (map (λ log. log.items) logs) c.deref-3.result.now) c.deref-2.ensures.value
     ∙ ap (turns_told (map (λ log. log.items) c.args.run.now.report.logs.items))
-    (c.deref-3.ensures.value ∙ c.in_ok-order.ensures c.args.program.now options c.requires.ran))
+    (c.deref-3.ensures.value ∙ c.in_ok-order.ensures c.args.source.now.program options c.requires))
     c.as_slice-acts.ensures.value
-    (subst (λ (lines : List ℕ). AreLinesIn c.args.text.now c.args.program.now options.nodes.count acts lines) (sym c.as_slice-lines.ensures.value)
-    (c.in_ok-places.ensures.lines c.args.program.now options.nodes.count acts c.requires.text
-    (statements_of c.args.program.now options c.args.run.now acts c.requires.ran c.as_slice-acts.ensures.value c.deref.result.now c.deref.ensures.value)))
-    (times_of c.args.program.now options c.args.run.now acts c.requires.ran c.as_slice-acts.ensures.value)
+    (subst (λ (lines : List ℕ). AreLinesIn c.args.source.now.text c.args.source.now.program options.nodes.count acts lines) (sym c.as_slice-lines.ensures.value)
+    (c.in_ok-places.ensures.lines options.nodes.count acts
+    (statements_of c.args.source.now.program options c.args.run.now acts c.requires c.as_slice-acts.ensures.value c.deref.result.now c.deref.ensures.value)))
+    (times_of c.args.source.now.program options c.args.run.now acts c.requires c.as_slice-acts.ensures.value)
     (subst (λ (pairs : List Pair). AreFirstPairs acts pairs) (sym c.as_slice-pairs.ensures.value) c.in_ok-found.ensures)
-    (ap (map label_seen) c.as_slice-labels.ensures.value ∙ c.in_ok-labelling.ensures.said
-    ∙ ap (λ (t : List ℕ). labels_in t c.args.program.now) (c.as_slice-source.ensures.value ∙ c.in_ok-bytes.ensures.items))
-    (subst (λ (waits : List (Option ℕ)). AreWaitsIn c.args.text.now c.args.program.now options acts waits) (sym c.as_slice-waits.ensures.value)
+    (c.labels-labels.ensures.labels ∙ c.labels-labels.ensures.text)
+    (subst (λ (waits : List (Option ℕ)). AreWaitsIn c.args.source.now.text c.args.source.now.program options acts waits) (sym c.as_slice-waits.ensures.value)
     c.in_ok-standing.ensures) in (
       course,
       known,
-      subst (λ (out : List ℕ). IsChart c.args.charting (title_text c.args.choice.now c.args.charting) options.nodes.count course c.args.text.now out)
+      subst (λ (out : List ℕ). IsChart c.args.charting (title_text c.args.choice.now c.args.charting) options.nodes.count course c.args.source.now.text out)
           (sym c.in_ok-in_one.ensures)
-          (subst (λ (title : List ℕ). IsChart c.args.charting title options.nodes.count course c.args.text.now c.in_ok-part.part.items)
-          (c.deref-4.ensures.value ∙ c.in_ok-title.ensures) c.in_ok-part.ensures.ok),
+          (subst (λ (title : List ℕ). IsChart c.args.charting title options.nodes.count course c.args.source.now.text c.in_ok-part.part.items)
+          (c.deref-4.ensures.value ∙ c.in_ok-title.ensures)
+          (subst (λ (text : List ℕ). IsChart c.args.charting c.deref-4.result.now options.nodes.count course text c.in_ok-part.part.items)
+          c.text.ensures c.in_ok-part.ensures.ok)),
     )

@@ -1,24 +1,29 @@
-use Rattle.std.proofs.Common.{◌≡◌, List, Some, subst}
+use Rattle.std.proofs.Common.{◌≡◌, ◌∙◌, List, ℕ, Some, ap, ap₂, subst}
 use Rattle.std.proofs.lemmas.Result.{IfOk-weaker}
+use Rattle.lrc_lang.specs.declared.program.Program.{Program}
 use Rattle.lrc_explain_waits.specs.Circles.{waits_of}
 use Rattle.lrc_explain_waits.specs.Followed.{AreFollowed}
 use Rattle.lrc_explain_waits.specs.Stand.{stands_of}
 use Rattle.lrc_explain_waits.specs.declared.stand.Stand.{Stand}
+use Rattle.lrc_cli_runs.specs.Charted.{AreWaitsIn}
 use Rattle.lrc_cli_runs.proofs.charted.waits_behind.Goals as goal
 
 pub returns : goal.returns
 returns c =
-    let program = c.args.code.now in
-    let lines = c.args.places.now in
-    let are : AreFollowed program c.args.nodes lines c.args.acts.now c.in_ok-followed.followed = record {
+    let source = c.args.source.now in
+    let options = c.args.options.now in
+    let acts = c.args.acts.now in
+    let program = c.code.result.now in
+    let lines = c.lines.result.now in
+    let nodes = options.nodes.count in
+    let are : AreFollowed program nodes lines acts c.in_ok-followed.followed = record {
       lines_are = c.in_ok-followed.ensures.lines;
       walks_are = c.in_ok-followed.ensures.walks;
       end_is = c.in_ok-followed.ensures.end;
     } in
-    let made : c.in_ok-stands.stands.items ≡ stands_of program c.args.nodes lines (Some c.args.steps) c.args.acts.now =
-    c.in_ok-stands.ensures program lines are in
-    let lent : c.deref.result.now ≡ c.in_ok-stands.stands.items = c.deref.ensures.value in
+    let made : c.deref.result.now ≡ stands_of source.program nodes source.lines (Some options.steps.count) acts =
+    c.deref.ensures.value ∙ c.in_ok-stands.ensures program lines are
+    ∙ ap₂ (λ (p : Program) (l : List ℕ). stands_of p nodes l (Some options.steps.count) acts) c.code.ensures c.lines.ensures.lines in
     IfOk-weaker c.waits_of.result (λ waits. waits.items ≡ waits_of c.deref.result.now)
-    (λ waits. waits.items ≡ waits_of (stands_of program c.args.nodes lines (Some c.args.steps) c.args.acts.now))
-    (λ waits is. subst (λ (stands : List Stand). waits.items ≡ waits_of stands) made
-    (subst (λ (stands : List Stand). waits.items ≡ waits_of stands) lent is)) c.waits_of.ensures
+    (λ waits. AreWaitsIn source.text source.program options acts waits.items)
+    (λ waits is. (source.lines, c.lines.ensures.text, is ∙ ap waits_of made)) c.waits_of.ensures

@@ -9,31 +9,31 @@ use Rattle.lrc_cli_runs.proofs.shown.parts_of.Goals as goal
 
 pub traced-requires-clause-ran : goal.traced-requires-clause-ran
 traced-requires-clause-ran c =
-    subst (λ (shape : Shape). IsRunFor shape c.args.program.now c.args.choice.now.options c.args.run.now) c.in-Trace.is c.requires.ran
+    subst (λ (shape : Shape). IsRunFor shape c.args.source.now.program c.args.choice.now.options c.args.run.now) c.in-Trace.is c.requires.ran
 
-pub charted-requires-clause-ran : goal.charted-requires-clause-ran
-charted-requires-clause-ran c =
-    whole_run c.args.shape c.args.program.now c.args.choice.now.options c.args.run.now c.requires.ran (ap keep_for c.in-Chart.is)
+pub charted-requires : goal.charted-requires
+charted-requires c =
+    whole_run c.args.shape c.args.source.now.program c.args.choice.now.options c.args.run.now c.requires.ran (ap keep_for c.in-Chart.is)
 
 pub explained-requires-clause-acts : goal.explained-requires-clause-acts
 explained-requires-clause-acts c =
     subst (λ (acts : List Act). All (λ act. act.node < 16) acts) (sym c.as_slice-acts.ensures.value)
-    (acts_of_few c.args.program.now c.args.choice.now.options c.requires.ran.0 c.args.run.now c.requires.ran.2)
+    (acts_of_few c.args.source.now.program c.args.choice.now.options c.requires.ran.0 c.args.run.now c.requires.ran.2)
 
 pub reasons_of_run-requires-clause-acts : goal.reasons_of_run-requires-clause-acts
 reasons_of_run-requires-clause-acts c =
     subst (λ (acts : List Act). All (λ act. act.node < 16) acts) (sym c.as_slice-acts.ensures.value)
-    (acts_of_few c.args.program.now c.args.choice.now.options c.requires.ran.0 c.args.run.now c.requires.ran.2)
+    (acts_of_few c.args.source.now.program c.args.choice.now.options c.requires.ran.0 c.args.run.now c.requires.ran.2)
 
 pub stepped-requires-clause-ran : goal.stepped-requires-clause-ran
 stepped-requires-clause-ran c = (c.requires.ran.0, c.requires.ran.2)
 
 pub returns-in-Trace-clause-err : goal.returns-in-Trace-clause-err
 returns-in-Trace-clause-err c =
-    subst (λ (shape : Shape). IfErr c.traced.result (IsShowFault shape c.args.choice.now c.args.text.now c.args.program.now c.args.run.now)) (sym c.in-Trace.is)
-    (IfErr-weaker c.traced.result _ _ (trace_unshown c.in-Trace.form c.args.choice.now c.args.text.now c.args.program.now c.args.run.now) c.traced.ensures.err)
+    subst (λ (shape : Shape). IfErr c.traced.result (IsShowFault shape c.args.choice.now c.args.source.now.text c.args.source.now.program c.args.run.now)) (sym c.in-Trace.is)
+    (IfErr-weaker c.traced.result _ _ (trace_unshown c.in-Trace.form c.args.choice.now c.args.source.now.text c.args.source.now.program c.args.run.now) c.traced.ensures.err)
 
 pub returns-in-Step-clause-err : goal.returns-in-Step-clause-err
 returns-in-Step-clause-err c =
-    subst (λ (shape : Shape). IfErr c.stepped.result (IsShowFault shape c.args.choice.now c.args.text.now c.args.program.now c.args.run.now)) (sym c.in-Step.is)
-    (IfErr-weaker c.stepped.result _ _ (step_unshown c.in-Step.part c.args.choice.now c.args.text.now c.args.program.now c.args.run.now) c.stepped.ensures.err)
+    subst (λ (shape : Shape). IfErr c.stepped.result (IsShowFault shape c.args.choice.now c.args.source.now.text c.args.source.now.program c.args.run.now)) (sym c.in-Step.is)
+    (IfErr-weaker c.stepped.result _ _ (step_unshown c.in-Step.part c.args.choice.now c.args.source.now.text c.args.source.now.program c.args.run.now) c.stepped.ensures.err)

@@ -10,12 +10,12 @@ use Rattle.lrc_cli_runs.proofs.stated.explained_text.Goals as goal
 pub explained-requires-clause-acts : goal.explained-requires-clause-acts
 explained-requires-clause-acts c =
     subst (λ (acts : List Act). All (λ act. act.node < 16) acts) (sym c.as_slice-acts.ensures.value)
-    (acts_of_few c.args.program.now c.args.options.now c.requires.ran.0 c.args.run.now c.requires.ran.1)
+    (acts_of_few c.args.source.now.program c.args.options.now c.requires.ran.0 c.args.run.now c.requires.ran.1)
 
 pub returns : goal.returns
 returns c =
-    let text = c.args.text.now in
-    let program = c.args.program.now in
+    let text = c.args.source.now.text in
+    let program = c.args.source.now.program in
     let options = c.args.options.now in
     let report = c.args.run.now.report in
     IfOk-weaker c.joined.result (λ (told : Vec ℕ Global). told.items ≡ whole_text c.deref.result.now)

@@ -15,12 +15,12 @@ reasons_part-requires-clause-order c =
 pub reasons_part-requires-clause-nodes : goal.reasons_part-requires-clause-nodes
 reasons_part-requires-clause-nodes c =
     subst (λ (acts : List Act). All (λ act. act.node < c.args.options.now.nodes.count) acts) (sym c.as_slice-acts.ensures.value)
-    (acts_in_range c.args.program.now c.args.options.now c.requires.ran.0 c.args.run.now c.requires.ran.1)
+    (acts_in_range c.args.source.now.program c.args.options.now c.requires.ran.0 c.args.run.now c.requires.ran.1)
 
 pub returns : goal.returns
 returns c =
-    let text = c.args.text.now in
-    let program = c.args.program.now in
+    let text = c.args.source.now.text in
+    let program = c.args.source.now.program in
     let nodes = c.args.options.now.nodes.count in
     let size = c.args.options.now.size in
     let acts = c.args.run.now.report.acts.items in

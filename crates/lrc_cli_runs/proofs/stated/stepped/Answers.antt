@@ -11,7 +11,7 @@ use Rattle.lrc_cli_runs.proofs.stated.stepped.Goals as goal
 pub happens_before-requires : goal.happens_before-requires
 happens_before-requires c =
     subst (λ (acts : List Act). All (λ act. act.node < 16) acts) (sym c.deref.ensures.value)
-    (acts_of_few c.args.program.now c.args.options.now c.requires.ran.0 c.args.run.now c.requires.ran.1)
+    (acts_of_few c.args.source.now.program c.args.options.now c.requires.ran.0 c.args.run.now c.requires.ran.1)
 
 pub races_text-requires-clause-order : goal.races_text-requires-clause-order
 races_text-requires-clause-order c =
@@ -24,7 +24,7 @@ reasons_text-requires-clause-order c =
 pub returns-in_err-states-clause-err : goal.returns-in_err-states-clause-err
 returns-in_err-states-clause-err c =
     fault_up c.from_residual.result c.in_err-states.field-0.0
-    (IsStatesFault c.args.part c.args.text.now c.args.program.now c.args.options.now c.args.run.now)
+    (IsStatesFault c.args.part c.args.source.now.text c.args.source.now.program c.args.options.now c.args.run.now)
     c.from_residual.ensures.1 c.in_err-states.ensures.err
 
 pub returns-clause-ok : goal.returns-clause-ok
@@ -41,6 +41,8 @@ returns-clause-ok c = record {
   tells_whys = c.in_ok-reasons.ensures;
   whole =
       c.in_ok-document.ensures
-      ∙ ap₂ (λ (name explained : List ℕ). document (run_lines name c.args.text.now (whole_text c.in_ok-states.states.items) explained c.in_ok-races.races.items c.in_ok-reasons.reasons.items))
+      ∙ ap (λ (text : List ℕ). document (run_lines c.deref-2.result.now text (whole_text c.in_ok-states.states.items) c.deref-3.result.now c.in_ok-races.races.items c.in_ok-reasons.reasons.items))
+      c.text-text.ensures
+      ∙ ap₂ (λ (name explained : List ℕ). document (run_lines name c.args.source.now.text (whole_text c.in_ok-states.states.items) explained c.in_ok-races.races.items c.in_ok-reasons.reasons.items))
       (c.deref-2.ensures.value ∙ c.in_ok-name.ensures ∙ ap name_of c.as_bytes.ensures.value) c.deref-3.ensures.value;
 }

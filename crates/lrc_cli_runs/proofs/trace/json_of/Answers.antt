@@ -10,10 +10,10 @@ pub returns : goal.returns
 returns c =
     let run = c.args.run.now in
     let times = times_in run.origins.times in
-    let said : map label_seen c.deref.result.now ≡ labels_in c.args.text.now c.args.program.now =
-    ap (map label_seen) c.deref.ensures.value ∙ c.in_ok-labels.ensures.said in
+    let said : map label_seen c.labels.result.now ≡ labels_in c.args.source.now.text c.args.source.now.program =
+    c.labels.ensures.labels ∙ c.labels.ensures.text in
     IfOk-weaker c.json_part.result _ _
     (λ part is.
-    is ∙ ap (λ acts. json_of_acts (map label_seen c.deref.result.now) acts c.args.lines.now times) c.as_slice-acts.ensures.value
+    is ∙ ap (λ acts. json_of_acts (map label_seen c.labels.result.now) acts c.args.lines.now times) c.as_slice-acts.ensures.value
     ∙ ap (λ (labels : List Label). json_of_acts labels run.report.acts.items c.args.lines.now times) said)
     c.json_part.ensures

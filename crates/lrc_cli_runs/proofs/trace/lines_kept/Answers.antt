@@ -7,9 +7,10 @@ use Rattle.lrc_cli_runs.proofs.trace.lines_kept.Goals as goal
 
 pub returns-clause-lines : goal.returns-clause-lines
 returns-clause-lines c =
+    let source = c.args.source.now in
+    let has : HasLines source.text (program_of source.program) c.lines.result.now =
+    subst (HasLines source.text (program_of source.program)) (sym c.lines.ensures.lines) c.lines.ensures.text in
     IfOk-weaker c.lines_of_statements.result _ _
-    (λ found told program nodes acts is kept.
-    let has : HasLines c.args.text.now (program_of program) c.deref.result.now =
-    subst (HasLines c.args.text.now (program_of program)) (sym c.deref.ensures.value) (c.in_ok-places.ensures (program_of program) is) in
-    (c.deref.result.now, has, told program nodes acts (lines_counted c.args.text.now program c.deref.result.now has) kept))
+    (λ found told nodes acts kept.
+    (c.lines.result.now, has, told source.program nodes acts (lines_counted source.text source.program c.lines.result.now has) kept))
     c.lines_of_statements.ensures.lines

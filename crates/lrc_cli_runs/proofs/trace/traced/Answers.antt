@@ -7,5 +7,5 @@ use Rattle.lrc_cli_runs.proofs.trace.traced.Goals as goal
 
 pub returns-in-States-clause-err : goal.returns-in-States-clause-err
 returns-in-States-clause-err c =
-    subst (λ (form : Form). IfErr c.stated.result (IsTraceFault form c.args.text.now c.args.program.now c.args.options.now c.args.run.now)) (sym c.in-States.is)
-    (IfErr-weaker c.stated.result _ _ (states_untraced c.in-States.part c.args.text.now c.args.program.now c.args.options.now c.args.run.now) c.stated.ensures.err)
+    subst (λ (form : Form). IfErr c.stated.result (IsTraceFault form c.args.source.now.text c.args.source.now.program c.args.options.now c.args.run.now)) (sym c.in-States.is)
+    (IfErr-weaker c.stated.result _ _ (states_untraced c.in-States.part c.args.source.now.text c.args.source.now.program c.args.options.now c.args.run.now) c.stated.ensures.err)

@@ -8,11 +8,13 @@ returns-clause-app c =
     let about_is : app_of c.about-command.result ≡ new_app (codes "judge") = ap app_of_fields c.about-command.ensures ∙ c.new.ensures.app in
     let one = c.taking-command.ensures.app (new_app (codes "judge")) _ c.file.ensures.local c.file.ensures.rule about_is in
     let two = c.taking-command-2.ensures.app _ _ c.bare_number.ensures.local c.bare_number.ensures.rule one in
-    c.taking.ensures.app _ _ c.flag_option.ensures.local c.flag_option.ensures.rule two
+    let three = c.taking-command-3.ensures.app _ _ c.flag_option.ensures.local c.flag_option.ensures.rule two in
+    c.taking.ensures.app _ _ c.flag_option-2.ensures.local c.flag_option-2.ensures.rule three
 
 pub returns-clause-local : goal.returns-clause-local
 returns-clause-local c =
     let about_is = ap (λ f. f.has_globals) c.about-command.ensures ∙ c.new.ensures.local in
     let one = c.taking-command.ensures.local c.file.ensures.local about_is in
     let two = c.taking-command-2.ensures.local c.bare_number.ensures.local one in
-    c.taking.ensures.local c.flag_option.ensures.local two
+    let three = c.taking-command-3.ensures.local c.flag_option.ensures.local two in
+    c.taking.ensures.local c.flag_option-2.ensures.local three

@@ -4,5 +4,5 @@ use Rattle.lrc_races_stream.proofs.play.refuse_line.Goals as goal
 
 pub returns-in-Ok-clause-told : goal.returns-in-Ok-clause-told
 returns-in-Ok-clause-told g c =
-    inl (subst (IsTold (g.E.Write.contents c.args.err.now) (g.E.Write.contents c.tell_line.new.err)) (c.as_bytes.ensures.value ∙ c.in-Ok.ensures)
+    inl (subst (IsTold (g.E.Write.contents c.args.err.now) (g.E.Write.contents c.tell_line.new.err)) (c.deref.ensures.value ∙ c.in-Ok.ensures)
     c.tell_line.ensures)

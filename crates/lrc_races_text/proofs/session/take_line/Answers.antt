@@ -1,5 +1,5 @@
 -- A line says nothing, or an event.
-use Rattle.lrc_races_text.proofs.SessionLemmas.{taken_none, taken_one}
+use Rattle.lrc_races_text.proofs.SessionLemmas.{bad_fault, taken_none, taken_one}
 use Rattle.lrc_races_text.proofs.session.take_line.Goals as goal
 
 pub returns-in-Nothing-clause-ok : goal.returns-in-Nothing-clause-ok
@@ -7,3 +7,6 @@ returns-in-Nothing-clause-ok c = taken_none c.args.form c.args.asked c.args.line
 
 pub returns-in-Event-clause-ok : goal.returns-in-Event-clause-ok
 returns-in-Event-clause-ok c = taken_one c.args.form c.args.asked c.args.line.now c.args.number _ c.args.judged.now _ _ _ _ c.in-Event.ensures c.take.ensures.ok
+
+pub returns-in-Bad-clause-bad : goal.returns-in-Bad-clause-bad
+returns-in-Bad-clause-bad c = bad_fault c.args.form c.args.line.now c.args.number _ _ c.in-Bad.ensures c.cause_in.ensures c.bad_event.ensures

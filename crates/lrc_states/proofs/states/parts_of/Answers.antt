@@ -23,16 +23,16 @@ returns-clause-states c made goes =
     let count = c.in_ok-skipped.skipped in
     let start = starts_so told range plan labels setting made goes count (λ run. c.in_ok-skipped.ensures.start made run) in
     let begun = begins_at told plan labels setting c.in_ok-player.player c.in_ok-player.ensures.player in
-    let same : c.told.inside.0.1.1.1.1.0.now ≡ told.events = search rules in
+    let same : c.told.inside.0.1.1.1.0.now ≡ told.events = search rules in
     let passed = c.in_ok-pass_all.ensures.player plan (fresh_world told.program told.nodes told.options) start.1.0 0 begun
-    (stands_so told range plan labels setting count start c.told.inside.0.1.1.1.1.0.now same) in
-    let at = player_so told range plan labels setting count start c.told.inside.0.1.1.1.1.0.now same c.pass_all.new.self passed in
-    let others = others_so told range plan labels setting count start c.told.inside.0.1.1.1.1.0.now same in
-    let goes_on = ap (played start.1.0) others ∙ goes_so told range plan labels setting count start c.told.inside.0.1.1.1.1.0.now same made goes in
-    let sized : c.told.inside.0.1.1.1.0.size ≡ told.options.size = ap (λ (t : code_told.Told). t.options.size) c.told.view_is in
+    (stands_so told range plan labels setting count start c.told.inside.0.1.1.1.0.now same) in
+    let at = player_so told range plan labels setting count start c.told.inside.0.1.1.1.0.now same c.pass_all.new.self passed in
+    let others = others_so told range plan labels setting count start c.told.inside.0.1.1.1.0.now same in
+    let goes_on = ap (played start.1.0) others ∙ goes_so told range plan labels setting count start c.told.inside.0.1.1.1.0.now same made goes in
+    let sized : c.told.inside.0.1.1.0.size ≡ told.options.size = ap (λ (t : code_told.Told). t.options.size) c.told.view_is in
     if_ok c.parts.result (c.parts.ensures.told plan start.1.0 made _ at goes_on)
     (λ parts tells.
-    states_so told range plan labels setting count start c.told.inside.0.1.1.1.1.0.now same _ others c.told.inside.0.1.1.1.0.size sized
+    states_so told range plan labels setting count start c.told.inside.0.1.1.1.0.now same _ others c.told.inside.0.1.1.0.size sized
     (whole_text parts.items) tells)
 
 pub returns-clause-fault : goal.returns-clause-fault
@@ -45,11 +45,11 @@ returns-clause-fault c made goes =
     let count = c.in_ok-skipped.skipped in
     let start = starts_so told range plan labels setting made goes count (λ run. c.in_ok-skipped.ensures.start made run) in
     let begun = begins_at told plan labels setting c.in_ok-player.player c.in_ok-player.ensures.player in
-    let same : c.told.inside.0.1.1.1.1.0.now ≡ told.events = search rules in
+    let same : c.told.inside.0.1.1.1.0.now ≡ told.events = search rules in
     let passed = c.in_ok-pass_all.ensures.player plan (fresh_world told.program told.nodes told.options) start.1.0 0 begun
-    (stands_so told range plan labels setting count start c.told.inside.0.1.1.1.1.0.now same) in
-    let at = player_so told range plan labels setting count start c.told.inside.0.1.1.1.1.0.now same c.pass_all.new.self passed in
-    let others = others_so told range plan labels setting count start c.told.inside.0.1.1.1.1.0.now same in
-    let goes_on = ap (played start.1.0) others ∙ goes_so told range plan labels setting count start c.told.inside.0.1.1.1.1.0.now same made goes in
-    unshown_so told range plan labels setting count start c.told.inside.0.1.1.1.1.0.now same _ others c.parts.result
+    (stands_so told range plan labels setting count start c.told.inside.0.1.1.1.0.now same) in
+    let at = player_so told range plan labels setting count start c.told.inside.0.1.1.1.0.now same c.pass_all.new.self passed in
+    let others = others_so told range plan labels setting count start c.told.inside.0.1.1.1.0.now same in
+    let goes_on = ap (played start.1.0) others ∙ goes_so told range plan labels setting count start c.told.inside.0.1.1.1.0.now same made goes in
+    unshown_so told range plan labels setting count start c.told.inside.0.1.1.1.0.now same _ others c.parts.result
     (λ fails. c.parts.ensures.fault plan start.1.0 made _ at goes_on fails)

@@ -30,14 +30,14 @@ returns c =
     let positions = c.in_ok-positions.positions.items in
     let asked = c.in_ok-asked.asked.items in
     let parts = c.in_ok-printed.printed.items in
-    let told : AreAnswers c.args.text.now c.args.program.now c.args.nodes c.args.page c.args.acts.now asked parts =
-    subst (λ (list : List Asked). AreAnswers c.args.text.now c.args.program.now c.args.nodes c.args.page c.args.acts.now list parts) c.deref-2.ensures.value
+    let told : AreAnswers c.args.source.now.text c.args.source.now.program c.args.nodes c.args.page c.args.acts.now asked parts =
+    subst (λ (list : List Asked). AreAnswers c.args.source.now.text c.args.source.now.program c.args.nodes c.args.page c.args.acts.now list parts) c.deref-2.ensures.value
     c.in_ok-printed.ensures in
     record {
       positions = positions;
       are_told = c.in_ok-positions.ensures;
       printed = texts_of parts;
-      answers = answered c.args.text.now c.args.program.now c.args.nodes c.args.page c.args.acts.now positions asked parts
+      answers = answered c.args.source.now.text c.args.source.now.program c.args.nodes c.args.page c.args.acts.now positions asked parts
           (c.in_ok-asked.ensures ∙ ap (map asked_alone) c.deref.ensures.value) told;
       whole = c.in_ok-push_whys.ensures
           ∙ ap (λ (l : List ℕ). l ++ whys_text c.deref-3.result.now (texts_of c.deref-4.result.now)) c.new-told.ensures.items

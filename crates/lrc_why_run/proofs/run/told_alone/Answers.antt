@@ -26,4 +26,4 @@ why_each-requires-clause-asked c =
     All-cons So c.args.asked [] c.requires.asked (All-nil So)
 
 pub returns : goal.returns
-returns c = alone c.args.text.now c.args.program.now c.args.nodes c.args.page c.args.acts.now c.args.asked c.in_ok-parts.parts.items c.in_ok-parts.ensures
+returns c = alone c.args.source.now.text c.args.source.now.program c.args.nodes c.args.page c.args.acts.now c.args.asked c.in_ok-parts.parts.items c.in_ok-parts.ensures

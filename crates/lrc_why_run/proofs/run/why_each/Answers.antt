@@ -1,14 +1,9 @@
-use Rattle.std.proofs.Common.{◌≡◌, ◌∙◌, List, ℕ, Some, ap, ap₂, get_or, length, map, refl, subst, sym}
+use Rattle.std.proofs.Common.{◌≡◌, ◌∙◌, List, ℕ, Some, ap₂, get_or, length, map, refl, subst, sym}
 use Rattle.std.specs.Prelude.{All, slice_get}
 use Rattle.std.proofs.lemmas.Option.{same_Some, slice_get-get_or, slice_get_within}
 use Rattle.lrc_lang.specs.declared.program.Program.{Program}
 use Rattle.lrc_lang.specs.Symbol.{Names}
-use Rattle.lrc_lang.specs.Tree.{program_of}
 use Rattle.lrc_judge.specs.Firsts.{AreIntervals}
-use Rattle.lrc_labels.specs.declared.cut.Divider.TheVariants.{LineFeed}
-use Rattle.lrc_labels.specs.declared.label.Label as code_label
-use Rattle.lrc_labels.specs.Cut.{cut, divides}
-use Rattle.lrc_labels.specs.Reading.{label_seen, labels_of}
 use Rattle.lrc_lines.specs.Walks.{act_lines}
 use Rattle.lrc_why_lines.specs.declared.shown.Shown.{Shown}
 use Rattle.lrc_why_text.specs.declared.asked.Asked.{Asked}
@@ -30,13 +25,13 @@ told_each-requires-clause-intervals c =
 
 pub returns : goal.returns
 returns c =
-    let text = c.args.text.now in
-    let program = c.args.program.now in
+    let text = c.args.source.now.text in
+    let program = c.args.source.now.program in
     let nodes = c.args.nodes in
     let acts = c.args.acts.now in
-    let lines = c.in_ok-places.places.items in
-    let names = map (λ name. name.now) c.in_ok-names.names.items in
-    let shown : Shown = record { acts = c.args.acts; lines = c.as_slice.result; intervals = c.as_slice-2.result; labels = c.as_slice-3.result } in
+    let lines = c.args.source.now.lines in
+    let names = c.args.source.now.names in
+    let shown : Shown = record { acts = c.args.acts; lines = c.as_slice.result; intervals = c.as_slice-2.result; labels = c.labels.result } in
     let told = c.in_ok-parts.ensures in
     record {
       all = told.all;
@@ -45,21 +40,20 @@ returns c =
           record {
             there = (answerable (length acts) c.args.asked.now place one c.requires.asked stands).there;
             lines = lines;
-            has_lines = c.in_ok-places.ensures (program_of program) c.requires.text;
+            has_lines = c.lines.ensures.text;
             names = names;
-            are_names = c.in_ok-names.ensures;
+            are_names = c.names.ensures.text;
             shown = shown;
             is_shown = record {
               acts_are = refl;
               lines_are = c.as_slice.ensures.value ∙ c.in_ok-lines.ensures
-                  ∙ ap₂ (λ (p : Program) (l : List ℕ). act_lines p nodes l acts) c.in_ok-code.ensures c.deref.ensures.value;
+                  ∙ ap₂ (λ (p : Program) (l : List ℕ). act_lines p nodes l acts) c.code.ensures c.lines.ensures.lines;
               intervals = subst (λ (zs : List ℕ). AreIntervals acts (length acts) zs) (sym c.as_slice-2.ensures.value) c.in_ok-intervals.ensures;
-              labels_are = ap (λ (l : List code_label.Label). map label_seen l) c.as_slice-3.ensures.value ∙ c.in_ok-labels.ensures.said
-                  ∙ ap₂ (λ (words locks : ℕ). labels_of words locks (cut (divides LineFeed) text)) c.words.ensures c.locks.ensures;
+              labels_are = c.labels.ensures.labels ∙ c.labels.ensures.text;
             };
             behind = behind;
-            tells_behind = subst (λ (n : Names). TellsBehind shown n program nodes lines one.act one.and behind) (ap (map (λ name. name.now)) c.deref-2.ensures.value)
-                (subst (λ (p : Program). TellsBehind shown (map (λ name. name.now) c.deref-2.result.now) p nodes lines one.act one.and behind) c.in_ok-code.ensures
+            tells_behind = subst (λ (n : Names). TellsBehind shown n program nodes lines one.act one.and behind) c.names.ensures.names
+                (subst (λ (p : Program). TellsBehind shown (map (λ name. name.now) c.names.result.now) p nodes lines one.act one.and behind) c.code-2.ensures
                 tells_behind);
             tells = tells;
           };

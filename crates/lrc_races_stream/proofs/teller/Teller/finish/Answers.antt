@@ -13,12 +13,12 @@ returns-in-Err g c form asked held left start u end =
 
 pub returns-in-Ok-write-2 : goal.returns-in-Ok-write-2
 returns-in-Ok-write-2 g c form asked held left start u end =
-    cut_at form asked held left start _ _ u _ c.in-Err-BadEvent.line _ _ _ _ end c.clear.ensures.items c.in-Err-BadEvent.field-0-is c.in-Err-BadEvent.ensures.bad
+    cut_at form asked held left start _ _ u _ c.in-Err-BadEvent.line c.in-Err-BadEvent.why _ _ _ _ end c.clear.ensures.items c.in-Err-BadEvent.field-0-is c.in-Err-BadEvent.ensures.bad
     c.deref-in-Err-BadEvent.ensures.value c.in-Ok-write-2.ensures.ok
 
 pub returns-in-Err-write : goal.returns-in-Err-write
 returns-in-Err-write g c form asked held left start u end =
-    cut_unwritten form asked held left start _ _ u _ c.in-Err-BadEvent.line _ _ _ _ end c.clear.ensures.items c.in-Err-BadEvent.field-0-is c.in-Err-BadEvent.ensures.bad
+    cut_unwritten form asked held left start _ _ u _ c.in-Err-BadEvent.line c.in-Err-BadEvent.why _ _ _ _ end c.clear.ensures.items c.in-Err-BadEvent.field-0-is c.in-Err-BadEvent.ensures.bad
     c.deref-in-Err-BadEvent.ensures.value c.in-Err-write.ensures.err
 
 pub returns-in-Err-NoMemory : goal.returns-in-Err-NoMemory

@@ -17,13 +17,13 @@ returns-in-Err g c form asked held left after start u off =
 
 pub returns-in-Ok-write-2 : goal.returns-in-Ok-write-2
 returns-in-Ok-write-2 g c form asked held left after start u off =
-    broken_at form asked held left start _ _ u after _ c.in-Err-BadEvent.line _ _ _ _ _
+    broken_at form asked held left start _ _ u after _ c.in-Err-BadEvent.line c.in-Err-BadEvent.why _ _ _ _ _
     (subst (λ (bytes : List ℕ). IsReadOff left (take c.args.count bytes) after) (sym c.deref.ensures.value) off) c.clear.ensures.items
     c.in-Err-BadEvent.field-0-is c.in-Err-BadEvent.ensures.bad c.deref-in-Err-BadEvent.ensures.value c.in-Ok-write-2.ensures.ok
 
 pub returns-in-Err-write : goal.returns-in-Err-write
 returns-in-Err-write g c form asked held left after start u off =
-    broken_unwritten form asked held left start _ _ u after _ c.in-Err-BadEvent.line _ _ _ _ _
+    broken_unwritten form asked held left start _ _ u after _ c.in-Err-BadEvent.line c.in-Err-BadEvent.why _ _ _ _ _
     (subst (λ (bytes : List ℕ). IsReadOff left (take c.args.count bytes) after) (sym c.deref.ensures.value) off) c.clear.ensures.items
     c.in-Err-BadEvent.field-0-is c.in-Err-BadEvent.ensures.bad c.deref-in-Err-BadEvent.ensures.value c.in-Err-write.ensures.err
 

@@ -1,0 +1,4 @@
+pub mod Each
+pub mod JudgesAll
+pub mod Known
+pub mod Steps
