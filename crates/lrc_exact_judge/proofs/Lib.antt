@@ -1,0 +1,12 @@
+pub mod Among
+pub mod Counting
+pub mod Currents
+pub mod Keeping
+pub mod Kept
+pub mod Learning
+pub mod Looking
+pub mod Loops
+pub mod Next
+pub mod Reading
+pub mod Steps
+pub mod Taking
