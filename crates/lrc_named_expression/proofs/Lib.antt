@@ -1,7 +1,9 @@
 pub mod Back
 pub mod Completed
 pub mod From
+pub mod Given
 pub mod Options
 pub mod Runs
 pub mod Stops
+pub mod Taken
 pub mod Turns

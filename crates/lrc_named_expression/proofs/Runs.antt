@@ -10,7 +10,7 @@ use Rattle.lrc_named_expression.proofs.From.{Completes}
 use Rattle.lrc_named_expression.proofs.Back.{back, whole}
 use Rattle.lrc_named_expression.proofs.Completed.{completion, completed}
 
-none_stays : (all : List Numbered) {y : Partial} → run None all ≡ Some y → ⊥
+pub none_stays : (all : List Numbered) {y : Partial} → run None all ≡ Some y → ⊥
 none_stays [] q = none_some q
 none_stays (first ∷ more) q = none_some q
 

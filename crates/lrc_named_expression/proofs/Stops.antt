@@ -70,10 +70,10 @@ one_turn x {other = other} later h g (goes {i = i} {t = t} {all = more} y q k) (
 one_turn x {rest = rest} later h g (ends v r) (goes {i = i} {t = t} {all = more} z q l) = absurd (no_ending x i t more rest q v r h)
 one_turn x later h g (ends v r) (ends w s) = (some_same (sym v ∙ w), sym r ∙ s)
 
-tail_same : {a b : Numbered} {all more : List Numbered} → a ∷ all ≡ b ∷ more → all ≡ more
+pub tail_same : {a b : Numbered} {all more : List Numbered} → a ∷ all ≡ b ∷ more → all ≡ more
 tail_same q = cc
 
-nil_not_cons : {a : Numbered} {all : List Numbered} → [] ≡ a ∷ all → ⊥
+pub nil_not_cons : {a : Numbered} {all : List Numbered} → [] ≡ a ∷ all → ⊥
 nil_not_cons q = cc
 
 one : (all : List Numbered) (x : Partial) {e f : Expression} {rest other : List Numbered} → EndsExpression rest → EndsExpression other →

@@ -1,0 +1,6 @@
+pub mod Back
+pub mod Completed
+pub mod Foreign
+pub mod From
+pub mod One
+pub mod Turns
