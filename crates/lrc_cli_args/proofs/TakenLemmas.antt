@@ -231,8 +231,11 @@ judge_keyed = (
     (
       record { own = refl; acts = inr (inl (refl, lit< tt)) },
       (
-        record { own = refl; acts = inr (inr refl) },
-        tt,
+        record { own = refl; acts = inr (inl (refl, lit< tt)) },
+        (
+          record { own = refl; acts = inr (inr refl) },
+          tt,
+        ),
       ),
     ),
   ),
