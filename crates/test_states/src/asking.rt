@@ -28,11 +28,21 @@ pub struct Run<'a> {
 
 /// The lines of those turns of a run that are in a range.
 pub fn lines_of(alloc: Global, run: &Run<'_>, range: Range) -> Result<Vec<Vec<u8>>, Mistake> {
+    let read = SourceText::read(alloc, run.text)?;
+    lines_of_read(alloc, &read, run, range)
+}
+
+// The same of its text as it is read.
+fn lines_of_read(
+    alloc: Global,
+    read: &SourceText<'_>,
+    run: &Run<'_>,
+    range: Range,
+) -> Result<Vec<Vec<u8>>, Mistake> {
     if run.nodes > 16 {
         return Err(Mistake::Nodes);
     }
-    let read = SourceText::read(alloc, run.text)?;
-    let source = Source::of(alloc, &read)?;
+    let source = Source::of(alloc, read)?;
     let told = Told {
         source: &source,
         nodes: run.nodes,

@@ -212,13 +212,25 @@ fn answer(
     page: Size,
     asked: Asked,
 ) -> Option<Result<Vec<Vec<u8>>, WhyFault>> {
-    if asked.and == Some(asked.act) {
-        return None;
-    }
     let Ok(read) = SourceText::read(alloc, text) else {
         return None;
     };
-    let Ok(source) = Source::of(alloc, &read) else {
+    answer_of(alloc, &read, acts, nodes, page, asked)
+}
+
+// The same of a text that is read.
+fn answer_of(
+    alloc: Global,
+    read: &SourceText<'_>,
+    acts: &[u8],
+    nodes: u8,
+    page: Size,
+    asked: Asked,
+) -> Option<Result<Vec<Vec<u8>>, WhyFault>> {
+    if asked.and == Some(asked.act) {
+        return None;
+    }
+    let Ok(source) = Source::of(alloc, read) else {
         return None;
     };
     let Ok(lined) = acts_of(alloc, acts, Some(u32::from(nodes))) else {
