@@ -3,4 +3,5 @@ pub mod Completed
 pub mod Foreign
 pub mod From
 pub mod One
+pub mod Trees
 pub mod Turns
