@@ -1,0 +1,150 @@
+// The addresses of elements.
+
+ghost use Rattle.std.specs.Prelude.{◌≡◌, ◌≤◌, ◌<◌, ◌^◌, [], ◌∷◌, IfOk, filter, map, length, Some};
+ghost use Rattle.lrc_named_core.specs.View.{expression_of};
+ghost use Rattle.lrc_named_names.specs.View.{item_of};
+ghost use Rattle.lrc_named_translation.specs.Address.{address, address_of, base_of, indices_of, is_open, number_within, plus_summands, summand_of, test_of, times_tests};
+ghost use Rattle.lrc_named_translation.specs.View.{index_of};
+
+use lrc_lang::program::Operator;
+use lrc_named_core::binary;
+use lrc_named_core::tree::Expression;
+use lrc_named_names::item::Item;
+use std::alloc::{AllocError, Global};
+
+/// An index of an item: its expression, the size that it has to be below, and how many words or locks one more of it is.
+#[derive(Clone, Copy)]
+pub struct Index<'c, 'p> {
+    pub core: &'c Expression<'p>,
+    pub size: u32,
+    pub stride: u32,
+}
+
+// The number that an index is, where it is one below its size.
+fn number_within(core: &Expression<'_>, size: u32) -> Option<u64>
+    ensures { result ≡ number_within (expression_of core.now) size }
+{
+    match core {
+        Expression::Number(n) => {
+            if *n < u64::from(size) {
+                Some(*n)
+            } else {
+                None
+            }
+        }
+        Expression::Private(_)
+        | Expression::Me
+        | Expression::Nodes
+        | Expression::Binary(_, _, _) => None,
+    }
+}
+
+// That an index is below its size.
+fn test<'p>(alloc: Global, index: Index<'_, 'p>) -> Result<Expression<'p>, AllocError>
+    ensures { IfOk result (λ e. expression_of e ≡ test_of (index_of index.entry)) }
+{
+    let core = index.core.copy(alloc)?;
+    binary(
+        alloc,
+        core,
+        Operator::Less,
+        Expression::Number(u64::from(index.size)),
+    )
+}
+
+// How far an index leads from the first element.
+fn summand<'p>(alloc: Global, index: Index<'_, 'p>) -> Result<Expression<'p>, AllocError>
+    ensures { IfOk result (λ e. expression_of e ≡ summand_of (index_of index.entry)) }
+{
+    let core = index.core.copy(alloc)?;
+    if index.stride == 1 {
+        Ok(core)
+    } else {
+        let stride = Expression::Number(u64::from(index.stride));
+        let product = binary(alloc, core, Operator::Multiply, stride)?;
+        Ok(product)
+    }
+}
+
+// A product that goes on with the tests of these.
+fn times_tests<'p>(
+    alloc: Global,
+    left: Expression<'p>,
+    indices: &[Index<'_, 'p>],
+) -> Result<Expression<'p>, AllocError>
+    ensures { IfOk result (λ e. expression_of e
+        ≡ times_tests (expression_of left.entry) (map index_of indices.now)) }
+{
+    let mut product = left;
+    for index in indices {
+        let factor = test(alloc, *index)?;
+        product = binary(alloc, product, Operator::Multiply, factor)?;
+    }
+    Ok(product)
+}
+
+// A sum that goes on with the summands of these.
+fn plus_summands<'p>(
+    alloc: Global,
+    left: Expression<'p>,
+    indices: &[Index<'_, 'p>],
+) -> Result<Expression<'p>, AllocError>
+    ensures { IfOk result (λ e. expression_of e
+        ≡ plus_summands (expression_of left.entry) (map index_of indices.now)) }
+{
+    let mut sum = left;
+    for index in indices {
+        let term = summand(alloc, *index)?;
+        sum = binary(alloc, sum, Operator::Add, term)?;
+    }
+    Ok(sum)
+}
+
+// The address that a number makes with the indices that may be out of range.
+fn address_of<'p>(
+    alloc: Global,
+    base: u32,
+    outside: &[Index<'_, 'p>],
+) -> Result<Expression<'p>, AllocError>
+    requires { base < 2 ^ 32 }
+    ensures { IfOk result (λ e. expression_of e ≡ address_of base (map index_of outside.now)) }
+{
+    match outside {
+        [] => Ok(Expression::Number(u64::from(base))),
+        [first, others @ ..] => {
+            let sum = plus_summands(alloc, Expression::Number(u64::from(base) + 1), outside)?;
+            let begun = test(alloc, *first)?;
+            let tests = times_tests(alloc, begun, others)?;
+            let product = binary(alloc, tests, Operator::Multiply, sum)?;
+            let whole = binary(alloc, product, Operator::Subtract, Expression::Number(1))?;
+            Ok(whole)
+        }
+    }
+}
+
+/// Returns the address of an element of an item, with these indices. It fails only if memory runs out.
+pub fn address<'p>(
+    alloc: Global,
+    item: &Item,
+    cores: &[Expression<'p>],
+) -> Result<Expression<'p>, AllocError>
+    ensures { IfOk result (λ e. expression_of e
+        ≡ address (item_of item.now) (map expression_of cores.now)) }
+{
+    let mut base = item.first;
+    let mut stride = item.count;
+    let mut outside = Vec::new(alloc);
+    for i in 0..cores.len().min(item.sizes.len()) {
+        let size = item.sizes[i];
+        stride /= size;
+        match number_within(&cores[i], size) {
+            Some(n) => base += n as u32 * stride,
+            None => outside.push(Index {
+                core: &cores[i],
+                size,
+                stride,
+            })?,
+        }
+    }
+    address_of(alloc, base, &outside)
+}

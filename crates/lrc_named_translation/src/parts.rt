@@ -1,0 +1,75 @@
+// Parts of expressions, as the translation takes them.
+
+ghost use Rattle.std.specs.Prelude.{◌≡◌};
+ghost use Rattle.lrc_named_tree.specs.View.{expression_of, expressions_of};
+ghost use Rattle.lrc_named_core.specs.View.{origin_of, private_of};
+ghost use Rattle.lrc_named_translation.specs.Made.{bare, holding, using_item};
+
+use lrc_named_core::tree::{Origin, Private, Trap};
+use lrc_named_tree::tree::{Expression, Name};
+
+/// A name with indices, of which there may be none.
+#[derive(Clone, Copy)]
+pub struct Element<'e, 'p> {
+    pub name: Name<'p>,
+    pub indices: &'e [Expression<'p>],
+    /// Which token comes last.
+    pub last: u32,
+}
+
+/// `and`, or `or`.
+#[derive(Clone, Copy)]
+pub enum Kind {
+    Both,
+    Either,
+}
+
+/// `left and right`, or `left or right`.
+#[derive(Clone, Copy)]
+pub struct Junction<'e, 'p> {
+    pub left: &'e Expression<'p>,
+    pub kind: Kind,
+    pub right: &'e Expression<'p>,
+}
+
+/// Returns the expression without the parentheses around it.
+pub fn bare<'e, 'p>(expression: &'e Expression<'p>) -> &'e Expression<'p>
+    ensures { expression_of result.now ≡ bare (expression_of expression.now) }
+{
+    match expression {
+        Expression::Group(_, inside, _) => bare(inside),
+        Expression::Number(_, _)
+        | Expression::Me(_)
+        | Expression::Nodes(_)
+        | Expression::Element(_, _, _)
+        | Expression::Call(_, _, _)
+        | Expression::Not(_, _)
+        | Expression::Binary(_, _, _)
+        | Expression::And(_, _)
+        | Expression::Or(_, _) => expression,
+    }
+}
+
+/// Returns the name of the translation's own with this number, for the value of an expression.
+pub fn holding<'p>(number: u32, expression: &Expression<'_>) -> Private<'p>
+    ensures { private_of result ≡ holding number (expression_of expression.now) }
+{
+    let inside = bare(expression);
+    Private::Own(number, inside.first(), inside.last())
+}
+
+/// Returns what a statement comes from that uses an item with these indices, where others come from this.
+pub fn using_item<'p>(origin: Origin<'p>, name: &'p [u8], indices: &[Expression<'_>]) -> Origin<'p>
+    ensures { origin_of result
+        ≡ using_item (origin_of origin.entry) name.now (expressions_of indices.now) }
+{
+    let trap = match indices {
+        [] => Trap::Plain,
+        [_, ..] => Trap::Index(name),
+    };
+    Origin {
+        statement: origin.statement,
+        line: origin.line,
+        trap,
+    }
+}
