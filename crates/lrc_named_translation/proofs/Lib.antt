@@ -1,1 +1,7 @@
 pub mod Adding
+pub mod Copies
+pub mod Making
+pub mod Measure
+pub mod Parameters
+pub mod Rules
+pub mod Unique

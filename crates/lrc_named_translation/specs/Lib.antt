@@ -1,5 +1,4 @@
 pub mod Added
-pub mod Address
 pub mod Made
+pub mod Meanings
 pub mod Turn
-pub mod View

@@ -1,7 +1,7 @@
 -- The core of expressions. `IsMade declared at known cores e taken before p after` says: in the core, where the statement that is
 -- translated has taken so many names of its own, the expression e is the statements `before` and then the expression p, and then so
 -- many names are taken. In the body of a function the parameters stand for `cores`, and `known` is known of them.
-use Rattle.std.specs.Prelude.{◌≡◌, ◌+◌, ℕ, suc, Bool, true, false, Option, Some, None, List, [], ◌∷◌, slice_get, ◌⊎◌}
+use Rattle.std.specs.Prelude.{◌≡◌, ◌+◌, ℕ, suc, Bool, true, false, not, Option, Some, None, List, [], ◌∷◌, slice_get, ◌⊎◌}
 use Rattle.lrc_lang.specs.declared.program.Operator.{Operator}
 use Rattle.lrc_lang.specs.declared.program.Operator.TheVariants.{Add, Multiply, Equal, NotEqual}
 use Rattle.lrc_named_tree.specs.Tree.{Named, Expressions}
@@ -13,7 +13,7 @@ use Rattle.lrc_named_names.specs.Names.{Item, Meaning, Declared, meaning_of}
 use Rattle.lrc_named_constants.specs.Constant.{Known, IsConstancy, AreConstancies, bound, known_as, parameter_of}
 use Rattle.lrc_named_core.specs.Tree.{Private, named, own, Expression, number, private, me, nodes, binary, Trap, plain, index, Origin}
 use Rattle.lrc_named_core.specs.Tree.{assign, read, if_else, Block, empty, only, next, behind, has_division}
-use Rattle.lrc_named_translation.specs.Address.{address}
+use Rattle.lrc_named_address.specs.Address.{address}
 
 abbrev pub HasNoValue : Constancy → Type 0
 HasNoValue Varies = Unit {0}
@@ -54,10 +54,10 @@ truth p = binary p NotEqual (number 0)
 abbrev pub core_as : List Known → List Expression → List ℕ → Option Expression
 core_as known cores name = slice_get cores (parameter_of known name)
 
--- statements come before, or the expression divides
-abbrev pub MayTrap : Block → Expression → Type 0
-MayTrap empty p = has_division p ≡ true
-MayTrap (next first rest) p = Unit {0}
+-- nothing comes before an expression, and it does not divide
+abbrev pub is_plain : Block → Expression → Bool
+is_plain empty p = not (has_division p)
+is_plain (next first rest) p = false
 
 mutual
   pub data IsMade (declared : List Declared) (at : Origin) : List Known → List Expression → tree.Expression → ℕ → Block → Expression → ℕ → Type 0 where
@@ -69,6 +69,8 @@ mutual
 
   -- what has no value before the run, by its form
   pub data IsByRule (declared : List Declared) (at : Origin) : List Known → List Expression → tree.Expression → ℕ → Block → Expression → ℕ → Type 0 where
+    a_number : {known : List Known} {cores : List Expression} {token n taken : ℕ} →
+        IsByRule declared at known cores (tree.number token n) taken empty (number n) taken
     the_node : {known : List Known} {cores : List Expression} {token taken : ℕ} →
         IsByRule declared at known cores (tree.me token) taken empty me taken
     node_count : {known : List Known} {cores : List Expression} {token taken : ℕ} →
@@ -79,6 +81,9 @@ mutual
     a_private_name : {known : List Known} {cores : List Expression} {name : Named} {indices : Expressions} {last taken : ℕ} →
         known_as known name.bytes ≡ None → meaning_of declared name.bytes ≡ None →
         IsByRule declared at known cores (tree.element name indices last) taken empty (private (named name.bytes)) taken
+    a_constant : {known : List Known} {cores : List Expression} {name : Named} {indices : Expressions} {last taken n : ℕ} →
+        known_as known name.bytes ≡ None → meaning_of declared name.bytes ≡ Some (Meaning.constant n) →
+        IsByRule declared at known cores (tree.element name indices last) taken empty (number n) taken
     a_shared_item : {known : List Known} {cores : List Expression} {name : Named} {indices : Expressions} {item : Item} {last taken after : ℕ}
         {before : Block} {ps : List Expression} →
         known_as known name.bytes ≡ None → meaning_of declared name.bytes ≡ Some (Meaning.shared item) →
@@ -104,15 +109,15 @@ mutual
         IsByRule declared at known cores (tree.binary left o right) taken (behind first second) (binary p o q) after
     -- `left and right` where nothing comes before the right side, and it does not divide
     both_at_once : {known : List Known} {cores : List Expression} {left right : tree.Expression} {taken between after : ℕ}
-        {before : Block} {p q : Expression} →
-        IsMade declared at known cores left taken before p between → IsMade declared at known cores right (between + 1) empty q after →
-        has_division q ≡ false →
+        {before inside : Block} {p q : Expression} →
+        IsMade declared at known cores left taken before p between → IsMade declared at known cores right (between + 1) inside q after →
+        is_plain inside q ≡ true →
         IsByRule declared at known cores (tree.both left right) taken before (binary (truth p) Multiply (truth q)) between
     -- else the right side is left out where the left one is 0
     both_in_turn : {known : List Known} {cores : List Expression} {left right : tree.Expression} {taken between after : ℕ}
         {before inside : Block} {p q : Expression} →
         IsMade declared at known cores left taken before p between → IsMade declared at known cores right (between + 1) inside q after →
-        MayTrap inside q →
+        is_plain inside q ≡ false →
         IsByRule declared at known cores (tree.both left right) taken
         (behind before (next (assign at (holding (between + 1) left) (truth p))
         (only (if_else at (private (holding (between + 1) left))
@@ -120,16 +125,16 @@ mutual
         (private (holding (between + 1) (tree.both left right))) after
     -- `left or right`, likewise
     either_at_once : {known : List Known} {cores : List Expression} {left right : tree.Expression} {taken between after : ℕ}
-        {before : Block} {p q : Expression} →
-        IsMade declared at known cores left taken before p between → IsMade declared at known cores right (between + 1) empty q after →
-        has_division q ≡ false →
+        {before inside : Block} {p q : Expression} →
+        IsMade declared at known cores left taken before p between → IsMade declared at known cores right (between + 1) inside q after →
+        is_plain inside q ≡ true →
         IsByRule declared at known cores (tree.either left right) taken before
         (truth (binary (truth p) Add (truth q))) between
     -- else the right side is left out where the left one is not 0
     either_in_turn : {known : List Known} {cores : List Expression} {left right : tree.Expression} {taken between after : ℕ}
         {before inside : Block} {p q : Expression} →
         IsMade declared at known cores left taken before p between → IsMade declared at known cores right (between + 1) inside q after →
-        MayTrap inside q →
+        is_plain inside q ≡ false →
         IsByRule declared at known cores (tree.either left right) taken
         (behind before (next (assign at (holding (between + 1) left) (truth p))
         (only (if_else at (binary (private (holding (between + 1) left)) Equal (number 0))

@@ -1,29 +1,30 @@
 // The core of expressions.
 
-ghost use Rattle.std.specs.Prelude.{◌≡◌, ◌≤◌, ◌<◌, ℕ, Some, None, IfOk, length, map};
+ghost use Rattle.std.specs.Prelude.{◌≡◌, ◌≤◌, ◌<◌, ℕ, None, IfOk, length, map};
 ghost use Rattle.lrc_named_tree.specs.Tree.{call as the_call};
 ghost use Rattle.lrc_named_tree.specs.View.{named_of, expression_of as tree_of, expressions_of as trees_of};
-ghost use Rattle.lrc_named_names.specs.Names.{IsFunction, meaning_of, place_of, shared};
-ghost use Rattle.lrc_named_names.specs.View.{declared_of, item_of};
+ghost use Rattle.lrc_named_names.specs.Names.{IsFunction, meaning_of, place_of};
+ghost use Rattle.lrc_named_names.specs.View.{declared_of};
 ghost use Rattle.lrc_named_constants.specs.Constant.{known_as};
 ghost use Rattle.lrc_named_constants.specs.View.{known_of};
 ghost use Rattle.lrc_named_constants.specs.Well.{AreWell, HasValue, IsSound, IsWell};
 ghost use Rattle.lrc_named_core.specs.View.{expression_of, origin_of};
 ghost use Rattle.lrc_named_translation.specs.Added.{IsAdded};
+ghost use Rattle.lrc_named_translation.specs.Meanings.{IsShared};
 ghost use Rattle.lrc_named_translation.specs.Made.{AreMade, IsByRule, IsMade};
 ghost use Rattle.lrc_named_translation.specs.Turn.{element_of, junction_of};
 
-use crate::address::address;
-use crate::own::{following, has_division};
-use crate::parts::{Element, Junction, Kind, holding, using_item};
+use crate::meanings::{NameKind, kind_of, shared_item};
+use crate::own::{following, is_plain};
+use crate::parts::{Element, Junction, Kind, copy_at, holding, private_name, using_item};
 use crate::turn::{Turn, at_once};
 use lrc_lang::program::Operator;
+use lrc_named_address::address;
 use lrc_named_constants::constancy::{Constancy, Known};
 use lrc_named_constants::{Constants, bind, parameter_place};
 use lrc_named_core::binary;
 use lrc_named_core::tree::{Expression as Core, Origin, Private, Statement};
-use lrc_named_names::item::Item;
-use lrc_named_names::names::{Meaning, Names};
+use lrc_named_names::names::Names;
 use lrc_named_tree::tree::{Expression, Name};
 use std::alloc::{AllocError, Global};
 
@@ -76,7 +77,7 @@ impl<'n, 'p> Translator<'n, 'p> {
         let constancy = self.constants().constancy(below, with.known, expression)?;
         match constancy {
             Constancy::Value(v) => Ok(Core::Number(v)),
-            Constancy::Varies | Constancy::Undefined => {
+            _ => {
                 let p = self.by_rule(below, with, expression, taken, before)?;
                 Ok(p)
             }
@@ -177,17 +178,16 @@ impl<'n, 'p> Translator<'n, 'p> {
     {
         let place = parameter_place(with.known, element.name.bytes);
         if place < with.known.len() {
-            let p = with.cores[place].copy(self.alloc)?;
+            let p = copy_at(self.alloc, with.cores, place)?;
             return Ok(p);
         }
-        match self.names.meaning(self.names.place(element.name.bytes)) {
-            None => Ok(Core::Private(Private::Named(element.name.bytes))),
-            Some(Meaning::Constant(n)) => Ok(Core::Number(*n)),
-            Some(Meaning::Shared(item)) => {
-                let p = self.read(below, with, element, item, taken, before)?;
+        match kind_of(self.names, element.name.bytes) {
+            NameKind::Private => Ok(private_name(element.name.bytes)),
+            NameKind::Constant(n) => Ok(Core::Number(n)),
+            NameKind::Shared => {
+                let p = self.read(below, with, element, taken, before)?;
                 Ok(p)
             }
-            Some(Meaning::Lock(_) | Meaning::Function(_, _)) => unreachable!(),
         }
     }
 
@@ -198,7 +198,6 @@ impl<'n, 'p> Translator<'n, 'p> {
         below: usize,
         with: Arguments<'_, 'p>,
         element: Element<'_, 'p>,
-        item: &Item,
         taken: &mut u32,
         before: &mut Vec<Statement<'p>>,
     ) -> Result<Core<'p>, AllocError>
@@ -207,14 +206,15 @@ impl<'n, 'p> Translator<'n, 'p> {
             (trees_of element.indices.now) }
         requires whole { length with.known.now ≤ length with.cores.now }
         requires unknown { known_as (map known_of with.known.now) element.name.bytes.now ≡ None }
-        requires shared { meaning_of (declared_of self.now.names.now) element.name.bytes.now
-            ≡ Some (shared (item_of item.now)) }
+        requires shared { IsShared (meaning_of (declared_of self.now.names.now)
+            element.name.bytes.now) }
         ensures { IfOk result (λ p. IsAdded (λ b. IsByRule (declared_of self.now.names.now)
             (origin_of self.now.origin) (map known_of with.entry.known.now)
             (map expression_of with.entry.cores.now) (element_of element.entry) taken.old b
             (expression_of p) taken.new) before.old.items before.new.items) }
     {
         let cores = self.all_made(below, with, element.indices, taken, before)?;
+        let item = shared_item(self.names, element.name.bytes);
         let word = address(self.alloc, item, &cores)?;
         *taken = following(*taken)?;
         let held = Private::Own(*taken, element.name.at, element.last);
@@ -259,9 +259,9 @@ impl<'n, 'p> Translator<'n, 'p> {
         Ok(p)
     }
 
-    // The cores of these expressions, from the left.
+    /// Returns the cores of these expressions, from the left, and adds what comes before them. It fails only if memory runs out.
     #[cycle(made)]
-    fn all_made(
+    pub fn all_made(
         &self,
         below: usize,
         with: Arguments<'_, 'p>,
@@ -310,7 +310,7 @@ impl<'n, 'p> Translator<'n, 'p> {
         let mut inner = number;
         let mut inside = Vec::new(self.alloc);
         let q = self.made(below, with, junction.right, &mut inner, &mut inside)?;
-        if inside.is_empty() && !has_division(&q) {
+        if is_plain(&inside, &q) {
             let e = at_once(self.alloc, junction.kind, p, q)?;
             return Ok(e);
         }

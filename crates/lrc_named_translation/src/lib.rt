@@ -1,10 +1,12 @@
-//! The translation of named programs: which core a named program has, and the code that makes it.
+//! The core of the expressions of named programs: which statements of the core come before an expression, and which
+//! expression of the core it then is.
 #![tactic(auto)]
 
-mod address;
 mod expressions;
-mod own;
-mod parts;
+pub mod laws;
+pub mod meanings;
+pub mod own;
+pub mod parts;
 mod turn;
 
 pub use expressions::{Arguments, Translator};

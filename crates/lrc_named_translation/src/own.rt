@@ -2,12 +2,12 @@
 
 ghost use Rattle.std.specs.Prelude.{◌≡◌, ◌+◌, IfOk};
 ghost use Rattle.lrc_named_core.specs.Tree.{divides, has_division, has_name};
-ghost use Rattle.lrc_named_core.specs.View.{expression_of};
-ghost use Rattle.lrc_named_translation.specs.Made.{truth};
+ghost use Rattle.lrc_named_core.specs.View.{block_of, expression_of};
+ghost use Rattle.lrc_named_translation.specs.Made.{is_plain, truth};
 
 use lrc_lang::program::Operator;
 use lrc_named_core::binary;
-use lrc_named_core::tree::Expression;
+use lrc_named_core::tree::{Expression, Statement};
 use std::alloc::{AllocError, Global};
 
 /// Returns the number of the next name of the translation's own. It fails if memory runs out, as it does long before the
@@ -38,6 +38,16 @@ pub fn has_division(expression: &Expression<'_>) -> bool
         Expression::Number(_) | Expression::Private(_) | Expression::Me | Expression::Nodes => {
             false
         }
+    }
+}
+
+/// Returns whether nothing comes before an expression, and it does not divide.
+pub fn is_plain(before: &[Statement<'_>], expression: &Expression<'_>) -> bool
+    ensures { result ≡ is_plain (block_of before.now) (expression_of expression.now) }
+{
+    match before {
+        [] => !has_division(expression),
+        [_, ..] => false,
     }
 }
 

@@ -1,12 +1,14 @@
 // Parts of expressions, as the translation takes them.
 
-ghost use Rattle.std.specs.Prelude.{◌≡◌};
+ghost use Rattle.std.specs.Prelude.{◌≡◌, ◌<◌, Some, IfOk, length, map, slice_get};
+ghost use Rattle.lrc_named_core.specs.Tree.{named, private};
 ghost use Rattle.lrc_named_tree.specs.View.{expression_of, expressions_of};
-ghost use Rattle.lrc_named_core.specs.View.{origin_of, private_of};
+ghost use Rattle.lrc_named_core.specs.View.{expression_of as core_of, origin_of, private_of};
 ghost use Rattle.lrc_named_translation.specs.Made.{bare, holding, using_item};
 
-use lrc_named_core::tree::{Origin, Private, Trap};
+use lrc_named_core::tree::{Expression as Core, Origin, Private, Trap};
 use lrc_named_tree::tree::{Expression, Name};
+use std::alloc::{AllocError, Global};
 
 /// A name with indices, of which there may be none.
 #[derive(Clone, Copy)]
@@ -72,4 +74,19 @@ pub fn using_item<'p>(origin: Origin<'p>, name: &'p [u8], indices: &[Expression<
         line: origin.line,
         trap,
     }
+}
+
+/// Returns the expression that is the private name of this spelling.
+pub fn private_name<'p>(bytes: &'p [u8]) -> Core<'p>
+    ensures { core_of result ≡ private (named bytes.now) }
+{
+    Core::Private(Private::Named(bytes))
+}
+
+/// Returns the core at a place once more. It fails only if memory runs out.
+pub fn copy_at<'p>(alloc: Global, cores: &[Core<'p>], place: usize) -> Result<Core<'p>, AllocError>
+    requires { place < length cores.now }
+    ensures { IfOk result (λ e. slice_get (map core_of cores.now) place ≡ Some (core_of e)) }
+{
+    cores[place].copy(alloc)
 }

@@ -1,10 +1,10 @@
 // The addresses of elements.
 
-ghost use Rattle.std.specs.Prelude.{◌≡◌, ◌≤◌, ◌<◌, ◌^◌, [], ◌∷◌, IfOk, filter, map, length, Some};
+ghost use Rattle.std.specs.Prelude.{◌≡◌, IfOk, map};
 ghost use Rattle.lrc_named_core.specs.View.{expression_of};
 ghost use Rattle.lrc_named_names.specs.View.{item_of};
-ghost use Rattle.lrc_named_translation.specs.Address.{address, address_of, base_of, indices_of, is_open, number_within, plus_summands, summand_of, test_of, times_tests};
-ghost use Rattle.lrc_named_translation.specs.View.{index_of};
+ghost use Rattle.lrc_named_address.specs.Address.{address, address_of, number_within, plus_summands, summand_of, test_of, times_tests};
+ghost use Rattle.lrc_named_address.specs.View.{index_of};
 
 use lrc_lang::program::Operator;
 use lrc_named_core::binary;
@@ -12,12 +12,12 @@ use lrc_named_core::tree::Expression;
 use lrc_named_names::item::Item;
 use std::alloc::{AllocError, Global};
 
-/// An index of an item: its expression, the size that it has to be below, and how many words or locks one more of it is.
+// An index of an item: its expression, the size that it has to be below, and how many words or locks one more of it is.
 #[derive(Clone, Copy)]
-pub struct Index<'c, 'p> {
-    pub core: &'c Expression<'p>,
-    pub size: u32,
-    pub stride: u32,
+struct Index<'c, 'p> {
+    core: &'c Expression<'p>,
+    size: u32,
+    stride: u32,
 }
 
 // The number that an index is, where it is one below its size.
@@ -25,17 +25,9 @@ fn number_within(core: &Expression<'_>, size: u32) -> Option<u64>
     ensures { result ≡ number_within (expression_of core.now) size }
 {
     match core {
-        Expression::Number(n) => {
-            if *n < u64::from(size) {
-                Some(*n)
-            } else {
-                None
-            }
-        }
-        Expression::Private(_)
-        | Expression::Me
-        | Expression::Nodes
-        | Expression::Binary(_, _, _) => None,
+        Expression::Number(n) => { if *n < u64::from(size) { Some(*n) } else { None } }
+        Expression::Private(_) | Expression::Me | Expression::Nodes | Expression::Binary(_, _, _) =>
+            None,
     }
 }
 
@@ -106,7 +98,6 @@ fn address_of<'p>(
     base: u32,
     outside: &[Index<'_, 'p>],
 ) -> Result<Expression<'p>, AllocError>
-    requires { base < 2 ^ 32 }
     ensures { IfOk result (λ e. expression_of e ≡ address_of base (map index_of outside.now)) }
 {
     match outside {

@@ -2,9 +2,9 @@
 use Rattle.std.proofs.Common.{◌≡◌, ◌≤◌, ◌+◌, ◌++◌, map, drop, filter}
 use Rattle.lrc_named_core.specs.View.{expression_of}
 use Rattle.lrc_named_names.specs.Elements.{elements}
-use Rattle.lrc_named_translation.specs.Address.{base_of, indices_of, is_open}
-use Rattle.lrc_named_translation.specs.View.{index_of}
-use Rattle.lrc_named_translation.proofs.address.address.Given as goal
+use Rattle.lrc_named_address.specs.Address.{base_of, indices_of, is_open}
+use Rattle.lrc_named_address.specs.View.{index_of}
+use Rattle.lrc_named_address.proofs.address.address.Given as goal
 
 abbrev pub invariant-loop-i : goal.invariant-loop-i
 invariant-loop-i l = record {

@@ -1,9 +1,9 @@
 -- What is left to come makes the whole of what has come.
 use Rattle.std.proofs.Common.{◌≡◌, map, drop}
 use Rattle.lrc_named_core.specs.View.{expression_of}
-use Rattle.lrc_named_translation.specs.Address.{plus_summands}
-use Rattle.lrc_named_translation.specs.View.{index_of}
-use Rattle.lrc_named_translation.proofs.address.plus_summands.Given as goal
+use Rattle.lrc_named_address.specs.Address.{plus_summands}
+use Rattle.lrc_named_address.specs.View.{index_of}
+use Rattle.lrc_named_address.proofs.address.plus_summands.Given as goal
 
 abbrev pub invariant-loop-index : goal.invariant-loop-index
 invariant-loop-index l =
