@@ -35,9 +35,12 @@ abbrev pub offset : Option ℕ → ℕ → ℕ
 offset None stride = 0
 offset (Some n) stride = n * stride
 
+abbrev pub offset_of : Index → ℕ
+offset_of i = offset (number_within i.core i.size) i.stride
+
 abbrev pub base_of : ℕ → List Index → ℕ
 base_of base [] = base
-base_of base (i ∷ others) = base_of (base + offset (number_within i.core i.size) i.stride) others
+base_of base (i ∷ others) = base_of (base + offset_of i) others
 
 -- that the index is below its size
 abbrev pub test_of : Index → Expression

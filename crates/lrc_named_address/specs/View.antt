@@ -1,6 +1,6 @@
 -- The code's indices as the definitions see them.
 use Rattle.lrc_named_core.specs.View.{expression_of}
-use Rattle.lrc_named_address.specs.declared.address.Index as code_index
+use Rattle.lrc_named_address.specs.declared.element.Index as code_index
 use Rattle.lrc_named_address.specs.Address.{Index}
 
 abbrev pub index_of : code_index.Index → Index

@@ -1,7 +1,7 @@
-//! The address of an element of an array: the number of its word or lock, as an expression of the core. Whether an index is in
-//! range is a part of the expression: out of range, the address is no word and no lock.
+//! The address of an element of an array: the expression of the core that says which word or lock it is. Indices that are
+//! numbers below their sizes are added up; of the others the expression has tests that they are below their sizes.
 #![tactic(auto)]
 
-mod address;
+mod element;
 
-pub use address::address;
+pub use element::address;

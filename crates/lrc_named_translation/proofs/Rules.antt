@@ -11,7 +11,11 @@ use Rattle.lrc_named_constants.specs.declared.constancy.Constancy.{Constancy}
 use Rattle.lrc_named_constants.specs.declared.constancy.Constancy.TheVariants.{Value}
 use Rattle.lrc_named_constants.specs.Constant.{Known, IsConstancy, AreConstancies, bound, known_as}
 use Rattle.lrc_named_core.specs.declared.tree.Statement.{Statement}
-use Rattle.lrc_named_core.specs.View.{statement_of, block_of}
+use Rattle.lrc_named_core.specs.declared.tree.Statement.{Read}
+use Rattle.lrc_named_core.specs.declared.tree.Private.TheVariants.{Own}
+use Rattle.lrc_named_core.specs.declared.tree.Origin as code_origin
+use Rattle.lrc_named_core.specs.declared.tree.Expression as code_core
+use Rattle.lrc_named_core.specs.View.{statement_of, block_of, expression_of, origin_of}
 use Rattle.lrc_named_core.specs.Tree.{Expression, number, private, own, binary, Origin, read, assign, if_else, Block, empty, only, next, behind, has_division}
 use Rattle.lrc_named_translation.specs.declared.parts.Kind.{Kind}
 use Rattle.lrc_named_translation.specs.declared.parts.Kind.TheVariants.{Both, Either}
@@ -166,3 +170,17 @@ both_same h k = cc
 
 pub either_same : {x y z w : code_tree.Expression} → x ≡ y → z ≡ w → tree.either (trees.expression_of x) (trees.expression_of z) ≡ tree.either (trees.expression_of y) (trees.expression_of w)
 either_same h k = cc
+
+-- statements of the code as they are seen
+pub read_is : (o : code_origin.Origin) (n m first last : ℕ) (w : code_core.Expression) (x : Origin) (a : Expression) → origin_of o ≡ x → n ≡ m → expression_of w ≡ a
+    → statement_of (Read o (Own n first last) w) ≡ read x (own m first last) a
+read_is o n m first last w x a h k l = cc
+
+-- the right side of a junction, with names of its own behind the left side's
+pub right_as : (declared : List Declared) (at : Origin) (known : List Known) (cores : List Expression) (right : tree.Expression) (number between after : ℕ)
+    (q : Expression) (empty_one inside : List Statement) → number ≡ between + 1 → empty_one ≡ []
+    → IsAdded (λ b. IsMade declared at known cores right number b q after) empty_one inside
+    → IsAdded (λ b. IsMade declared at known cores right (between + 1) b q after) [] inside
+right_as declared at known cores right number between after q empty_one inside is none h =
+    subst (λ l. IsAdded (λ b. IsMade declared at known cores right (between + 1) b q after) l inside) none
+    (subst (λ n. IsAdded (λ b. IsMade declared at known cores right n b q after) empty_one inside) is h)

@@ -216,8 +216,9 @@ impl<'n, 'p> Translator<'n, 'p> {
         let cores = self.all_made(below, with, element.indices, taken, before)?;
         let item = shared_item(self.names, element.name.bytes);
         let word = address(self.alloc, item, &cores)?;
-        *taken = following(*taken)?;
-        let held = Private::Own(*taken, element.name.at, element.last);
+        let next = following(*taken)?;
+        *taken = next;
+        let held = Private::Own(next, element.name.at, element.last);
         let origin = using_item(self.origin, element.name.bytes, element.indices);
         before.push(Statement::Read(origin, held, word))?;
         Ok(Core::Private(held))
@@ -310,7 +311,8 @@ impl<'n, 'p> Translator<'n, 'p> {
         let mut inner = number;
         let mut inside = Vec::new(self.alloc);
         let q = self.made(below, with, junction.right, &mut inner, &mut inside)?;
-        if is_plain(&inside, &q) {
+        let plain = is_plain(&inside, &q);
+        if plain {
             let e = at_once(self.alloc, junction.kind, p, q)?;
             return Ok(e);
         }

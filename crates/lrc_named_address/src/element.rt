@@ -1,9 +1,10 @@
 // The addresses of elements.
 
-ghost use Rattle.std.specs.Prelude.{◌≡◌, IfOk, map};
+ghost use Rattle.std.specs.Prelude.{◌≡◌, ◌≤◌, IfOk, filter, map};
 ghost use Rattle.lrc_named_core.specs.View.{expression_of};
+ghost use Rattle.lrc_named_names.specs.Elements.{elements};
 ghost use Rattle.lrc_named_names.specs.View.{item_of};
-ghost use Rattle.lrc_named_address.specs.Address.{address, address_of, number_within, plus_summands, summand_of, test_of, times_tests};
+ghost use Rattle.lrc_named_address.specs.Address.{address, address_of, base_of, indices_of, is_open, number_within, offset_of, plus_summands, summand_of, test_of, times_tests};
 ghost use Rattle.lrc_named_address.specs.View.{index_of};
 
 use lrc_lang::program::Operator;
@@ -113,6 +114,82 @@ fn address_of<'p>(
     }
 }
 
+// The indices with their sizes, of an item that has so many elements, and how far each leads.
+#[tactic(auto, using(crate::proofs::Indices::size_some))]
+fn indices<'c, 'p>(
+    alloc: Global,
+    count: u32,
+    sizes: &[u32],
+    cores: &'c [Expression<'p>],
+) -> Result<Vec<Index<'c, 'p>>, AllocError>
+    requires counted { count ≡ elements sizes.now }
+    requires some { 1 ≤ count }
+    ensures { IfOk result (λ all. map index_of all.items
+        ≡ indices_of (map expression_of cores.now) sizes.now) }
+{
+    let mut stride = count;
+    let mut all = Vec::new(alloc);
+    for i in 0..cores.len().min(sizes.len()) {
+        let size = sizes[i];
+        stride /= size;
+        all.push(Index {
+            core: &cores[i],
+            size,
+            stride,
+        })?;
+    }
+    Ok(all)
+}
+
+// How far an index leads, as far as it is known.
+#[tactic(auto, using(crate::proofs::Indices::within_size, crate::proofs::Indices::offset_some))]
+fn known_offset(index: Index<'_, '_>) -> u32
+    requires { offset_of (index_of index) ≤ 65536 }
+    ensures { result ≡ offset_of (index_of index.entry) }
+{
+    match number_within(index.core, index.size) {
+        Some(n) => n as u32 * index.stride,
+        None => 0,
+    }
+}
+
+// How far these lead from a first element, as far as it is known.
+fn known_base(first: u32, indices: &[Index<'_, '_>]) -> u32
+    requires { base_of first (map index_of indices.now) ≤ 65536 }
+    ensures { result ≡ base_of first (map index_of indices.now) }
+{
+    let mut base = first;
+    for index in indices {
+        let offset = known_offset(*index);
+        base += offset;
+    }
+    base
+}
+
+// Whether an index may be out of range.
+fn is_open(index: Index<'_, '_>) -> bool
+    ensures { result ≡ is_open (index_of index.entry) }
+{
+    number_within(index.core, index.size).is_none()
+}
+
+// Those of the indices that may be out of range.
+fn open_ones<'c, 'p>(
+    alloc: Global,
+    indices: &[Index<'c, 'p>],
+) -> Result<Vec<Index<'c, 'p>>, AllocError>
+    ensures { IfOk result (λ all. map index_of all.items ≡ filter is_open (map index_of indices.now)) }
+{
+    let mut all = Vec::new(alloc);
+    for index in indices {
+        let may = is_open(*index);
+        if may {
+            all.push(*index)?;
+        }
+    }
+    Ok(all)
+}
+
 /// Returns the address of an element of an item, with these indices. It fails only if memory runs out.
 pub fn address<'p>(
     alloc: Global,
@@ -122,20 +199,8 @@ pub fn address<'p>(
     ensures { IfOk result (λ e. expression_of e
         ≡ address (item_of item.now) (map expression_of cores.now)) }
 {
-    let mut base = item.first;
-    let mut stride = item.count;
-    let mut outside = Vec::new(alloc);
-    for i in 0..cores.len().min(item.sizes.len()) {
-        let size = item.sizes[i];
-        stride /= size;
-        match number_within(&cores[i], size) {
-            Some(n) => base += n as u32 * stride,
-            None => outside.push(Index {
-                core: &cores[i],
-                size,
-                stride,
-            })?,
-        }
-    }
+    let all = indices(alloc, item.count, &item.sizes, cores)?;
+    let base = known_base(item.first, &all);
+    let outside = open_ones(alloc, &all)?;
     address_of(alloc, base, &outside)
 }

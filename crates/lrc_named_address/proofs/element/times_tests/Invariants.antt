@@ -3,7 +3,7 @@ use Rattle.std.proofs.Common.{◌≡◌, map, drop}
 use Rattle.lrc_named_core.specs.View.{expression_of}
 use Rattle.lrc_named_address.specs.Address.{times_tests}
 use Rattle.lrc_named_address.specs.View.{index_of}
-use Rattle.lrc_named_address.proofs.address.times_tests.Given as goal
+use Rattle.lrc_named_address.proofs.element.times_tests.Given as goal
 
 abbrev pub invariant-loop-index : goal.invariant-loop-index
 invariant-loop-index l =

@@ -3,7 +3,7 @@ use Rattle.std.proofs.Common.{◌≡◌, map, drop}
 use Rattle.lrc_named_core.specs.View.{expression_of}
 use Rattle.lrc_named_address.specs.Address.{plus_summands}
 use Rattle.lrc_named_address.specs.View.{index_of}
-use Rattle.lrc_named_address.proofs.address.plus_summands.Given as goal
+use Rattle.lrc_named_address.proofs.element.plus_summands.Given as goal
 
 abbrev pub invariant-loop-index : goal.invariant-loop-index
 invariant-loop-index l =
