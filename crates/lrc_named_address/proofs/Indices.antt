@@ -1,12 +1,11 @@
 -- The address of an element, as loops over the indices come to it.
 use Rattle.std.proofs.Common.{◌≡◌, ℕ, zero, suc, min, ◌+◌, ◌*◌, ◌/◌, ◌<◌, ◌≤◌, Bool, true, false, List, [], ◌∷◌, ◌++◌, map, length, get_or, drop, take, filter, append_assoc, append-nil, refl, sym, ap, subst, arith, ◌∙◌, add-one}
-use Rattle.std.specs.Prelude.{Option, Some, None, is_none, cond, nat_lt, if◌then◌else◌}
+use Rattle.std.specs.Prelude.{Option, Some, None, cond, nat_lt, if◌then◌else◌}
 use Rattle.std.proofs.lemmas.Bool.{ltb-true}
 use Rattle.std.proofs.Math.Seq.{drop-cons, take-suc}
 use Rattle.std.proofs.Math.Nat.{mul-div_cancel_left, mul-le-mul_right}
 use Rattle.std.proofs.lemmas.List.Elements.{filter-append}
 use Rattle.lrc_named_names.specs.Elements.{elements}
-use Rattle.lrc_named_names.specs.Names.{Item}
 use Rattle.lrc_named_core.specs.declared.tree.Expression as code_core
 use Rattle.lrc_named_core.specs.View.{expression_of}
 use Rattle.lrc_named_core.specs.Tree.{Expression, number, private, me, nodes, binary}

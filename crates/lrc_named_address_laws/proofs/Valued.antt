@@ -1,7 +1,7 @@
 -- The values of the parts of an address.
-use Rattle.std.proofs.Common.{◌≡◌, ℕ, zero, suc, ◌+◌, ◌*◌, ◌-◌, ◌%◌, ◌^◌, ◌<◌, ◌≤◌, Bool, true, false, List, [], ◌∷◌, filter, refl, sym, ap, subst, arith, ◌∙◌}
-use Rattle.std.specs.Prelude.{Option, Some, None, is_none, cond, nat_lt, nat_eq, if◌then◌else◌, ◌⊎◌, inl, inr, ◌==◌}
-use Rattle.std.proofs.lemmas.Bool.{ltb-true, lt-ltb, le-ltb, eqb-true}
+use Rattle.std.proofs.Common.{◌≡◌, ℕ, ◌+◌, ◌*◌, ◌-◌, ◌%◌, ◌^◌, ◌<◌, ◌≤◌, Bool, true, false, List, [], ◌∷◌, filter, refl, sym, ap, subst, arith, ◌∙◌, inl, inr}
+use Rattle.std.specs.Prelude.{Option, Some, None, is_none, cond, nat_lt, if◌then◌else◌, ◌⊎◌, ◌==◌}
+use Rattle.std.proofs.lemmas.Bool.{cases_lt, ltb-true, lt-ltb, le-ltb, eqb-true}
 use Rattle.std.proofs.Math.Nat.{mod-eq_of_lt}
 use Rattle.lrc_lang.specs.declared.program.Operator.TheVariants.{Add, Subtract, Multiply, Less}
 use Rattle.lrc_exec.specs.Meaning.{combined, one_if}
@@ -70,8 +70,8 @@ valued_if names here count false i v is vs has rest = rest
 
 pub valued_opens : (names : Private → ℕ) (here count : ℕ) (is : List Index) (vs : List ℕ)
     → Valued names here count is vs → Valued names here count (filter is_open is) (opens is vs)
-valued_opens names here count [] [] no_index = no_index
-valued_opens names here count (i ∷ is) (v ∷ vs) (one_index has rest) =
+valued_opens names here count is vs no_index = no_index
+valued_opens names here count xs ys (one_index {i = i} {is = is} {v = v} {vs = vs} has rest) =
     valued_if names here count (is_open i) i v (filter is_open is) (opens is vs) has (valued_opens names here count is vs rest)
 
 within_none : (is : List Index) → Within is []
@@ -98,11 +98,11 @@ beyond_if (Some n) i v is vs small (inr rest) = rest
 
 pub beyond_opens : (names : Private → ℕ) (here count : ℕ) (is : List Index) (vs : List ℕ)
     → Valued names here count is vs → Beyond is vs → Beyond (filter is_open is) (opens is vs)
-beyond_opens names here count [] [] no_index h = h
-beyond_opens names here count (i ∷ is) (v ∷ vs) (one_index has rest) (inl le) =
+beyond_opens names here count is vs no_index h = h
+beyond_opens names here count xs ys (one_index {i = i} {is = is} {v = v} {vs = vs} has rest) (inl le) =
     beyond_if (number_within i.core i.size) i v (filter is_open is) (opens is vs)
     (λ n is. (known_value names here count i.core i.size n v is has).1) (inl le)
-beyond_opens names here count (i ∷ is) (v ∷ vs) (one_index has rest) (inr later) =
+beyond_opens names here count xs ys (one_index {i = i} {is = is} {v = v} {vs = vs} has rest) (inr later) =
     beyond_if (number_within i.core i.size) i v (filter is_open is) (opens is vs)
     (λ n is. (known_value names here count i.core i.size n v is has).1) (inr (beyond_opens names here count is vs rest later))
 
@@ -114,8 +114,8 @@ split_if (Some n) i v is vs same = ap (λ k. k * i.stride + sum is vs) (same n r
 -- the known ones and the others make the whole
 pub split : (names : Private → ℕ) (here count base : ℕ) (is : List Index) (vs : List ℕ) → Valued names here count is vs
     → base_of base is + sum (filter is_open is) (opens is vs) ≡ base + sum is vs
-split names here count base [] [] no_index = refl
-split names here count base (i ∷ is) (v ∷ vs) (one_index has rest) =
+split names here count base is vs no_index = refl
+split names here count base xs ys (one_index {i = i} {is = is} {v = v} {vs = vs} has rest) =
     let h = split names here count (base + offset_of i) is vs rest in
     let k = split_if (number_within i.core i.size) i v (filter is_open is) (opens is vs)
     (λ n is. (known_value names here count i.core i.size n v is has).0) in
@@ -140,34 +140,39 @@ zero_times false = refl
 
 pub tests_hold : (names : Private → ℕ) (here count : ℕ) (left : Expression) (is : List Index) (vs : List ℕ) → value_of names here count left ≡ Some 1
     → Valued names here count is vs → Within is vs → value_of names here count (times_tests left is) ≡ Some 1
-tests_hold names here count left [] [] h no_index within = h
-tests_hold names here count left (i ∷ is) (v ∷ vs) h (one_index has rest) within =
+tests_hold names here count left is vs h no_index within = h
+tests_hold names here count left xs ys h (one_index {i = i} {is = is} {v = v} {vs = vs} has rest) within =
     tests_hold names here count (binary left Multiply (test_of i)) is vs
     (product_of names here count left i 1 v h has ∙ one_times (nat_lt v i.size) ∙ ap (λ b. Some (one_if b)) (lt-ltb v i.size within.0)) rest within.1
 
 tests_failed : (names : Private → ℕ) (here count : ℕ) (left : Expression) (is : List Index) (vs : List ℕ) → value_of names here count left ≡ Some 0
     → Valued names here count is vs → value_of names here count (times_tests left is) ≡ Some 0
-tests_failed names here count left [] [] h no_index = h
-tests_failed names here count left (i ∷ is) (v ∷ vs) h (one_index has rest) =
+tests_failed names here count left is vs h no_index = h
+tests_failed names here count left xs ys h (one_index {i = i} {is = is} {v = v} {vs = vs} has rest) =
     tests_failed names here count (binary left Multiply (test_of i)) is vs
     (product_of names here count left i 0 v h has ∙ zero_times (nat_lt v i.size)) rest
 
-mutual
-  pub tests_fail : (names : Private → ℕ) (here count : ℕ) (left : Expression) (is : List Index) (vs : List ℕ) → value_of names here count left ≡ Some 1
-      → Valued names here count is vs → Beyond is vs → value_of names here count (times_tests left is) ≡ Some 0
-  tests_fail names here count left [] [] h no_index beyond = absurd beyond
-  tests_fail names here count left (i ∷ is) (v ∷ vs) h (one_index has rest) (inl le) =
-      tests_failed names here count (binary left Multiply (test_of i)) is vs
-      (product_of names here count left i 1 v h has ∙ one_times (nat_lt v i.size) ∙ ap (λ b. Some (one_if b)) (le-ltb v i.size le)) rest
-  tests_fail names here count left (i ∷ is) (v ∷ vs) h (one_index has rest) (inr later) =
-      fail_on names here count (binary left Multiply (test_of i)) is vs (nat_lt v i.size)
-      (product_of names here count left i 1 v h has ∙ one_times (nat_lt v i.size)) rest later
+-- one more factor, that is 1 or 0
+held : (names : Private → ℕ) (here count : ℕ) (left : Expression) (i : Index) (v : ℕ) → value_of names here count left ≡ Some 1
+    → value_of names here count i.core ≡ Some v → v < i.size → value_of names here count (binary left Multiply (test_of i)) ≡ Some 1
+held names here count left i v h has lt =
+    product_of names here count left i 1 v h has ∙ one_times (nat_lt v i.size) ∙ ap (λ b. Some (one_if b)) (lt-ltb v i.size lt)
 
-  fail_on : (names : Private → ℕ) (here count : ℕ) (left : Expression) (is : List Index) (vs : List ℕ) (b : Bool)
-      → value_of names here count left ≡ Some (one_if b)
-      → Valued names here count is vs → Beyond is vs → value_of names here count (times_tests left is) ≡ Some 0
-  fail_on names here count left is vs true h rest later = tests_fail names here count left is vs h rest later
-  fail_on names here count left is vs false h rest later = tests_failed names here count left is vs h rest
+failed : (names : Private → ℕ) (here count : ℕ) (left : Expression) (i : Index) (v : ℕ) → value_of names here count left ≡ Some 1
+    → value_of names here count i.core ≡ Some v → i.size ≤ v → value_of names here count (binary left Multiply (test_of i)) ≡ Some 0
+failed names here count left i v h has le =
+    product_of names here count left i 1 v h has ∙ one_times (nat_lt v i.size) ∙ ap (λ b. Some (one_if b)) (le-ltb v i.size le)
+
+pub tests_fail : (names : Private → ℕ) (here count : ℕ) (left : Expression) (is : List Index) (vs : List ℕ) → value_of names here count left ≡ Some 1
+    → Valued names here count is vs → Beyond is vs → value_of names here count (times_tests left is) ≡ Some 0
+tests_fail names here count left is vs h no_index beyond = absurd beyond
+tests_fail names here count left xs ys h (one_index {i = i} {is = is} {v = v} {vs = vs} has rest) (inl le) =
+    tests_failed names here count (binary left Multiply (test_of i)) is vs (failed names here count left i v h has le) rest
+tests_fail names here count left xs ys h (one_index {i = i} {is = is} {v = v} {vs = vs} has rest) (inr later) =
+    elim (cases_lt v i.size) [
+      | inl lt ↦ tests_fail names here count (binary left Multiply (test_of i)) is vs (held names here count left i v h has lt) rest later
+      | inr le ↦ tests_failed names here count (binary left Multiply (test_of i)) is vs (failed names here count left i v h has le) rest
+    ]
 
 -- ---- the summands
 
@@ -191,8 +196,8 @@ some_if names here count false i v has = ((v * i.stride) % 2 ^ 64, ap (λ l. com
 
 pub sums_in : (names : Private → ℕ) (here count : ℕ) (left : Expression) (a : ℕ) (is : List Index) (vs : List ℕ) → value_of names here count left ≡ Some a
     → Valued names here count is vs → a + sum is vs < 2 ^ 64 → value_of names here count (plus_summands left is) ≡ Some (a + sum is vs)
-sums_in names here count left a [] [] h no_index small = let e : a ≡ a + 0 = omega arith in h ∙ ap Some e
-sums_in names here count left a (i ∷ is) (v ∷ vs) h (one_index has rest) small =
+sums_in names here count left a is vs h no_index small = let e : a ≡ a + 0 = omega arith in h ∙ ap Some e
+sums_in names here count left a xs ys h (one_index {i = i} {is = is} {v = v} {vs = vs} has rest) small =
     let one : v * i.stride < 2 ^ 64 = omega arith in
     let two : a + v * i.stride < 2 ^ 64 = omega arith in
     let first : value_of names here count (binary left Add (summand_of i)) ≡ Some (a + v * i.stride) =
@@ -203,8 +208,8 @@ sums_in names here count left a (i ∷ is) (v ∷ vs) h (one_index has rest) sma
 
 pub sums_some : (names : Private → ℕ) (here count : ℕ) (left : Expression) (a : ℕ) (is : List Index) (vs : List ℕ) → value_of names here count left ≡ Some a
     → Valued names here count is vs → (w : ℕ) × (value_of names here count (plus_summands left is) ≡ Some w)
-sums_some names here count left a [] [] h no_index = (a, h)
-sums_some names here count left a (i ∷ is) (v ∷ vs) h (one_index has rest) =
+sums_some names here count left a is vs h no_index = (a, h)
+sums_some names here count left a xs ys h (one_index {i = i} {is = is} {v = v} {vs = vs} has rest) =
     let x = some_if names here count (i.stride == 1) i v has in
     sums_some names here count (binary left Add (summand_of i)) ((a + x.0) % 2 ^ 64) is vs
     (ap (λ l. combined Add l (value_of names here count (summand_of i))) h ∙ ap (λ r. combined Add (Some a) r) x.1) rest
@@ -217,8 +222,8 @@ test_value names here count i v has = ap (λ l. combined Less l (Some i.size)) h
 
 pub address_in : (names : Private → ℕ) (here count base : ℕ) (is : List Index) (vs : List ℕ) → Valued names here count is vs → Within is vs
     → base + sum is vs + 1 < 2 ^ 64 → value_of names here count (address_of base is) ≡ Some (base + sum is vs)
-address_in names here count base [] [] no_index within small = let e : base ≡ base + 0 = omega arith in ap Some e
-address_in names here count base (i ∷ is) (v ∷ vs) (one_index has rest) within small =
+address_in names here count base is vs no_index within small = let e : base ≡ base + 0 = omega arith in ap Some e
+address_in names here count base xs ys (one_index {i = i} {is = is} {v = v} {vs = vs} has rest) within small =
     let x = base + sum (i ∷ is) (v ∷ vs) in
     let t : value_of names here count (times_tests (test_of i) is) ≡ Some 1 =
     tests_hold names here count (test_of i) is vs
@@ -239,12 +244,15 @@ first_fails : (names : Private → ℕ) (here count : ℕ) (i : Index) (is : Lis
 first_fails names here count i is v vs has rest (inl le) =
     tests_failed names here count (test_of i) is vs (test_value names here count i v has ∙ ap (λ b. Some (one_if b)) (le-ltb v i.size le)) rest
 first_fails names here count i is v vs has rest (inr later) =
-    fail_on names here count (test_of i) is vs (nat_lt v i.size) (test_value names here count i v has) rest later
+    elim (cases_lt v i.size) [
+      | inl lt ↦ tests_fail names here count (test_of i) is vs (test_value names here count i v has ∙ ap (λ b. Some (one_if b)) (lt-ltb v i.size lt)) rest later
+      | inr le ↦ tests_failed names here count (test_of i) is vs (test_value names here count i v has ∙ ap (λ b. Some (one_if b)) (le-ltb v i.size le)) rest
+    ]
 
 pub address_beyond : (names : Private → ℕ) (here count base : ℕ) (is : List Index) (vs : List ℕ) → Valued names here count is vs → Beyond is vs
     → value_of names here count (address_of base is) ≡ Some (2 ^ 64 - 1)
-address_beyond names here count base [] [] no_index beyond = absurd beyond
-address_beyond names here count base (i ∷ is) (v ∷ vs) (one_index has rest) beyond =
+address_beyond names here count base is vs no_index beyond = absurd beyond
+address_beyond names here count base xs ys (one_index {i = i} {is = is} {v = v} {vs = vs} has rest) beyond =
     let t = first_fails names here count i is v vs has rest beyond in
     let s = sums_some names here count (number (base + 1)) (base + 1) (i ∷ is) (v ∷ vs) refl (one_index has rest) in
     let some : 1 ≤ 2 ^ 64 = omega arith in

@@ -1,5 +1,6 @@
 pub mod Adding
 pub mod Copies
+pub mod Joined
 pub mod Making
 pub mod Measure
 pub mod Parameters

@@ -8,7 +8,7 @@ use Rattle.lrc_named_tree.specs.View as trees
 use Rattle.lrc_named_tree.specs.declared.tree.Expression as code_tree
 use Rattle.lrc_named_names.specs.Names.{Item, Meaning, Declared, meaning_of}
 use Rattle.lrc_named_constants.specs.declared.constancy.Constancy.{Constancy}
-use Rattle.lrc_named_constants.specs.declared.constancy.Constancy.TheVariants.{Value}
+use Rattle.lrc_named_constants.specs.declared.constancy.Constancy.TheVariants.{Varies, Undefined, Value}
 use Rattle.lrc_named_constants.specs.Constant.{Known, IsConstancy, AreConstancies, bound, known_as}
 use Rattle.lrc_named_core.specs.declared.tree.Statement.{Statement}
 use Rattle.lrc_named_core.specs.declared.tree.Statement.{Read}
@@ -16,7 +16,7 @@ use Rattle.lrc_named_core.specs.declared.tree.Private.TheVariants.{Own}
 use Rattle.lrc_named_core.specs.declared.tree.Origin as code_origin
 use Rattle.lrc_named_core.specs.declared.tree.Expression as code_core
 use Rattle.lrc_named_core.specs.View.{statement_of, block_of, expression_of, origin_of}
-use Rattle.lrc_named_core.specs.Tree.{Expression, number, private, own, binary, Origin, read, assign, if_else, Block, empty, only, next, behind, has_division}
+use Rattle.lrc_named_core.specs.Tree.{Private, Expression, number, private, own, binary, Origin, read, assign, if_else, Block, empty, only, next, behind, has_division}
 use Rattle.lrc_named_translation.specs.declared.parts.Kind.{Kind}
 use Rattle.lrc_named_translation.specs.declared.parts.Kind.TheVariants.{Both, Either}
 use Rattle.lrc_named_translation.specs.Added.{IsAdded}
@@ -184,3 +184,15 @@ pub right_as : (declared : List Declared) (at : Origin) (known : List Known) (co
 right_as declared at known cores right number between after q empty_one inside is none h =
     subst (λ l. IsAdded (λ b. IsMade declared at known cores right (between + 1) b q after) l inside) none
     (subst (λ n. IsAdded (λ b. IsMade declared at known cores right n b q after) empty_one inside) is h)
+
+-- what is no value
+pub none_valued : (w : Constancy) → ((v : ℕ) → w ≡ Value v → ⊥) → HasNoValue w
+none_valued Varies never = tt
+none_valued Undefined never = tt
+none_valued (Value v) never = never v refl
+
+pub turned_as : (at : Origin) (kind : Kind) (l m w x : Private) (p : Expression) (inside : Block) (q : Expression) (old new : List Statement) → l ≡ m → w ≡ x
+    → IsAdded (λ b. b ≡ in_turn at kind l w p inside q) old new → IsAdded (λ b. b ≡ in_turn at kind m x p inside q) old new
+turned_as at kind l m w x p inside q old new h k t =
+    subst (λ y. IsAdded (λ b. b ≡ in_turn at kind m y p inside q) old new) k
+    (subst (λ y. IsAdded (λ b. b ≡ in_turn at kind y w p inside q) old new) h t)

@@ -16,7 +16,9 @@ ghost use Rattle.lrc_named_translation.specs.Turn.{element_of, junction_of};
 
 use crate::meanings::{NameKind, kind_of, shared_item};
 use crate::own::{following, is_plain};
-use crate::parts::{Element, Junction, Kind, copy_at, holding, private_name, using_item};
+use crate::parts::{
+    Element, Junction, Kind, copy_at, holding, holding_junction, private_name, using_item,
+};
 use crate::turn::{Turn, at_once};
 use lrc_lang::program::Operator;
 use lrc_named_address::address;
@@ -44,16 +46,6 @@ pub struct Arguments<'a, 'p> {
 }
 
 impl<'n, 'p> Translator<'n, 'p> {
-    // What is constant.
-    fn constants(&self) -> Constants<'n, 'p>
-        ensures { result.names ≡ self.now.names }
-    {
-        Constants {
-            alloc: self.alloc,
-            names: self.names,
-        }
-    }
-
     /// Returns the core of an expression, and adds what comes before it. Parameters mean what the arguments say; `below` is how
     /// many of the declared names come before whatever the expression calls, and `taken` how many names of the translation's own
     /// the statement has taken. It fails only if memory runs out.
@@ -74,7 +66,11 @@ impl<'n, 'p> Translator<'n, 'p> {
             (map expression_of with.entry.cores.now) (tree_of expression.now) taken.old b
             (expression_of p) taken.new) before.old.items before.new.items) }
     {
-        let constancy = self.constants().constancy(below, with.known, expression)?;
+        let constants = Constants {
+            alloc: self.alloc,
+            names: self.names,
+        };
+        let constancy = constants.constancy(below, with.known, expression)?;
         match constancy {
             Constancy::Value(v) => Ok(Core::Number(v)),
             _ => {
@@ -249,7 +245,11 @@ impl<'n, 'p> Translator<'n, 'p> {
     {
         let place = self.names.place(name.bytes);
         let (parameters, body) = self.names.function(place);
-        let constancies = self.constants().constancies(below, with.known, arguments)?;
+        let constants = Constants {
+            alloc: self.alloc,
+            names: self.names,
+        };
+        let constancies = constants.constancies(below, with.known, arguments)?;
         let known = bind(self.alloc, parameters, &constancies)?;
         let cores = self.all_made(below, with, arguments, taken, before)?;
         let inner = Arguments {
@@ -318,7 +318,7 @@ impl<'n, 'p> Translator<'n, 'p> {
         }
         *taken = inner;
         let left = holding(number, junction.left);
-        let whole = Private::Own(number, junction.left.first(), junction.right.last());
+        let whole = holding_junction(number, junction);
         let turn = Turn {
             origin: self.origin,
             kind: junction.kind,

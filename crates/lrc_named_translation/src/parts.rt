@@ -5,6 +5,7 @@ ghost use Rattle.lrc_named_core.specs.Tree.{named, private};
 ghost use Rattle.lrc_named_tree.specs.View.{expression_of, expressions_of};
 ghost use Rattle.lrc_named_core.specs.View.{expression_of as core_of, origin_of, private_of};
 ghost use Rattle.lrc_named_translation.specs.Made.{bare, holding, using_item};
+ghost use Rattle.lrc_named_translation.specs.Turn.{junction_of};
 
 use lrc_named_core::tree::{Expression as Core, Origin, Private, Trap};
 use lrc_named_tree::tree::{Expression, Name};
@@ -60,6 +61,14 @@ pub fn holding<'p>(number: u32, expression: &Expression<'_>) -> Private<'p>
     Private::Own(number, inside.first(), inside.last())
 }
 
+/// Returns the name of the translation's own with this number, for the value of `left and right` or `left or right`.
+#[tactic(auto, using(crate::proofs::Joined::own_joined))]
+pub fn holding_junction<'p>(number: u32, junction: Junction<'_, '_>) -> Private<'p>
+    ensures { private_of result ≡ holding number (junction_of junction.entry) }
+{
+    Private::Own(number, junction.left.first(), junction.right.last())
+}
+
 /// Returns what a statement comes from that uses an item with these indices, where others come from this.
 pub fn using_item<'p>(origin: Origin<'p>, name: &'p [u8], indices: &[Expression<'_>]) -> Origin<'p>
     ensures { origin_of result
@@ -84,6 +93,7 @@ pub fn private_name<'p>(bytes: &'p [u8]) -> Core<'p>
 }
 
 /// Returns the core at a place once more. It fails only if memory runs out.
+#[tactic(auto, using(crate::proofs::Copies::core_some))]
 pub fn copy_at<'p>(alloc: Global, cores: &[Core<'p>], place: usize) -> Result<Core<'p>, AllocError>
     requires { place < length cores.now }
     ensures { IfOk result (λ e. slice_get (map core_of cores.now) place ≡ Some (core_of e)) }

@@ -1,5 +1,5 @@
 -- The numbers that are known lead to an element of the item.
-use Rattle.std.proofs.Common.{◌≡◌, ◌≤◌, ◌+◌, map, filter, sym, ap, subst, arith, ◌∙◌}
+use Rattle.std.proofs.Common.{◌≡◌, ◌≤◌, map, filter, sym, ap, subst, arith, ◌∙◌}
 use Rattle.std.specs.Prelude.{IfOk}
 use Rattle.lrc_named_core.specs.View.{expression_of}
 use Rattle.lrc_named_names.specs.Elements.{elements}
@@ -9,10 +9,11 @@ use Rattle.lrc_named_address.specs.View.{index_of}
 use Rattle.lrc_named_address.proofs.Indices.{base_within}
 use Rattle.lrc_named_address.proofs.element.address.Goals as goal
 
-pub indices-all-requires : goal.indices-all-requires
-indices-all-requires c =
-    let item = c.args.item.now in
-    (item.counted ∙ ap elements (sym c.deref.ensures.value), item.some)
+pub indices-requires-clause-counted : goal.indices-requires-clause-counted
+indices-requires-clause-counted c = c.args.item.now.counted ∙ ap elements (sym c.deref.ensures.value)
+
+pub indices-requires-clause-some : goal.indices-requires-clause-some
+indices-requires-clause-some c = c.args.item.now.some
 
 pub known_base-base-requires : goal.known_base-base-requires
 known_base-base-requires c =

@@ -1,9 +1,9 @@
 -- Each index has its size, and what its size leaves of the stride.
-use Rattle.std.proofs.Common.{◌≡◌, ◌<◌, ◌≤◌, ◌+◌, ◌++◌, min, map, length, get_or, drop, sym, ap, ◌∙◌, arith, append-nil}
+use Rattle.std.proofs.Common.{◌<◌, ◌≤◌, ◌+◌, ◌++◌, min, map, length, get_or, drop, sym, ap, ◌∙◌, arith, append-nil}
 use Rattle.lrc_named_core.specs.View.{expression_of}
 use Rattle.lrc_named_address.specs.Address.{indices_of}
 use Rattle.lrc_named_address.specs.View.{index_of}
-use Rattle.lrc_named_address.proofs.Indices.{here_is, indices_past, indices_step, next_some, size_some, stride_next}
+use Rattle.lrc_named_address.proofs.Indices.{here_is, indices_past, indices_step, next_some, stride_next}
 use Rattle.lrc_named_address.proofs.element.indices.Goals as goal
 
 pub loop-i-preserved : goal.loop-i-preserved

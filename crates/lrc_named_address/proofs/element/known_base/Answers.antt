@@ -1,5 +1,5 @@
 -- One more of what is left, which is no more than the whole.
-use Rattle.std.proofs.Common.{◌≡◌, ◌≤◌, ◌+◌, map, arith}
+use Rattle.std.proofs.Common.{◌≤◌, ◌+◌, map, arith}
 use Rattle.lrc_named_address.specs.Address.{base_of}
 use Rattle.lrc_named_address.specs.View.{index_of}
 use Rattle.lrc_named_address.proofs.Indices.{base_step_at, offset_small, sum_small}

@@ -1,5 +1,5 @@
 -- One more where it may be out of range.
-use Rattle.std.proofs.Common.{◌≡◌, sym, ap, ◌∙◌}
+use Rattle.std.proofs.Common.{sym, ◌∙◌}
 use Rattle.lrc_named_address.proofs.Indices.{open_more, open_same}
 use Rattle.lrc_named_address.proofs.element.open_ones.Goals as goal
 use Rattle.lrc_named_address.proofs.element.open_ones.Goals.{then-may+in_ok-push, else-may}

@@ -1,5 +1,5 @@
 -- By its parts.
-use Rattle.lrc_named_address_laws.proofs.Laws.{in_range}
+use Rattle.lrc_named_address_laws.proofs.Places.{in_range}
 use Rattle.lrc_named_address_laws.proofs.laws.an_address_is_the_place_of_its_element.Goals as goal
 
 pub returns : goal.returns

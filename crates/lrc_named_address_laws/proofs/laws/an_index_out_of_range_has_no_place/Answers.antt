@@ -1,5 +1,5 @@
 -- A test fails, so that the product is 0.
-use Rattle.lrc_named_address_laws.proofs.Laws.{out_of_range}
+use Rattle.lrc_named_address_laws.proofs.Places.{out_of_range}
 use Rattle.lrc_named_address_laws.proofs.laws.an_index_out_of_range_has_no_place.Goals as goal
 
 pub returns : goal.returns

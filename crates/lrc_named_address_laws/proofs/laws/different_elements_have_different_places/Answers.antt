@@ -1,5 +1,5 @@
 -- By rows.
-use Rattle.lrc_named_address_laws.proofs.Laws.{element_unique}
+use Rattle.lrc_named_address_laws.proofs.Places.{element_unique}
 use Rattle.lrc_named_address_laws.proofs.laws.different_elements_have_different_places.Goals as goal
 
 pub returns : goal.returns

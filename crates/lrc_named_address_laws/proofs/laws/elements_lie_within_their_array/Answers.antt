@@ -1,5 +1,5 @@
 -- By rows.
-use Rattle.lrc_named_address_laws.proofs.Laws.{element_within}
+use Rattle.lrc_named_address_laws.proofs.Places.{element_within}
 use Rattle.lrc_named_address_laws.proofs.laws.elements_lie_within_their_array.Goals as goal
 
 pub returns : goal.returns

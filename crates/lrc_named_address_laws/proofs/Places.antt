@@ -1,21 +1,22 @@
 -- The address of an element with these indices.
-use Rattle.std.proofs.Common.{◌≡◌, ℕ, zero, suc, ◌+◌, ◌*◌, ◌-◌, ◌^◌, ◌<◌, ◌≤◌, List, [], ◌∷◌, length, filter, refl, sym, ap, subst, arith, ◌∙◌}
-use Rattle.std.specs.Prelude.{Some, inl, inr}
+use Rattle.std.proofs.Common.{◌≡◌, ℕ, ◌+◌, ◌*◌, ◌-◌, ◌^◌, ◌<◌, ◌≤◌, List, [], ◌∷◌, length, filter, refl, sym, ap, arith, ◌∙◌, inl, inr}
+use Rattle.std.specs.Prelude.{Some}
 use Rattle.std.proofs.Math.Nat.{mul-le-mul_right}
 use Rattle.std.proofs.lemmas.Bool.{cases_lt}
 use Rattle.lrc_named_core.specs.Tree.{Private, Expression}
 use Rattle.lrc_named_names.specs.Names.{Item}
 use Rattle.lrc_named_names.specs.Elements.{elements}
-use Rattle.lrc_named_address.specs.Address.{Index, address, base_of, indices_of, is_open}
+use Rattle.lrc_named_address.specs.Address.{address, base_of, indices_of, is_open}
 use Rattle.lrc_named_address_laws.specs.Elements.{element_at, AreWithin, IsBeyond}
 use Rattle.lrc_named_address_laws.specs.Values.{value_of, HaveValues, no_value, one_value}
 use Rattle.lrc_named_address_laws.proofs.Valued.{Valued, no_index, one_index, Within, Beyond, sum, opens, valued_opens, within_opens, beyond_opens, split, address_in, address_beyond}
 
 valued_indices : (names : Private → ℕ) (here count : ℕ) (es : List Expression) (sizes vs : List ℕ) → HaveValues names here count es vs
     → length sizes ≡ length vs → Valued names here count (indices_of es sizes) vs
-valued_indices names here count [] sizes [] no_value same = no_index
-valued_indices names here count (e ∷ es) [] (v ∷ vs) (one_value has rest) same = absurd (omega arith)
-valued_indices names here count (e ∷ es) (size ∷ sizes) (v ∷ vs) (one_value has rest) same =
+valued_indices names here count es [] vs no_value same = no_index
+valued_indices names here count es (size ∷ sizes) vs no_value same = no_index
+valued_indices names here count fs [] ws (one_value {e = e} {es = es} {v = v} {vs = vs} has rest) same = absurd (omega arith)
+valued_indices names here count fs (size ∷ sizes) ws (one_value {e = e} {es = es} {v = v} {vs = vs} has rest) same =
     one_index has (valued_indices names here count es sizes vs rest (omega arith))
 
 same_length : (sizes vs : List ℕ) → AreWithin sizes vs → length sizes ≡ length vs
@@ -26,26 +27,27 @@ same_length (size ∷ sizes) (v ∷ vs) h = let k = same_length sizes vs h.1 in 
 
 within_indices : (names : Private → ℕ) (here count : ℕ) (es : List Expression) (sizes vs : List ℕ) → HaveValues names here count es vs
     → AreWithin sizes vs → Within (indices_of es sizes) vs
-within_indices names here count [] sizes [] no_value h = tt
-within_indices names here count (e ∷ es) [] (v ∷ vs) (one_value has rest) h = absurd h
-within_indices names here count (e ∷ es) (size ∷ sizes) (v ∷ vs) (one_value has rest) h =
+within_indices names here count es [] vs no_value h = tt
+within_indices names here count es (size ∷ sizes) vs no_value h = tt
+within_indices names here count fs [] ws (one_value {e = e} {es = es} {v = v} {vs = vs} has rest) h = absurd h
+within_indices names here count fs (size ∷ sizes) ws (one_value {e = e} {es = es} {v = v} {vs = vs} has rest) h =
     (h.0, within_indices names here count es sizes vs rest h.1)
 
 beyond_indices : (names : Private → ℕ) (here count : ℕ) (es : List Expression) (sizes vs : List ℕ) → HaveValues names here count es vs
     → IsBeyond sizes vs → Beyond (indices_of es sizes) vs
-beyond_indices names here count [] [] [] no_value h = absurd h
-beyond_indices names here count [] (size ∷ sizes) [] no_value h = absurd h
-beyond_indices names here count (e ∷ es) [] (v ∷ vs) (one_value has rest) h = absurd h
-beyond_indices names here count (e ∷ es) (size ∷ sizes) (v ∷ vs) (one_value has rest) (inl le) = inl le
-beyond_indices names here count (e ∷ es) (size ∷ sizes) (v ∷ vs) (one_value has rest) (inr later) =
+beyond_indices names here count es [] vs no_value h = absurd h
+beyond_indices names here count es (size ∷ sizes) vs no_value h = absurd h
+beyond_indices names here count fs [] ws (one_value {e = e} {es = es} {v = v} {vs = vs} has rest) h = absurd h
+beyond_indices names here count fs (size ∷ sizes) ws (one_value {e = e} {es = es} {v = v} {vs = vs} has rest) (inl le) = inl le
+beyond_indices names here count fs (size ∷ sizes) ws (one_value {e = e} {es = es} {v = v} {vs = vs} has rest) (inr later) =
     inr (beyond_indices names here count es sizes vs rest later)
 
 sum_indices : (names : Private → ℕ) (here count : ℕ) (es : List Expression) (sizes vs : List ℕ) → HaveValues names here count es vs
     → length sizes ≡ length vs → sum (indices_of es sizes) vs ≡ element_at sizes vs
-sum_indices names here count [] [] [] no_value same = refl
-sum_indices names here count [] (size ∷ sizes) [] no_value same = refl
-sum_indices names here count (e ∷ es) [] (v ∷ vs) (one_value has rest) same = absurd (omega arith)
-sum_indices names here count (e ∷ es) (size ∷ sizes) (v ∷ vs) (one_value has rest) same =
+sum_indices names here count es [] vs no_value same = refl
+sum_indices names here count es (size ∷ sizes) vs no_value same = refl
+sum_indices names here count fs [] ws (one_value {e = e} {es = es} {v = v} {vs = vs} has rest) same = absurd (omega arith)
+sum_indices names here count fs (size ∷ sizes) ws (one_value {e = e} {es = es} {v = v} {vs = vs} has rest) same =
     ap (λ n. v * elements sizes + n) (sum_indices names here count es sizes vs rest (omega arith))
 
 -- an element lies within its array
