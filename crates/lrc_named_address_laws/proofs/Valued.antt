@@ -256,7 +256,8 @@ address_beyond names here count base xs ys (one_index {i = i} {is = is} {v = v} 
     let t = first_fails names here count i is v vs has rest beyond in
     let s = sums_some names here count (number (base + 1)) (base + 1) (i ∷ is) (v ∷ vs) refl (one_index has rest) in
     let some : 1 ≤ 2 ^ 64 = omega arith in
+    let positive : 0 < 2 ^ 64 = omega arith in
     ap (λ l. combined Subtract (combined Multiply l (value_of names here count (plus_summands (number (base + 1)) (i ∷ is)))) (Some 1)) t
     ∙ ap (λ r. combined Subtract (combined Multiply (Some 0) r) (Some 1)) s.1
-    ∙ ap (λ n. combined Subtract (Some n) (Some 1)) (never s.0 (2 ^ 64) some)
+    ∙ ap (λ n. combined Subtract (Some n) (Some 1)) (never s.0 (2 ^ 64) positive)
     ∙ ap Some (below_zero (2 ^ 64) some)
