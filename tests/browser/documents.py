@@ -7,9 +7,10 @@ from pathlib import Path
 
 TOP = Path(__file__).resolve().parent.parent.parent
 EXAMPLES = TOP / "examples"
+STEPS = TOP / "docs" / "steps"
 DATA = re.compile(rb'<script type="application/json" id="run">\n(.*?)</script>', re.S)
 
-# Each by the words of the command, without `step`; {E} is the directory of the examples.
+# Each by the words of the command, without `step`; {E} is the directory of the examples, {S} that of the pages in the documents.
 WORDS = {
     "late": "{E}/late.tm --nodes 2 --events {E}/late.events",
     "late_part": "{E}/late.tm --nodes 2 --events {E}/late.events --from 6 --to 9",
@@ -18,6 +19,10 @@ WORDS = {
     "sixteen_part": "{E}/counter.tm --nodes 16 --from 56 --to 66",
     "collecting": "{E}/collecting.tm --nodes 3 --collect 3",
     "store_buffering": "{E}/litmus/store_buffering.tm --nodes 2",
+    "deadlock": "{S}/deadlock.tm --nodes 2",
+    "traps": "{E}/traps.tm --nodes 3",
+    "jacobi": "{S}/jacobi.tm --nodes 4",
+    "jacobi_eight": "{S}/jacobi.tm --nodes 8",
 }
 
 # A run of 417 turns.
@@ -30,6 +35,10 @@ HOSTILE_PROGRAM = b"words 2;\nlocks 0;\n[1 - me] = 18446744073709551615;\nx = [m
 LARGE_PROGRAM = "words 65536;\nlocks 0;\nwhile 1 {\n  [x * 16 + me] = x;\n  x = x + 1;\n}\n"
 
 
+def words_of(command):
+    return [word.replace("{E}", str(EXAMPLES)).replace("{S}", str(STEPS)) for word in command.split()]
+
+
 class Program:
     """The program of `./run`, or another one."""
 
@@ -37,7 +46,7 @@ class Program:
         self.folder, self.program = folder, program
 
     def document(self, name):
-        return self.step([word.replace("{E}", str(EXAMPLES)) for word in WORDS[name].split()])
+        return self.step(words_of(WORDS[name]))
 
     def step(self, words):
         done = subprocess.run([self.program, "step", *words], capture_output=True)
@@ -50,7 +59,7 @@ class Program:
         return self.step([str(EXAMPLES / "late.tm"), "--nodes", "2", "--from", "1000"])
 
     def long(self):
-        return self.step([word.replace("{E}", str(EXAMPLES)) for word in LONG.split()])
+        return self.step(words_of(LONG))
 
     def hostile(self):
         file = self.folder / HOSTILE_NAME

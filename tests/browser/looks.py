@@ -10,8 +10,9 @@ import documents
 from browser import Browser
 from shown import SHOWN, Differs, Looks, moments_of
 
-SIZES = [(1280, 800), (1920, 1080), (1024, 768)]
-SHOT_AT = {"late": 13, "late_part": 12, "front_part": 4, "counter": 33, "sixteen_part": 277, "collecting": 22, "store_buffering": 3}
+SIZES = [(1280, 800), (1366, 768), (1920, 1080), (1024, 768)]
+SHOT_AT = {"late": 13, "late_part": 12, "front_part": 4, "counter": 33, "sixteen_part": 277, "collecting": 22, "store_buffering": 3, "deadlock": 9,
+           "traps": 5, "jacobi": 239, "jacobi_eight": 239}
 # Ten steps, drawn and laid out.
 TEN_STEPS = "for (let k = 0; k < 10; k++) { go(1000 + k); document.body.getBoundingClientRect(); }"
 TEXTS = "(selector => [...document.querySelectorAll(selector)].map(element => element.textContent))"
@@ -54,10 +55,17 @@ def place_of(name, turns):
     return f"(part: {turns[0]} to {turns[-1]})" if name.endswith("_part") else f"of {turns[-1]}"
 
 
+def words_in_use(lines):
+    """The words that acts of the document, and writes before it, touch."""
+    acts = [line["act"]["deed"].split() for line in lines if line.get("act")]
+    return {deed[1] for deed in acts if deed[0] in ("read", "write")} | {str(write["word"]) for line in lines for write in line.get("written", [])}
+
+
 def states(pages, name, document):
     """At the start and at ten turns the page shows what the lines say, and it is no wider than its window."""
     browser, moments = pages.browser, moments_of(documents.lines_of(document))
     url = pages.save(name, document)
+    pages.looks.are_few = len(words_in_use(documents.lines_of(document))) <= 64
     browser.size(1280, 800)
     browser.open(url)
     turns = [turn for turn in moments if turn is not None]
@@ -66,12 +74,13 @@ def states(pages, name, document):
         pages.at_turn(turn)
         pages.looks.moment(browser.value(SHOWN), moments[turn], f"{name} at {turn}", place_of(name, turns))
     pages.is_quiet(name)
-    for width, height in [*SIZES, (3840, 2160)]:
+    for width, height in [*SIZES, (390, 844), (3840, 2160)]:
         browser.size(width, height)
         browser.media(prefers_color_scheme="dark" if width == 1920 else "light")
         browser.open(f"{url}#turn={SHOT_AT[name]}")
         beyond = browser.value("[document.documentElement, document.querySelector('#nodes')].map(e => e.scrollWidth - e.clientWidth)")
-        pages.same(f"{name}: wider than {width}", beyond, [0, 0])
+        # On a phone the table of many nodes scrolls in its own place.
+        pages.same(f"{name}: wider than {width}", beyond[:1] if width == 390 else beyond, [0] if width == 390 else [0, 0])
         narrow = browser.value("[...document.querySelectorAll('section.node, .word')].filter(e => e.scrollWidth > e.clientWidth).length")
         pages.same(f"{name}: panels wider than their place, {width}", narrow, 0)
         if pages.shots and width < 3840:
@@ -158,6 +167,133 @@ def help_and_play(pages):
     browser.key(" ", code="Space", text=" ")
     pages.same("played two turns", pages.link(), "6")
     pages.same("stopped", pages.text("#play"), "Play")
+
+
+def acts_of(moments):
+    return [(turn, moment.turn["node"], moment.turn["act"]) for turn, moment in moments.items() if turn is not None and moment.turn["act"]]
+
+
+def thing_of(act):
+    """The word or the lock that an act touches."""
+    kind, *numbers = act["deed"].split()
+    return {"read": "word", "write": "word", "acquire": "lock", "release": "lock"}.get(kind), numbers[:1]
+
+
+def wanted_turns(moments, racing, turn):
+    """Where each key that finds something goes from a turn, by the lines; None where there is nothing to go to."""
+    acts = acts_of(moments)
+    node, act = moments[turn].turn["node"], moments[turn].turn["act"]
+    same = [other for other, _, one in acts if act and thing_of(act)[0] and thing_of(one) == thing_of(act)]
+    own = [other for other, doer, _ in acts if doer == node]
+    wanted = {}
+    for back, on, turns in (("[", "]", same), ("{", "}", own), ("R", "r", racing), (None, "a", [other for other, _, _ in acts])):
+        wanted[back] = max((other for other in turns if other < turn), default=None)
+        wanted[on] = min((other for other in turns if other > turn), default=None)
+    return {key: to for key, to in wanted.items() if key}
+
+
+def finding(pages, name, document):
+    """Every key that finds something, with something to go to and with nothing: then the page says so and stays."""
+    browser, moments = pages.browser, moments_of(documents.lines_of(document))
+    turn_of = {act["position"]: turn for turn, _, act in acts_of(moments)}
+    lines = documents.lines_of(document)
+    raced = {act for line in lines if "race" in line for pair in line["pairs"] for act in pair}
+    raced |= {line["why"] for line in lines if "why" in line and any(it.startswith("  races with") for it in line["lines"])}
+    racing = sorted({turn_of[act] for act in raced if act in turn_of})
+    browser.size(1280, 800)
+    browser.open(pages.save(name, document))
+    turns = [turn for turn in moments if turn is not None]
+    for turn in sorted({turns[k * (len(turns) - 1) // 11] for k in range(12)} | set(racing[:2])):
+        for key, to in wanted_turns(moments, racing, turn).items():
+            pages.at_turn(turn)
+            browser.key(key, text=key)
+            pages.same(f"{name}, {key} from {turn}", (pages.link(), bool(pages.text("#said"))), (str(turn if to is None else to), to is None))
+    for key in "[]{}R":
+        browser.key("Home")
+        browser.key(key, text=key)
+        pages.same(f"{name}, {key} at the start", (pages.link(), bool(pages.text("#said"))), ("", True))
+    pages.is_quiet(f"finding in {name}")
+
+
+def asked(pages, key, text):
+    """Presses a key, types a text, and gives where the page is then and what it says."""
+    browser = pages.browser
+    browser.key(key, text=key)
+    pages.same(f"{key} asks", browser.value("document.querySelector('#ask').open"), True)
+    for sign in text:
+        browser.key(sign, text=sign)
+    browser.key("Enter", text="\r")
+    pages.same(f"{key} has asked", browser.value("document.querySelector('#ask').open"), False)
+    return pages.link(), pages.text("#said")
+
+
+def asking(pages, document):
+    """Turns, acts and lines by their numbers, headlines by a text, buttons, a sign typed with AltGr, a link to no turn."""
+    browser = pages.browser
+    browser.size(1280, 800)
+    browser.open(pages.save("late", document))
+    outside = "no turn 99: the run has turns 0 to 18"
+    for text, wanted in (("13", ("13", "")), ("a4", ("4", "")), ("A 8", ("13", "")), ("l 15", ("15", "")), ("l15", ("15", "no act of line 15 after this turn")),
+                         ("99", ("15", outside)), ("a99", ("15", "no act 99")), ("x", ("15", "no number: x")), ("0", ("0", ""))):
+        pages.same(f"g {text}", asked(pages, "g", text), wanted)
+    headlines = {}
+    for turn in range(19):
+        pages.at_turn(turn)
+        headlines[turn] = pages.text("#headline").lower()
+    having = [turn for turn, line in headlines.items() if "acquires" in line]
+    pages.same("headlines with acquires", len(having), 2)
+    pages.at_turn(having[0])
+    pages.same("/ acquires", asked(pages, "/", "Acquires"), (str(having[1]), ""))
+    browser.key("n", text="n")
+    pages.same("n goes from the end to the start", pages.link(), str(having[0]))
+    pages.same("/ with nothing to find", asked(pages, "/", "zebra"), (str(having[0]), "no headline has: zebra"))
+    browser.key("n", text="n")
+    pages.same("n with nothing to find", pages.text("#said"), "no headline has: zebra")
+    pages.at_turn(4)
+    for button, wanted in (("]", "13"), ("[", "4"), ("r", "13"), ("R", "4"), ("{", "3"), ("}", "4")):
+        browser.value(f"document.querySelector('[data-key=\"{button}\"]').click()")
+        pages.same(f"button {button}", pages.link(), wanted)
+    for button in ("g", "/"):
+        browser.value(f"document.querySelector('[data-key=\"{button}\"]').click()")
+        pages.same(f"button {button}", browser.value("document.querySelector('#ask').open"), True)
+        browser.key("Escape")
+        pages.same(f"button {button}, left", (browser.value("document.querySelector('#ask').open"), pages.link()), (False, "4"))
+    browser.value("document.body.dispatchEvent(new KeyboardEvent('keydown', { key: ']', ctrlKey: true, altKey: true, bubbles: true })) && 0")
+    pages.same("] with AltGr", pages.link(), "13")
+    browser.value("document.body.dispatchEvent(new KeyboardEvent('keydown', { key: 'r', ctrlKey: true, bubbles: true })) && 0")
+    pages.same("a chord is the browser's own", pages.link(), "13")
+    pages.at_turn(99)
+    pages.same("a link to no turn", (pages.link(), pages.text("#said")), ("", outside))
+    pages.is_quiet("asking")
+
+
+def ends(pages, made):
+    """The header counts races, traps and deadlocks, each a link; the last turn says what the run came to."""
+    browser = pages.browser
+    browser.size(1366, 768)
+    for name, counts, link, headline in (("late", ["1 group of races"], "13", None), ("deadlock", ["1 deadlock"], None, "Deadlock: node 0 waits for node 1"),
+                                         ("traps", ["3 traps"], None, "Node 0 trapped at line 7: word out of range; Node 1 trapped")):
+        url = pages.save(name, made[name])
+        last = list(moments_of(documents.lines_of(made[name])))[-1]
+        browser.open(url)
+        pages.same(f"{name}: counts", pages.texts("#place a"), counts)
+        browser.value("document.querySelector('#place a').click(); new Promise(done => setTimeout(done, 50))")
+        if name == "traps":
+            pages.same("traps: the turn of the first", "traps: word out of range" in pages.text("#headline"), True)
+        else:
+            pages.same(f"{name}: where its count goes", pages.link(), link or str(last))
+        browser.key("End")
+        if headline and not (name == "traps" and "traps:" in pages.text("#headline")):
+            pages.same(f"{name}: the last turn", pages.text("#headline").startswith(headline), True)
+    browser.open(pages.save("jacobi_eight", made["jacobi_eight"]))
+    for turn in range(20, 400, 38):
+        pages.at_turn(turn)
+        seen = browser.value("""(() => { const nodes = document.querySelector('#nodes').getBoundingClientRect();
+          return [...document.querySelectorAll('.node.now .word.touched')].every(word => { const box = word.getBoundingClientRect();
+            return box.top >= nodes.top - 1 && box.bottom <= nodes.bottom + 1 && box.left >= nodes.left - 1 && box.right <= nodes.right + 1; }); })()""")
+        pages.same(f"the word of the act is seen at {turn}", seen, True)
+    pages.same("labels above the columns", "old[" in pages.text("#headings") or "new[" in pages.text("#headings"), True)
+    pages.is_quiet("ends")
 
 
 def part(pages, whole, shorter):
@@ -280,6 +416,10 @@ def look(pages, source):
         frame(pages, document)
         states(pages, name, document)
     keys(pages, made["late"])
+    for name in ("late", "late_part", "collecting", "deadlock"):
+        finding(pages, name, made[name])
+    asking(pages, made["late"])
+    ends(pages, made)
     printed(pages, made["late"])
     part(pages, made["late"], made["late_part"])
     document = source.hostile()

@@ -16,7 +16,7 @@ SHOWN = """(() => {
     names: panel.querySelector('.chips').textContent, stored: panel.querySelector('.stored .caption').textContent,
     isNow: panel.classList.contains('now') });
   return { nodes: [...document.querySelectorAll('section.node')].map(node), flight: texts(document, '#flight li'),
-    flightTitle: document.querySelector('#flight h2').textContent, headline: document.querySelector('#headline').textContent,
+    flightTitle: document.querySelector('#flight h2').textContent, headline: document.querySelector('#headline').textContent, because: document.querySelector('#because').textContent,
     line: texts(document, '#source .now .number'), place: document.querySelector('#place').textContent, hash: location.hash };
 })()"""
 
@@ -53,6 +53,11 @@ def followed(before, state):
     return state | {"intervals": [entry for name, entry in stored.items() if not is_covered(name)]}
 
 
+def is_ended(headline):
+    """Whether a headline says what the run came to; then the turn's own is the first sentence below it."""
+    return headline.startswith("Deadlock: ") or re.match(r"Node \d+ trapped at", headline)
+
+
 class Differs(Exception):
     """The page shows something else."""
 
@@ -62,6 +67,8 @@ class Looks:
 
     def __init__(self):
         self.passed = 0
+        # Whether all words in use are shown: at most 64.
+        self.are_few = True
 
     def same(self, what, shown, wanted):
         if shown != wanted:
@@ -82,7 +89,8 @@ class Looks:
         act = turn and turn["act"]
         self.same(f"{name}: line", shown["line"], [str(act["line"])] if act else [])
         if turn:
-            self.same(f"{name}: node", re.match(r"Node (\d+)", shown["headline"])[1], str(turn["node"]))
+            own = shown["because"] if is_ended(shown["headline"]) else shown["headline"]
+            self.same(f"{name}: node", re.match(r"Node (\d+)", own)[1], str(turn["node"]))
             self.same(f"{name}: place", f"turn {turn['turn']} {place}" in shown["place"], True)
             self.same(f"{name}: link", shown["hash"], f"#turn={turn['turn']}")
 
@@ -107,4 +115,5 @@ class Looks:
         self.same(f"{name}: lacks", bool(page["lacks"]), bool(state["lacks"]))
         for word, value in page["words"].items():
             self.same(f"{name}, word {word}", value, "–" if copy == "absent" else state["words"].get(word, "0"))
-        self.same(f"{name}: words not shown", set(state["words"]) - set(page["words"]), set())
+        if self.are_few:
+            self.same(f"{name}: words not shown", set(state["words"]) - set(page["words"]), set())

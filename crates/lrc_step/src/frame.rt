@@ -50,6 +50,7 @@ main > * { min-height: 0; overflow: auto; scrollbar-width: thin; }
 #source .number { color: var(--soft); font-size: .8rem; text-align: right; padding-right: .4em; }
 #source .next { font-size: .75rem; white-space: nowrap; padding-left: .2em; }
 #source code { white-space: pre; overflow: hidden; text-overflow: ellipsis; tab-size: 4; min-height: 1.35em; }
+#source .now code { white-space: pre-wrap; overflow: visible; overflow-wrap: anywhere; }
 #source .now { background: var(--now-field); box-shadow: inset .25rem 0 var(--now); font-weight: 700; }
 #source .raced .number { box-shadow: inset -.2rem 0 var(--race); }
 
@@ -109,11 +110,12 @@ main > * { min-height: 0; overflow: auto; scrollbar-width: thin; }
 .rows .words { gap: .1em; }
 .rows .node, .rows .node .badge, .rows .node .time li { line-height: 1.15; }
 .rows .chips { min-height: 0; }
-.rows .word { min-width: calc(var(--digits) * 1ch + .6em); padding: 0; border-width: .1rem; }
+.rows .word { flex: none; width: calc(max(var(--digits) * 1ch, var(--label) * .62em) + .6em); min-width: 0; padding: 0; border-width: .1rem; overflow: hidden; text-overflow: ellipsis; }
+.rows .headings .name { display: block; overflow: hidden; text-overflow: ellipsis; white-space: nowrap; }
 .rows .word .value { font-size: 1em; text-decoration: none; }
 .rows .stale::after { border-width: .22em; }
 .rows .chips { flex-wrap: nowrap; overflow: hidden; white-space: nowrap; }
-.rows .node:not(.headings) h3, .rows .notes, .rows .name, .rows .note, .rows .stored, .rows .time::before, .rows .line .caption { display: none; }
+.rows .node:not(.headings) h3, .rows .notes, .rows .node:not(.headings) .name, .rows .note, .rows .stored, .rows .time::before, .rows .line .caption { display: none; }
 
 #story { grid-area: story; display: flex; gap: .6rem 1.5rem; }
 .rows #story { flex-direction: column; }
@@ -150,10 +152,13 @@ kbd { padding: 0 .3em; margin-right: .3em; border: .08rem solid var(--line); bor
 #timeline text.limit { fill: var(--soft); font-size: .75em; text-anchor: end; }
 #timeline text.after { text-anchor: start; }
 
-#controls { display: flex; flex-wrap: wrap; gap: .35rem; align-items: center; }
-#controls input { flex: 1 1 12rem; accent-color: var(--now); height: 1.8rem; }
-button { padding: .2rem .6rem; border: .08rem solid var(--line); border-radius: .35rem; background: var(--field); color: inherit;
-  font: inherit; font-size: .95rem; cursor: pointer; }
+#controls { display: flex; flex-wrap: wrap; gap: .3rem; align-items: center; }
+#controls input { flex: 1 1 6rem; min-width: 4rem; accent-color: var(--now); height: 1.8rem; }
+#said:not(:empty) { position: fixed; right: .9rem; bottom: 3.2rem; padding: .3rem .8rem; border-radius: .35rem; background: var(--ink); color: var(--paper); font-weight: 600; }
+#asked { width: 18rem; max-width: 100%; margin: .5rem .5rem 0 0; padding: .2rem .5rem; border: .08rem solid var(--line); border-radius: .35rem; background: var(--field);
+  color: inherit; font: inherit; }
+button { padding: .2rem .42rem; border: .08rem solid var(--line); border-radius: .35rem; background: var(--field); color: inherit;
+  font: inherit; font-size: .82rem; cursor: pointer; }
 dialog button { margin-top: 1rem; }
 dialog dl + dl { margin-top: 1rem; }
 dialog { margin: auto; padding: 1.2rem 1.6rem; border: .1rem solid var(--line); border-radius: .6rem; background: var(--paper); color: inherit; }
@@ -201,18 +206,34 @@ dialog { margin: auto; padding: 1.2rem 1.6rem; border: .1rem solid var(--line); 
   <button data-key="Shift+ArrowRight" title="ten turns on (Shift &rarr;)">+10</button>
   <button data-key="End" title="to the last turn (End)">Last</button>
   <button data-key="a" title="to the next act (a)">Act</button>
-  <button data-key="r" title="to the next act that races (r)">Race</button>
+  <button data-key="R" title="to the act before that races (R)">&lsaquo; Race</button>
+  <button data-key="r" title="to the next act that races (r)">Race &rsaquo;</button>
+  <button data-key="[" title="to the act before on the same word or lock ([)">&lsaquo; Word</button>
+  <button data-key="]" title="to the next act on the same word or lock (])">Word &rsaquo;</button>
+  <button data-key="{" title="to the act before of the same node ({)">&lsaquo; Node</button>
+  <button data-key="}" title="to the next act of the same node (})">Node &rsaquo;</button>
+  <button data-key="g" title="to a turn, an act or a line (g)">Go to</button>
+  <button data-key="/" title="to the next headline with a text (/)">Find</button>
+  <button data-key="n" title="to the next headline with the same text (n)">Again</button>
   <button data-key=" " title="play and stop (Space)" id="play">Play</button>
   <input id="slider" type="range" min="0" aria-label="turn">
   <button data-key="?" title="keys and signs (?)">Help</button>
+  <output id="said"></output>
 </nav>
+<dialog id="ask" aria-labelledby="asking">
+  <form method="dialog"><label id="asking" for="asked"></label><br><input id="asked" autocomplete="off" spellcheck="false"><button>Go</button></form>
+</dialog>
 <dialog id="help" aria-label="Keys and signs">
   <dl>
     <dt><kbd>&rarr;</kbd> <kbd>&larr;</kbd></dt><dd>one turn on, one back (also Page Down, Page Up)</dd>
     <dt><kbd>Shift &rarr;</kbd> <kbd>Shift &larr;</kbd></dt><dd>ten turns</dd>
     <dt><kbd>Home</kbd> <kbd>End</kbd></dt><dd>to the start, to the last turn</dd>
     <dt><kbd>a</kbd></dt><dd>to the next act: turns that only take or send are left out</dd>
-    <dt><kbd>r</kbd></dt><dd>to the next act that races</dd>
+    <dt><kbd>r</kbd> <kbd>R</kbd></dt><dd>to the next act that races, to the one before</dd>
+    <dt><kbd>[</kbd> <kbd>]</kbd></dt><dd>to the act before and after on the same word or lock</dd>
+    <dt><kbd>{</kbd> <kbd>}</kbd></dt><dd>to the act before and after of the same node</dd>
+    <dt><kbd>g</kbd></dt><dd>asks where to go: 13 is turn 13, a8 is act 8, l9 is the next act of line 9</dd>
+    <dt><kbd>/</kbd> <kbd>n</kbd></dt><dd>asks for a text, and goes to the next headline that has it; to the next again, from the end to the start</dd>
     <dt><kbd>Space</kbd></dt><dd>play and stop</dd>
   </dl>
   <dl>

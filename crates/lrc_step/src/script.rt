@@ -29,7 +29,8 @@ function readRun(text) {
   run.momentOfAct = new Map(run.turns.flatMap(({ act }, k) => act ? [[act.position, k + 1]] : []));
   run.pairs = run.races.flatMap(({ race, pairs }) => pairs.map(pair => ({ race, pair: pair.map(act => run.momentOfAct.get(act)) }))).concat(racesBeyond(run));
   Object.assign(run, momentsOf(run), usesOf(run));
-  return Object.assign(run, { isPart: run.turns[0]?.turn > 0 || run.turns.length > 0 && goesOn(run) });
+  run.goesOn = run.turns.length > 0 && goesOn(run);
+  return Object.assign(run, { isPart: run.turns[0]?.turn > 0 || run.goesOn });
 }
 
 /** Whether some node comes to another end, or to another line, than it has at the last turn that is shown. */
@@ -130,6 +131,9 @@ function labelled(kind, number) {
   const place = label?.of === "words" ? `[${number - label.from}]` : "";
   return label ? `${kind} ${number} (${label.name}${place})` : `${kind} ${number}`;
 }
+/** A word's label alone, and the room that it takes above a column of values: at most that of nine signs. */
+function nameOf(word) { return / \((.*)\)$/.exec(labelled("word", word))?.[1] ?? ""; }
+function labelWidth(word) { return `--label: ${Math.min(9, Math.max(nameOf(word).length, String(word).length))}`; }
 function counted(count, thing) { return count === 1 ? `1 ${thing}` : `${count} ${thing}s`; }
 
 /** At most five, the rest as a number. */
@@ -169,6 +173,21 @@ const messageWords = {
 function kindOf({ message }) { return message.split(" ")[0]; }
 function numberOf({ message }) { return +message.match(/ (\d+)/)[1]; }
 function inWords(message) { return messageWords[kindOf(message)](numberOf(message)); }
+
+/** What the run came to, as the headline of its last turn: a deadlock, or else where nodes trapped. */
+function ending() {
+  const deadlocks = run.explain.filter(line => line.startsWith("deadlock: "));
+  if (deadlocks.length) return `Deadlock: ${deadlocks.map(line => line.slice("deadlock: ".length)).join("; ")}`;
+  const { states } = run.moments[lastMoment];
+  return states.flatMap((state, node) => state.waits.startsWith("trapped") ? [`Node ${node} trapped at line ${state.at}: ${traps[state.waits.split(" ")[1]]}`] : []).join("; ");
+}
+
+/** The headline of the turn that is shown: at the last turn of the run what it came to, where that is more than its own. */
+function shownHeadline() {
+  const own = headline(run.moments[at]);
+  const end = at > 0 && at === lastMoment && !run.goesOn && run.moments[at].turn.act?.kind !== "trap" ? ending() : "";
+  return end ? [end, `${own}. `] : [own, ""];
+}
 
 function headline({ turn, states }) {
   if (!turn) return !run.turns.length ? "No turn is shown" : run.turns[0].turn ? `Before turn ${run.turns[0].turn}` : "Before the first turn";
@@ -289,20 +308,38 @@ function draw() {
   drawTimeline(turn, states, flight, scale);
   reveal(regions.source.querySelector(".now, .badge"), regions.source);
   if (turn) reveal(document.getElementById(`node-${turn.node}`), regions.nodes);
+  for (const word of regions.nodes.querySelectorAll(".node.now .word.touched")) revealWord(word);
   regions.slider.value = at;
   regions.slider.setAttribute("aria-valuetext", regions.headline.textContent);
 }
 
 function drawHeader(turn, before) {
   const last = run.turns.at(-1)?.turn;
-  const whole = run.isPart ? `part: turns ${run.turns[0].turn} to ${last}` : last === undefined ? "no turn shown" : counted(run.turns.length, "turn");
+  const whole = last === undefined ? "no turn shown" : `${run.isPart ? "part: " : ""}turns ${run.turns[0].turn} to ${last}`;
   const place = turn ? `turn ${turn.turn} ${run.isPart ? `(part: ${run.turns[0].turn} to ${last})` : `of ${last}`}` : whole;
   const act = turn?.act ? [`act ${turn.act.position}`, `line ${turn.act.line}`] : [];
-  const races = run.races.length ? [counted(run.races.filter(({ race }) => race).length, "race")] : [];
-  regions.place.textContent = [run.program, counted(run.nodes, "node"), ...races, place, ...act].join(" \u00b7 ");
+  const parts = [run.program, counted(run.nodes, "node"), ...counts(), place, ...act];
+  regions.place.replaceChildren(...parts.flatMap((part, k) => k ? [" \u00b7 ", part] : [part]));
   const marks = [...new Set(racesAt(at).map(raceName))].map(name => marked(name, { "race-mark": true }));
-  regions.headline.replaceChildren(headline(run.moments[at]), ...marks);
-  regions.because.textContent = because(run.moments[at], before[turn?.node]);
+  const [first, then] = shownHeadline();
+  regions.headline.replaceChildren(first, ...marks);
+  regions.because.textContent = then + because(run.moments[at], before[turn?.node]);
+}
+
+/** How many groups of races, traps and deadlocks the run has, each a link to the turn of the first, where that is shown. */
+function counts() {
+  const among = begins => run.explain.filter(line => begins.test(line)).length;
+  const isRaced = (_, moment) => run.pairs.some(({ pair }) => pair[1] === moment || pair[1] === Infinity && pair[0] === moment);
+  return [
+    counted(among(/^race line /), "group of races", "groups of races", run.moments.findIndex(isRaced)),
+    counted(among(/^node \d+ trapped /), "trap", "traps", run.moments.findIndex(({ turn }) => turn?.act?.kind === "trap")),
+    counted(among(/^deadlock: /), "deadlock", "deadlocks", run.goesOn ? 0 : lastMoment),
+  ].filter(part => part);
+
+  function counted(count, one, many, moment) {
+    const text = `${count} ${count === 1 ? one : many}`;
+    return count === 0 ? null : moment > 0 ? make("a", { href: `#turn=${run.moments[moment].turn.turn}` }, text) : text;
+  }
 }
 
 function drawSource(turn, states) {
@@ -315,6 +352,14 @@ function drawSource(turn, states) {
       make("span", { class: "next", title: `next: node ${next}` }, ...next.length > 3 && run.nodes > 4 ? [badge(counted(next.length, "node"))] : next.map(badge)),
       make("code", { title: text }, text.slice(0, comment), caption(text.slice(comment))));
   }));
+}
+
+/** Scrolls to a word of the act, below the headings of a table. */
+function revealWord(word) {
+  const { nodes, headings } = regions;
+  if (nodes.scrollHeight <= nodes.clientHeight && nodes.scrollWidth <= nodes.clientWidth) return;
+  word.style.scrollMarginTop = `${headings.offsetHeight}px`;
+  word.scrollIntoView({ block: "nearest", inline: "nearest" });
 }
 
 /** Scrolls a region, where it scrolls by itself, until a part of it is seen. */
@@ -348,10 +393,12 @@ function drawNode(view) {
 
 /** Above the rows that many nodes have: the nodes of the times, the words of the pages. */
 function drawHeadings(pages) {
-  const cells = (name, kind, texts) => make("ol", { class: name }, ...texts.map(text => make("li", { class: kind }, text)));
-  const ofPages = [...pages].map(([page, words]) => make("div", { class: "page" }, make("h3", {}, `page ${page}`), cells("words", "word", words)));
+  const cells = (name, items) => make("ol", { class: name }, ...items);
+  const ofWords = words => words.map(word => make("li", { class: "word", style: labelWidth(word), title: labelled("word", word) },
+    word, make("span", { class: "name" }, nameOf(word))));
+  const ofPages = [...pages].map(([page, words]) => make("div", { class: "page" }, make("h3", {}, `page ${page}`), cells("words", ofWords(words))));
   regions.headings.replaceChildren(make("h2", {}), make("span", {}, "next"), make("span", {}),
-    cells("time", null, run.states.map((_, node) => node)), make("div", { class: "pages" }, ...ofPages), make("span", {}));
+    cells("time", run.states.map((_, node) => make("li", {}, node))), make("div", { class: "pages" }, ...ofPages), make("span", {}));
 }
 
 function pageCopy(view, copy, words) {
@@ -378,6 +425,7 @@ function wordCell({ node, state, before, turn, raced }, { copy, twin }, word) {
   const note = isTouched ? { read: "read", write: "written" }[turn.act.kind] : twin && twinValue !== value && !newer ? `twin ${twinValue}` : "";
   return make("li", {
     class: classes({ word: true, touched: isTouched || isRaced, raced: isRaced, stale: newer, changed: value !== valueOf(before, word) }),
+    style: labelWidth(word),
     title: newer ? `node ${newer.node} wrote ${newer.value} at act ${newer.position}, line ${newer.line}` : labelled("word", word),
   },
     marked(labelled("word", word).slice("word ".length), { name: true }),
@@ -411,7 +459,7 @@ function notices({ state, before }) {
 }
 
 function drawStory(turn, flight) {
-  const why = run.why.get(turn?.act?.position)?.slice(1) ?? [];
+  const why = reasonFirst(run.why.get(turn?.act?.position)?.slice(1) ?? []);
   const flying = flight.slice(-12).map(message => messageItem(message, { fresh: message.sent === at && turn }));
   const more = flight.length > 12 ? [make("li", {}, `${flight.length - 12} more`)] : [];
   regions.why.replaceChildren(
@@ -419,6 +467,13 @@ function drawStory(turn, flight) {
     ...turn?.take ? list("Taken", [messageItem(turn.take)]) : [],
     ...at === lastMoment ? list("The run", run.explain.filter(line => !line.includes(" prints ")).map(lineItem)) : []);
   regions.flight.replaceChildren(...list(flight.length ? `In flight: ${flight.length}` : "Nothing in flight", [...more, ...flying]));
+}
+
+/** The reason that the act is shown for comes first: what it gives, and its races. A line that stands deeper goes with the one above it. */
+function reasonFirst(lines) {
+  const isReason = line => /^  (gives|races)/.test(line);
+  const heads = lines.map((line, k) => lines.slice(0, k + 1).findLast(above => /^  \S/.test(above)) ?? line);
+  return [...lines.filter((_, k) => isReason(heads[k])), ...lines.filter((_, k) => !isReason(heads[k]))];
 }
 
 function lineItem(line) {
@@ -532,8 +587,14 @@ const keys = {
   "ArrowLeft": () => go(at - 1), "ArrowRight": () => go(at + 1),
   "PageUp": () => go(at - 1), "PageDown": () => go(at + 1), // what a presenter's clicker sends
   "Shift+ArrowLeft": () => go(at - 10), "Shift+ArrowRight": () => go(at + 10),
-  "a": () => goToNext(({ turn }) => turn.act),
-  "r": () => goToNext((_, moment) => racesAt(moment).length),
+  "a": () => goToNext(({ turn }) => turn.act, "no act after this turn"),
+  "r": () => goToNext((_, moment) => racesAt(moment).length, "no act after this one races"),
+  "R": () => goBack((_, moment) => racesAt(moment).length, "no act before this one races"),
+  "[": () => onTheSame(goBack, "before"), "]": () => onTheSame(goToNext, "after"),
+  "{": () => ofTheSame(goBack, "before"), "}": () => ofTheSame(goToNext, "after"),
+  "g": () => ask("Turn 13, act a8, or the next act of line l9:", goToNumber),
+  "/": () => ask("The next headline with:", text => find(text)),
+  "n": () => find(sought),
   " ": () => play(!playing),
   "?": () => regions.help.showModal(),
 };
@@ -546,7 +607,10 @@ function press(key) {
 function onKey(event) {
   const { key: name, shiftKey, ctrlKey, metaKey, altKey, target } = event;
   const key = shiftKey && name.startsWith("Arrow") ? `Shift+${name}` : name;
-  const isForAnother = ctrlKey || metaKey || altKey || regions.help.open || (key === " " && target.closest("nav button"));
+  // Where a sign is typed with AltGr, or with Alt, the sign is the key.
+  const isSign = /^[^\w ]$/.test(name);
+  const isChord = metaKey || (isSign ? ctrlKey && !altKey : ctrlKey || altKey);
+  const isForAnother = isChord || regions.help.open || regions.ask.open || (key === " " && target.closest("nav button"));
   if (isForAnother || !(key in keys)) return;
   event.preventDefault();
   press(key);
@@ -555,15 +619,72 @@ function onKey(event) {
 function go(moment) {
   at = Math.max(0, Math.min(lastMoment, moment));
   history.replaceState(null, "", at ? `#turn=${run.moments[at].turn.turn}` : "#");
+  say("");
   draw();
 }
 
-function goToNext(holds) {
-  const moment = run.moments.findIndex((moment, k) => k > at && holds(moment, k));
-  if (moment > 0) go(moment);
+/** Goes to a moment, or says why there is none. */
+function goOr(moment, none) { if (moment > 0) go(moment); else say(none); }
+function goToNext(holds, none) { goOr(run.moments.findIndex((moment, k) => k > at && holds(moment, k)), inPart(none)); }
+function goBack(holds, none) { goOr(run.moments.findLastIndex((moment, k) => 0 < k && k < at && holds(moment, k)), inPart(none)); }
+function inPart(text) { return run.isPart ? `${text}, in this part` : text; }
+
+/** To an act beside this one on the same word or lock. */
+function onTheSame(goOn, side) {
+  const thing = touched(run.moments[at].turn?.act);
+  if (thing) goOn(({ turn }) => touched(turn.act) === thing, `no act ${side} this one touches ${thing}`);
+  else say("this turn touches no word and no lock");
+}
+function touched(act) {
+  return !act ? null : act.word !== null ? labelled("word", act.word) : ["acquire", "release"].includes(act.kind) ? labelled("lock", act.lock) : null;
 }
 
-function goToLink() { go(run.turns.findIndex(({ turn }) => location.hash === `#turn=${turn}`) + 1); }
+/** To an act beside this turn of the same node. */
+function ofTheSame(goOn, side) {
+  const { turn } = run.moments[at];
+  if (turn) goOn(other => other.turn.act && other.turn.node === turn.node, `no act of node ${turn.node} ${side} this turn`);
+  else say("no node acts here");
+}
+
+/** To a turn by its number, to an act (a8), or to the next act of a line (l9). */
+function goToNumber(text) {
+  const [, kind, digits] = /^([al]?) *(\d+)$/.exec(text.trim().toLowerCase()) ?? [];
+  const number = Number(digits);
+  if (!digits) say(`no number: ${text}`);
+  else if (kind === "a") goOr(run.momentOfAct.get(number), inPart(`no act ${number}`));
+  else if (kind === "l") goToNext(({ turn }) => turn.act?.line === number, `no act of line ${number} after this turn`);
+  else goOr(momentOfTurn(number), noTurn(number));
+}
+function momentOfTurn(number) { return run.turns.findIndex(({ turn }) => turn === number) + 1; }
+function noTurn(number) {
+  return run.turns.length ? `no turn ${number}: ${run.isPart ? "this part" : "the run"} has turns ${run.turns[0].turn} to ${run.turns.at(-1).turn}` : `no turn ${number}`;
+}
+
+let sought = "";
+
+/** To the next headline that has a text, from the end to the start. */
+function find(text) {
+  sought = text;
+  if (!text) return say("no text to find: press / first");
+  const order = [...run.moments.keys()].map(k => (at + 1 + k) % run.moments.length).filter(k => k > 0);
+  goOr(order.find(k => headline(run.moments[k]).toLowerCase().includes(text.toLowerCase())) ?? 0, inPart(`no headline has: ${text}`));
+}
+
+function ask(label, then) {
+  regions.asking.textContent = label;
+  regions.asked.value = "";
+  regions.ask.querySelector("form").onsubmit = () => then(regions.asked.value);
+  regions.ask.showModal();
+}
+
+function say(text) { regions.said.textContent = text; }
+
+function goToLink() {
+  const [, turn] = /^#turn=(\d+)$/.exec(location.hash) ?? [];
+  const moment = turn ? momentOfTurn(Number(turn)) : 0;
+  go(moment);
+  if (turn && !moment) say(noTurn(turn));
+}
 
 let playing = null;
 
@@ -577,7 +698,7 @@ function start() {
   const pages = run.turns.flatMap(({ state }) => state.pages);
   const digits = pages.flatMap(({ words }) => Object.values(words)).reduce((most, value) => Math.max(most, value.length), 1);
   run.isCollected = pages.some(({ keeper, base }) => keeper > 0 || base);
-  document.title = `${run.program}, ${counted(run.turns.length, "turn")}`;
+  document.title = run.turns.length ? `${run.program}, turns ${run.turns[0].turn} to ${run.turns.at(-1).turn}` : `${run.program}, no turn`;
   document.body.style = `--digits: ${digits}; --narrow: ${Math.min(1, 12 / digits)}; --badges: ${Math.min(4, run.nodes)}; --nodes: ${run.nodes}`;
   document.body.className = run.nodes > 4 ? "rows" : run.nodes < 3 ? "wide" : "";
   regions.nodes.append(...run.states.map((_, node) => make("section", { class: "node", id: `node-${node}`, "aria-label": `node ${node}` })));
