@@ -10,6 +10,7 @@ use Rattle.lrc_trace.specs.Conflict.{Accesses, Conflict, Writes}
 use Rattle.lrc_trace.specs.Run.{Does}
 use Rattle.lrc_trace.proofs.Positions.{Does-read, Does-deed, Does-one_node, Does-one_deed}
 use Rattle.lrc_why.specs.Deeds.{conflicts, is_write, same_word, word_accessed}
+use Rattle.lrc_why.specs.Positions.{IsAccess, IsRacing}
 
 both : (a b : Bool) → (a && b) ≡ true → (a ≡ true) × (b ≡ true)
 both true b h = (refl, h)
@@ -90,3 +91,26 @@ pub decided : (run : List Act) (i j : ℕ) (d e : Act) (b : Bool) → i < length
 decided run i j d e true li lj is = conflicting run i j (get_or run i d) (get_or run j e) (Does-read run i d li) (Does-read run j e lj) (sym is)
 decided run i j d e false li lj is =
     λ h. false≢true (is ∙ conflict_tests run i j (get_or run i d) (get_or run j e) (Does-read run i d li) (Does-read run j e lj) h)
+
+first_accesses : (run : List Act) (i j : ℕ) → Conflict run i j → IsAccess run i
+first_accesses run i j (p, q, w, at) = (p, w, at.first)
+
+second_accesses : (run : List Act) (i j : ℕ) → Conflict run i j → IsAccess run j
+second_accesses run i j (p, q, w, at) = (q, w, at.second)
+
+-- only an access races
+pub racing_accesses : (run : List Act) (node position k : ℕ) → IsRacing run node position k → IsAccess run position
+racing_accesses run node position k racing =
+    elim racing.races [
+      | inl before ↦ second_accesses run k position before.conflict
+      | inr behind ↦ first_accesses run position k behind.conflict
+    ]
+
+-- the act at a position is an access exactly if it is of a word
+pub access_there : (run : List Act) (i : ℕ) (d : Act) (w : ℕ) → i < length run → Some w ≡ word_accessed (get_or run i d).deed → IsAccess run i
+access_there run i d w li is =
+    ((get_or run i d).node, w, accesses_word run i (get_or run i d).node (get_or run i d).deed w (sym is) (Does-read run i d li))
+
+pub no_access : (run : List Act) (i : ℕ) (d : Act) → i < length run → None ≡ word_accessed (get_or run i d).deed → IsAccess run i → ⊥
+no_access run i d li is (p, w, there) =
+    let e = (access_is run i p (get_or run i d).node w (get_or run i d).deed there (Does-read run i d li)).1 in cc

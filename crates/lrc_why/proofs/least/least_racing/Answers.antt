@@ -1,7 +1,6 @@
-use Rattle.std.proofs.Common.{ℕ, ◌≤◌, ◌<◌, inl, inr, ⊎_elim, arith, subst, sym, ◌≡◌}
+use Rattle.std.proofs.Common.{ℕ, ⊎_elim, arith, subst, ◌≡◌}
 use Rattle.std.proofs.lemmas.Bool.{cases_eq}
 use Rattle.lrc_why.specs.Positions.{IsRacing}
-use Rattle.lrc_why.proofs.Telling.{acts_within}
 use Rattle.lrc_why.proofs.least.least_racing.Goals as goal
 
 pub loop-k-preserved : goal.loop-k-preserved
