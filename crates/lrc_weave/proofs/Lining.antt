@@ -14,8 +14,8 @@ use Rattle.lrc_post.specs.declared.parcel.Wire.{Wire}
 use Rattle.lrc_post.specs.declared.parcel.Wire.TheVariants.{Put, Took}
 use Rattle.lrc_protocol.specs.Run.{EntryRecord, Flying, sent_by}
 use Rattle.lrc_weave.specs.Logs.{all_sent, sent_to}
-use Rattle.lrc_weave.specs.Matched.{is_put_by}
-use Rattle.lrc_weave.specs.Compared.{sent_as, only_to, puts_by_each, with_put, line_at, AreNext, AreAllNext, AreSent}
+use Rattle.lrc_weave.specs.Matched.{is_put_by, sent_as}
+use Rattle.lrc_weave.specs.Compared.{only_to, puts_by_each, with_put, line_at, AreNext, AreAllNext, AreSent}
 use Rattle.lrc_weave.proofs.Places.{nothing, read, taken_more}
 
 abbrev Line : Type 0

@@ -13,10 +13,6 @@ use Rattle.lrc_weave.specs.declared.putting.PutsByNode.{PutsByNode}
 use Rattle.lrc_weave.specs.declared.takes.TakesLeft.{TakesLeft}
 use Rattle.lrc_weave.specs.Matched.{is_put_by, message_of, place_taken, message_at, own_in, own_of}
 
--- a message as a turn with this stamp sends it
-abbrev pub sent_as : ℕ → EnvelopeRecord → Flying
-sent_as stamp envelope = record { envelope = envelope; stamp = stamp; delivered = false }
-
 -- those of some messages that are for a node
 abbrev pub only_to : ℕ → List Flying → List Flying
 only_to to messages = filter (λ flying. flying.envelope.to == to) messages

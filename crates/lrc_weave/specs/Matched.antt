@@ -1,23 +1,39 @@
 -- Logs and mailboxes that tell of the same messages.
-use Rattle.std.specs.Prelude.{◌≡◌, ℕ, ◌<◌, ◌==◌, Bool, true, false, Option, Some, None, Result, Ok, Err, List}
+use Rattle.std.specs.Prelude.{◌≡◌, ℕ, ◌<◌, ◌==◌, ◌&&◌, Bool, true, false, if◌then◌else◌, Option, Some, None, option_map, Result, Ok, Err, List}
 use Rattle.std.specs.Prelude.{[], ◌∷◌, ◌++◌, length, map, filter, filter_map, flat_map, slice_get}
 use Rattle.lrc_wire.specs.declared.fault.WireFault.{WireFault}
 use Rattle.lrc_envelope.specs.Envelope.{EnvelopeRecord}
 use Rattle.lrc_wire.specs.Reading.{envelope_of}
+use Rattle.lrc_wire.specs.Spelling.{bytes_of}
 use Rattle.lrc_post.specs.declared.parcel.Wire.{Wire}
 use Rattle.lrc_post.specs.declared.parcel.Wire.TheVariants.{Put, Took}
 use Rattle.lrc_post.specs.Mailbox.{MailboxRecord}
 use Rattle.lrc_protocol.specs.Run.{Input, run, taken, EntryRecord, next_stamp, Flying}
 use Rattle.lrc_weave.specs.Logs.{sent_to}
 
--- a message that was read, with its stamp
-abbrev pub read_with : ℕ → Result EnvelopeRecord WireFault → Option Flying
-read_with stamp (Ok envelope) = Some (record { envelope = envelope; stamp = stamp; delivered = false })
-read_with stamp (Err fault) = None
+-- these bytes are those
+abbrev pub same_bytes : List ℕ → List ℕ → Bool
+same_bytes [] [] = true
+same_bytes [] (b ∷ those) = false
+same_bytes (a ∷ these) [] = false
+same_bytes (a ∷ these) (b ∷ those) = a == b && same_bytes these those
 
--- the message of a put; none where the bytes spell none
+-- what bytes were read as, if nodes write them so
+abbrev pub if_written : List ℕ → Result EnvelopeRecord WireFault → Option EnvelopeRecord
+if_written bytes (Ok envelope) = if same_bytes bytes (bytes_of envelope) then Some envelope else None
+if_written bytes (Err fault) = None
+
+-- the message that nodes write as these bytes, in version 2 of the format; none where they write none so
+abbrev pub written_as : List ℕ → Option EnvelopeRecord
+written_as bytes = if_written bytes (envelope_of bytes)
+
+-- a message as a turn with this stamp sends it
+abbrev pub sent_as : ℕ → EnvelopeRecord → Flying
+sent_as stamp envelope = record { envelope = envelope; stamp = stamp; delivered = false }
+
+-- the message of a put; none where its bytes are none that a node writes
 abbrev pub message_of : Wire → Option Flying
-message_of (Put from to stamp bytes) = read_with stamp (envelope_of bytes)
+message_of (Put from to stamp bytes) = option_map (sent_as stamp) (written_as bytes)
 message_of (Took me place) = None
 
 -- an entry of a history is a put by this node
@@ -28,6 +44,15 @@ is_put_by node (Took me place) = false
 -- the messages that a node put, in order
 abbrev pub puts_by : ℕ → List Wire → List (Option Flying)
 puts_by node history = map message_of (filter (is_put_by node) history)
+
+-- the bytes of a put
+abbrev pub bytes_in : Wire → List ℕ
+bytes_in (Put from to stamp bytes) = bytes
+bytes_in (Took me place) = []
+
+-- the bytes that a node put, in order, each message by itself
+abbrev pub bytes_put_by : ℕ → List Wire → List (List ℕ)
+bytes_put_by node history = map bytes_in (filter (is_put_by node) history)
 
 -- the place that a take names
 abbrev pub place_taken : Wire → Option ℕ

@@ -1,13 +1,14 @@
 // What holds of woven events. Each function is a theorem: its body is empty, and its clause is the law.
 
-ghost use Rattle.std.specs.Prelude.{◌≡◌, ℕ, List, Some, length, map};
+ghost use Rattle.std.specs.Prelude.{◌≡◌, ℕ, List, Some, length, map, slice_get};
 ghost use Rattle.lrc_lang.specs.declared.program.Program.{Program};
 ghost use Rattle.lrc_protocol.specs.declared.event.Event.{Event};
 ghost use Rattle.lrc_protocol.specs.Node.{OptionsRecord};
 ghost use Rattle.lrc_protocol.specs.Run.{EntryRecord, World, Flying, run_of};
 ghost use Rattle.lrc_post.specs.Mailbox.{MailboxRecord};
-ghost use Rattle.lrc_weave.specs.Logs.{AreLogs};
-ghost use Rattle.lrc_weave.specs.Matched.{AreAlike};
+ghost use Rattle.lrc_wire.specs.Spelling.{bytes_of};
+ghost use Rattle.lrc_weave.specs.Logs.{AreLogs, sent_to};
+ghost use Rattle.lrc_weave.specs.Matched.{AreAlike, bytes_put_by};
 ghost use Rattle.lrc_weave.specs.Woven.{AreWoven};
 
 /// Events that make all turns of the logs of a program's nodes make a run with exactly these logs.
@@ -26,4 +27,14 @@ pub fn logs_that_match_their_mailboxes_can_be_woven()
         (logs : List (List EntryRecord)) (wires : List MailboxRecord)
         → AreLogs program nodes options logs → AreAlike logs wires → length wires ≡ length logs
         → (events : List Event) × (flight : List Flying) × AreWoven logs events flight }
+{}
+
+/// If the logs of nodes and their mailboxes record the same messages, the post was given what nodes write: what a node
+/// put into a mailbox are, message by message, the bytes that `encode` writes of what its log sends to the owner.
+pub fn the_post_was_given_what_nodes_write()
+    ensures { (logs : List (List EntryRecord)) (wires : List MailboxRecord) → AreAlike logs wires
+        → (owner node : ℕ) (mailbox : MailboxRecord) (log : List EntryRecord)
+        → slice_get wires owner ≡ Some mailbox → slice_get logs node ≡ Some log
+        → bytes_put_by node mailbox.history
+        ≡ map (λ flying. bytes_of flying.envelope) (sent_to owner log) }
 {}

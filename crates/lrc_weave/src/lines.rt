@@ -3,8 +3,8 @@
 ghost use Rattle.std.specs.Prelude.{◌≡◌, ◌==◌, ◌<◌, ◌∷◌, ◌↔◌, [], All, IfOk, IsTrue, Some, length, map, slice_index_or};
 ghost use Rattle.std.specs.List.{list_all};
 ghost use Rattle.lrc_protocol.specs.Run.{sent_by};
-ghost use Rattle.lrc_weave.specs.Compared.{AreAllNext, AreNext, AreSent, messages_left, puts_in, puts_left, sent_as};
-ghost use Rattle.lrc_weave.specs.Matched.{message_of};
+ghost use Rattle.lrc_weave.specs.Compared.{AreAllNext, AreNext, AreSent, messages_left, puts_in, puts_left};
+ghost use Rattle.lrc_weave.specs.Matched.{message_of, sent_as};
 
 use crate::putting::PutsByNode;
 use crate::spelled::Speller;
@@ -114,6 +114,7 @@ fn take_put(
 }
 
 // Whether an entry is the put of a message with this stamp.
+#[tactic(auto, using(crate::proofs::Spellings::put_of))]
 fn is_message(
     speller: &mut Speller,
     wire: &Wire,
@@ -128,7 +129,7 @@ fn is_message(
             stamp: sent,
             bytes,
             ..
-        } if *sent == stamp => speller.is_spelled(bytes, envelope),
+        } if *sent == stamp => speller.is_written(bytes, envelope),
         _ => Ok(false),
     }
 }

@@ -104,7 +104,7 @@ fn is_taken_from(
             bytes,
             ..
         } if stamp.checked_sub(before.max(*sent)) == Some(1) => {
-            speller.is_spelled(bytes, envelope)
+            speller.is_written(bytes, envelope)
         }
         _ => Ok(false),
     }

@@ -7,8 +7,8 @@ use Rattle.lrc_weave.proofs.takes.is_taken_from.Goals as goal
 
 pub returns-in-Put : goal.returns-in-Put
 returns-in-Put c =
-    subst (λ (w : Wire). IfOk c.is_spelled.result (λ is. IsTrue is ↔ IsTakenAs (message_of w) c.args.envelope.now c.args.before c.args.stamp))
+    subst (λ (w : Wire). IfOk c.is_written.result (λ is. IsTrue is ↔ IsTakenAs (message_of w) c.args.envelope.now c.args.before c.args.stamp))
     (sym c.in-Put.is) (
     taken_from c.args.before c.args.stamp c.in-Put.sent c.args.envelope.now c.in-Put.bytes c.deref.result.now _
-    c.is_spelled.result (search rules) (search rules) c.is_spelled.ensures
+    c.is_written.result (search rules) (search rules) c.is_written.ensures
     )

@@ -1,6 +1,6 @@
 use Rattle.std.proofs.Common.{[], ◌∷◌, IfOk, map, refl, rules, subst}
-use Rattle.lrc_weave.specs.Matched.{message_of}
-use Rattle.lrc_weave.specs.Compared.{AreNext, sent_as}
+use Rattle.lrc_weave.specs.Matched.{message_of, sent_as}
+use Rattle.lrc_weave.specs.Compared.{AreNext}
 use Rattle.lrc_weave.proofs.Lining.{sent_next}
 use Rattle.lrc_weave.proofs.lines.Lines.take_sent.Goals as goal
 

@@ -1,5 +1,6 @@
 use Rattle.std.proofs.Common.{true, map, take}
-use Rattle.lrc_weave.specs.Compared.{AreAllNext, messages_left, sent_as}
+use Rattle.lrc_weave.specs.Matched.{sent_as}
+use Rattle.lrc_weave.specs.Compared.{AreAllNext, messages_left}
 use Rattle.lrc_weave.proofs.lines.Lines.take_turn.Given as goal
 
 abbrev pub invariant-loop-envelope : goal.invariant-loop-envelope
