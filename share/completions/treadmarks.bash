@@ -12,7 +12,7 @@ _treadmarks_options() {
     why) echo "--nodes --steps --collect --order --page --events --seed --acts --act --and" ;;
     stats) echo "--nodes --steps --collect --order --page --events --seed --threads" ;;
     chart) echo "--nodes --steps --collect --order --page --events --seed --threads --acts --text --from --to --hide --source" ;;
-    judge) echo "--nodes --pairs --all" ;;
+    judge) echo "--nodes --pairs --all --memory --page --collect" ;;
     races) echo "--as --group --sure" ;;
     explore) echo "--nodes --most --outcomes --outcome --memory --tries --ignore-races" ;;
     esac
@@ -27,6 +27,7 @@ _treadmarks_values() {
     *,--order) echo "oldest newest twice random" ;;
     *,--page) echo "64 256" ;;
     *,--hide) echo "quiet" ;;
+    judge,--memory) echo "exact" ;;
     *,--memory) echo "flat lazy" ;;
     *,--events | *,--acts) echo FILE ;;
     *,--threads | *,--messages | *,--text | *,--source | *,--pairs | *,--all | *,--group | *,--sure | *,--outcomes | *,--ignore-races) ;;

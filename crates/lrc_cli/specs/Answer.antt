@@ -16,6 +16,8 @@ use Rattle.lrc_labels.specs.Reading.{Label}
 use Rattle.lrc_judge_all.specs.JudgesAll.{JudgesAll}
 use Rattle.lrc_judge_text.specs.Judgement.{Judges}
 use Rattle.lrc_judge_text.specs.PairsTold.{HasItsRaces, told_text}
+use Rattle.lrc_judge_text.specs.declared.memory.ExactMemory.{ExactMemory}
+use Rattle.lrc_page.specs.Page.{words_of}
 use Rattle.lrc_lint_fault.specs.Told.{TellsNoProgram}
 use Rattle.lrc_lint.specs.Linted.{LintsProgram}
 use Rattle.lrc_why_text.specs.Answers.{AnswersActs, RefusesActs}
@@ -68,6 +70,11 @@ IsPrintoutOfRounds program nodes steps out status =
 -- how many nodes the acts are of, where that is said
 abbrev pub judged_nodes : Judging → Option ℕ
 judged_nodes judging = option_map (λ nodes. nodes.count) judging.nodes
+
+-- the exact memory that the acts are held against, if one is named
+abbrev pub judged_memory : Judging → Option ExactMemory
+judged_memory judging =
+    option_map (λ exact. record { page_words = words_of exact.size; collect = exact.collect.count }) judging.memory
 
 -- the text shows a run that has the outcome of this number, and the search met no more states than it may
 abbrev pub ShowsOutcome : Exploring → Program → (places : List ℕ) → (number : ℕ) → List ℕ → ℕ → Type 0
@@ -148,8 +155,8 @@ pub record IsActsCharted (acts : ChartedActs) (charting : Charting) (text out : 
 
 -- a judgement of acts; where that is asked for, with each read that breaks a rule
 abbrev pub IsJudged : (all : Bool) → Judging → List ℕ → List ℕ → ℕ → Type 0
-IsJudged true judging text out status = JudgesAll (judged_nodes judging) judging.pairs text out status
-IsJudged false judging text out status = Judges (judged_nodes judging) judging.pairs text out status
+IsJudged true judging text out status = JudgesAll (judged_nodes judging) (judged_memory judging) judging.pairs text out status
+IsJudged false judging text out status = Judges (judged_nodes judging) (judged_memory judging) judging.pairs text out status
 
 -- What is printed, with the status: `ok` where the text is a program's, the report of what the program does in rounds on
 -- the plain machine, what is shown of its run, a judgement of acts, or what every order of the program comes to.

@@ -13,6 +13,7 @@ use Rattle.lrc_cli_args.specs.declared.choice.Choice.{Choice}
 use Rattle.lrc_cli_args.specs.declared.choice.Choice.TheVariants.{Check, Plain, Show, Judge, Explore, Lint, WhyActs, ChartActs}
 use Rattle.lrc_cli_args.specs.declared.choice.ChooseFault.{ChooseFault}
 use Rattle.lrc_cli_args.specs.declared.choice.ChooseFault.TheVariants.{Usage, BadNumber, NoMemory}
+use Rattle.lrc_cli_args.specs.declared.choice.ExactOptions.{ExactOptions}
 use Rattle.lrc_cli_args.specs.declared.choice.Exploring.{Exploring}
 use Rattle.lrc_cli_args.specs.declared.choice.ForeignActs.{ForeignActs}
 use Rattle.lrc_cli_args.specs.declared.choice.Form.{Form}
@@ -29,10 +30,10 @@ use Rattle.lrc_cli_args.specs.declared.choice.Topic.{Topic}
 use Rattle.lrc_cli_args.specs.declared.choice.Topic.TheVariants.{Commands, Command, Version}
 use Rattle.lrc_cli_args.specs.declared.choice.Way.{Way}
 use Rattle.lrc_cli_args.specs.declared.misfit.Misfit.{Misfit}
-use Rattle.lrc_cli_args.specs.declared.misfit.Misfit.TheVariants.{Order, RunOrder, Page, Form as FormMisfit, Seed, Threads, Messages, Part as PartMisfit, Memory as MemoryMisfit, Tries as TriesMisfit, IgnoredRaces, Topic as TopicMisfit, TraceForm, Hide, TextSource, SameAct, Sources, NoSource, RunOption, ChartRunOption, Number}
+use Rattle.lrc_cli_args.specs.declared.misfit.Misfit.TheVariants.{Order, RunOrder, Page, Form as FormMisfit, Seed, Threads, Messages, Part as PartMisfit, Memory as MemoryMisfit, ExactMemory, ExactOption, Tries as TriesMisfit, IgnoredRaces, Topic as TopicMisfit, TraceForm, Hide, TextSource, SameAct, Sources, NoSource, RunOption, ChartRunOption, Number}
 use Rattle.lrc_cli_words.specs.Commands.{is_command, treadmarks}
-use Rattle.lrc_cli_args.specs.Options.{AreChartedActs, AreForeignActs, AreOptions, AreRunOptions, HasBadCount, HasBadExploreNumber, HasChartedActsMisfit, HasForeignMisfit, HasFormMisfitIn, HasOptionsMisfit, HasRacesMisfit, HasValue, HasWayMisfitIn, IsAsking, IsChartTaken, IsHiding}
-use Rattle.lrc_cli_args.specs.Options.{IsExploreTaken, IsFlag, IsFormIn, IsJudgeTaken, IsMemory, IsPart, IsPicker, IsPlainTaken, IsRacesTaken, IsRunTaken, IsShowingTaken, IsStepTaken}
+use Rattle.lrc_cli_args.specs.Options.{AreChartedActs, AreForeignActs, AreOptions, AreRunOptions, HasBadCount, HasBadExploreNumber, HasChartedActsMisfit, HasExactMisfit, HasForeignMisfit, HasFormMisfitIn, HasOptionsMisfit, HasRacesMisfit, HasValue, HasWayMisfitIn, IsAsking, IsChartTaken, IsHiding}
+use Rattle.lrc_cli_args.specs.Options.{IsExactChosen, IsExploreTaken, IsFlag, IsFormIn, IsJudgeTaken, IsMemory, IsPart, IsPicker, IsPlainTaken, IsRacesTaken, IsRunTaken, IsShowingTaken, IsStepTaken}
 use Rattle.lrc_cli_args.specs.Options.{asks_outcomes, IsSimTaken, IsThreadsWayIn, IsTraceForm, IsTraceTaken, IsWayIn, IsWhyTaken, most_in, nodes_in, option_number, outcome_in, some_number_in, takes_tries, tries_in}
 
 -- no words at all stand for `sim -`
@@ -122,6 +123,7 @@ pub record IsJudging (rows : List Row) (judging : Judging) : Type 0 where
   pub nodes : some_number_in (codes "nodes") rows ≡ option_map (λ nodes. nodes.count) judging.nodes
   pub pairs : IsFlag (codes "pairs") judging.pairs rows
   pub all : IsFlag (codes "all") judging.all rows
+  pub memory : IsExactChosen rows judging.memory
 
 -- what is to be explored
 pub record IsExploring (rows : List Row) (exploring : Exploring) : Type 0 where
@@ -238,8 +240,11 @@ pub record HasThreadsMisfit (rows : List Row) (misfit : Misfit) : Type 0 where
   pub why : ((misfit ≡ RunOrder) × ((picker : Picker) → ¬ IsPicker (first_of (codes "order") rows) picker))
       ⊎ ((picker : Picker) × IsPicker (first_of (codes "order") rows) picker × HasOptionsMisfit rows misfit)
 
+-- of `judge`: what does not fit in its memory, then the number of nodes
 abbrev pub HasJudgeMisfit : List Row → Misfit → Type 0
-HasJudgeMisfit rows misfit = (misfit ≡ Number) × IsSomeAnd (some_number_in (codes "nodes") rows) (IsOutOfRange 1 16)
+HasJudgeMisfit rows misfit = HasExactMisfit rows misfit
+    ⊎ ((misfit ≡ Number) × ((memory : Option ExactOptions) × IsExactChosen rows memory)
+    × IsSomeAnd (some_number_in (codes "nodes") rows) (IsOutOfRange 1 16))
 
 -- a memory and whether outcomes are asked for are chosen by these matches
 abbrev pub AreSought : List Row → Memory → (outcomes : Bool) → Type 0
@@ -312,6 +317,8 @@ IsUsageKind Threads kind = kind ≡ ArgumentConflict
 IsUsageKind Messages kind = kind ≡ ArgumentConflict
 IsUsageKind PartMisfit kind = kind ≡ ArgumentConflict
 IsUsageKind MemoryMisfit kind = kind ≡ InvalidValue
+IsUsageKind ExactMemory kind = kind ≡ InvalidValue
+IsUsageKind ExactOption kind = kind ≡ ArgumentConflict
 IsUsageKind TriesMisfit kind = kind ≡ ArgumentConflict
 IsUsageKind IgnoredRaces kind = kind ≡ ArgumentConflict
 IsUsageKind TopicMisfit kind = kind ≡ InvalidSubcommand

@@ -13,6 +13,7 @@ use Rattle.lrc_envelope.specs.declared.picker.Picker.{Picker}
 use Rattle.lrc_envelope.specs.declared.picker.Picker.TheVariants.{Oldest, Newest, Twice}
 use Rattle.lrc_cli_args.specs.declared.choice.Asking.{Asking}
 use Rattle.lrc_cli_args.specs.declared.choice.ChartedActs.{ChartedActs}
+use Rattle.lrc_cli_args.specs.declared.choice.ExactOptions.{ExactOptions}
 use Rattle.lrc_cli_args.specs.declared.choice.ForeignActs.{ForeignActs}
 use Rattle.lrc_cli_args.specs.declared.choice.Form.{Form}
 use Rattle.lrc_cli_args.specs.declared.choice.Form.TheVariants as forms
@@ -143,6 +144,8 @@ pub record IsJudgeTaken (rows : List Row) : Type 0 where
   pub nodes : IsBareNumber (codes "nodes") rows
   pub pairs : IsFlagOption (codes "pairs") rows
   pub all : IsFlagOption (codes "all") rows
+  pub page : HasValue (codes "page") rows
+  pub collect : IsNumberOption (codes "collect") rows
 
 -- of `explore`
 pub record IsExploreTaken (rows : List Row) : Type 0 where
@@ -316,6 +319,16 @@ abbrev pub has_run_option : List Row → Bool
 has_run_option rows = list_any (λ name. is_given name rows)
     (codes "steps" ∷ codes "collect" ∷ codes "order" ∷ codes "events" ∷ codes "seed" ∷ [])
 
+-- the words give an option that only the exact memory has
+abbrev pub names_exact_option : List Row → Bool
+names_exact_option rows = list_any (λ name. is_given name rows) (codes "page" ∷ codes "collect" ∷ [])
+
+-- the exact memory is chosen by these matches, or none is
+abbrev pub IsExactChosen : List Row → Option ExactOptions → Type 0
+IsExactChosen rows None = (first_of (codes "memory") rows ≡ None) × (names_exact_option rows ≡ false)
+IsExactChosen rows (Some exact) = (first_of (codes "memory") rows ≡ Some (codes "exact"))
+    × IsPageSize (first_of (codes "page") rows) exact.size × (collect_in rows ≡ exact.collect.count)
+
 -- acts from anywhere are chosen by these matches
 pub record AreForeignActs (rows : List Row) (acts : ForeignActs) : Type 0 where
   pub file : first_of (codes "acts") rows ≡ Some acts.file.now
@@ -370,6 +383,15 @@ HasFormMisfitIn rows misfit =
 abbrev pub HasBadExploreNumber : List Row → Type 0
 HasBadExploreNumber rows = IsOutOfRange 1 16 (nodes_in rows) ⊎ IsOutOfRange 1 100000000 (most_in rows) ⊎ (outcome_in rows ≡ Some 0)
     ⊎ IsSomeAnd (tries_in rows) (IsOutOfRange 1 1000000)
+
+-- of the exact memory: another one is named, or an option of it is given without it; then the size of its pages; then the number
+abbrev pub HasExactMisfit : List Row → Misfit → Type 0
+HasExactMisfit rows misfit =
+    ((misfit ≡ unfit.ExactMemory) × IsSomeAnd (first_of (codes "memory") rows) (λ word. word ≢ codes "exact"))
+    ⊎ ((misfit ≡ unfit.ExactOption) × (first_of (codes "memory") rows ≡ None) × (names_exact_option rows ≡ true))
+    ⊎ ((misfit ≡ unfit.Page) × (first_of (codes "memory") rows ≡ Some (codes "exact")) × HasBadPage rows)
+    ⊎ ((misfit ≡ unfit.Number) × (first_of (codes "memory") rows ≡ Some (codes "exact"))
+    × ((size : Size) × IsPageSize (first_of (codes "page") rows) size) × IsOutOfRange 0 1000000 (collect_in rows))
 
 -- of `races`: no form has the word of the option
 abbrev pub HasRacesMisfit : List Row → Misfit → Type 0

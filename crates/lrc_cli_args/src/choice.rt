@@ -150,6 +150,14 @@ pub enum Shape {
     Why(Asking),
 }
 
+/// The exact memory that acts are held against.
+#[derive(Clone, Copy)]
+pub struct ExactOptions {
+    /// The size of a page.
+    pub size: Size,
+    pub collect: Collect,
+}
+
 /// The options of the command `judge`.
 #[derive(Clone, Copy)]
 pub struct Judging<'w> {
@@ -161,6 +169,8 @@ pub struct Judging<'w> {
     pub pairs: bool,
     /// Whether each read that is not allowed, and each that is not in order, is named, instead of the first.
     pub all: bool,
+    /// The exact memory that the reads are held against too, if one is named.
+    pub memory: Option<ExactOptions>,
 }
 
 /// The memory whose runs are searched.

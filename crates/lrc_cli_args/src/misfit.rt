@@ -33,6 +33,11 @@ const BAD_PART: &str =
 
 const BAD_MEMORY: &str = "invalid value for '--memory <MEMORY>': it is flat or lazy";
 
+const BAD_EXACT_MEMORY: &str = "invalid value for '--memory <MEMORY>': it is exact";
+
+const BAD_EXACT_OPTION: &str =
+    "the arguments '--page <WORDS>' and '--collect <N>' cannot be used without '--memory exact'";
+
 const BAD_TRIES: &str =
     "the argument '--tries <T>' is of '--memory lazy --outcomes' alone, and not of '--outcome <K>'";
 
@@ -80,6 +85,10 @@ pub(crate) enum Misfit {
     Part,
     /// The value of `--memory` is not one of its words.
     Memory,
+    /// The value of `--memory` in the command `judge` is not its word.
+    ExactMemory,
+    /// An option of the exact memory is given without it.
+    ExactOption,
     /// Runs in random orders are asked for without the list of lazy outcomes.
     Tries,
     /// Races are to be ignored, but outcomes are asked for or a memory is named.
@@ -143,6 +152,7 @@ fn usage_kind(misfit: Misfit) -> ErrorKind
         | Misfit::Threads
         | Misfit::Messages
         | Misfit::Part
+        | Misfit::ExactOption
         | Misfit::Tries
         | Misfit::IgnoredRaces
         | Misfit::TextSource
@@ -167,6 +177,8 @@ fn message_of(misfit: Misfit) -> &'static str {
         Misfit::Messages => BAD_MESSAGES,
         Misfit::Part => BAD_PART,
         Misfit::Memory => BAD_MEMORY,
+        Misfit::ExactMemory => BAD_EXACT_MEMORY,
+        Misfit::ExactOption => BAD_EXACT_OPTION,
         Misfit::Tries => BAD_TRIES,
         Misfit::IgnoredRaces => BAD_IGNORED_RACES,
         Misfit::Topic => BAD_TOPIC,

@@ -101,10 +101,10 @@ explain_command = with_showing_options (new_app (codes "explain"))
 abbrev pub stats_command : App
 stats_command = with_showing_options (new_app (codes "stats"))
 
--- the number of nodes need not be given
+-- neither the number of nodes nor a memory need be given
 abbrev pub judge_command : App
-judge_command = with_rule (with_rule (with_rule (with_rule (new_app (codes "judge")) file) (bare_number (codes "nodes"))) (flag_option (codes "pairs")))
-    (flag_option (codes "all"))
+judge_command = with_rule (with_rule (with_rule (with_rule (with_rule (with_rule (with_rule (new_app (codes "judge")) file) (bare_number (codes "nodes")))
+    (flag_option (codes "pairs"))) (flag_option (codes "all"))) (option (codes "memory"))) page) collect
 
 abbrev pub explore_command : App
 explore_command = with_rule (with_rule (with_rule (with_rule (with_rule (with_rule (with_rule (with_rule (new_app (codes "explore")) file) nodes) most)

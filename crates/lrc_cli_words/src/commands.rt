@@ -77,6 +77,9 @@ const PAIRS_HELP: &str = "Names every pair of acts that race, in place of the ra
 const ALL_HELP: &str =
     "Where reads are not allowed, or not in order, names each of them, in place of the first";
 
+const EXACT_HELP: &str =
+    "exact: also says whether each read gives what the exact memory has, with the pages of `--page` and the collections of `--collect`, which go with it alone";
+
 const MOST_HELP: &str = "How many states the search may meet: 1 to 100000000";
 
 const OUTCOMES_HELP: &str = "Shows every outcome of the runs, and looks for no race";
@@ -354,7 +357,10 @@ fn judge_command<'w>(alloc: Global) -> Result<Command<'w>, AllocError>
     let command = taking(Ok(command), file(alloc, ACTS_FILE_HELP));
     let command = taking(command, bare_number(alloc, "nodes", "N", ACTS_NODES_HELP));
     let command = taking(command, flag_option(alloc, "pairs", PAIRS_HELP));
-    taking(command, flag_option(alloc, "all", ALL_HELP))
+    let command = taking(command, flag_option(alloc, "all", ALL_HELP));
+    let command = taking(command, text(alloc, "memory", "MEMORY", EXACT_HELP));
+    let command = taking(command, page(alloc));
+    taking(command, collect(alloc))
 }
 
 fn explore_command<'w>(alloc: Global) -> Result<Command<'w>, AllocError>

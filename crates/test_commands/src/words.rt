@@ -51,6 +51,8 @@ pub enum Wanted {
     Run(Run),
     /// Of so many nodes, where it is given, by pairs or not.
     Judge(&'static str, Option<u32>, bool),
+    /// Against the exact memory with pages of this size, from so many intervals on.
+    JudgeExact(&'static str, Size, u32),
     /// With so many nodes and states, by outcomes or not.
     Explore(&'static str, u32, u32, bool, Memory, Option<u32>),
     /// The list of commands.
@@ -124,6 +126,13 @@ fn is_judging(made: &Judging<'_>, file: &str, nodes: Option<u32>, pairs: bool) -
     made.file == file && made.nodes.map(|nodes| nodes.count) == nodes && made.pairs == pairs
 }
 
+fn is_exact(made: &Judging<'_>, size: Size, collect: u32) -> bool {
+    match made.memory {
+        Some(memory) => memory.size == size && memory.collect.count == collect,
+        None => false,
+    }
+}
+
 fn is_exploring(made: &Exploring<'_>, nodes: u32, most: u32, outcomes: bool) -> bool {
     made.nodes.count == nodes && made.most.count == most && made.outcomes == outcomes
 }
@@ -180,7 +189,10 @@ fn is_wanted(made: &Choice<'_>, wanted: &Wanted) -> bool {
                 && is_same_shape(*shape, run.shape)
         }
         (Choice::Judge(made), Wanted::Judge(file, nodes, pairs)) => {
-            is_judging(made, file, *nodes, *pairs)
+            is_judging(made, file, *nodes, *pairs) && made.memory.is_none()
+        }
+        (Choice::Judge(made), Wanted::JudgeExact(file, size, collect)) => {
+            is_judging(made, file, None, false) && is_exact(made, *size, *collect)
         }
         (Choice::Explore(made), Wanted::Explore(file, nodes, most, outcomes, memory, tries)) => {
             made.file == *file
@@ -443,6 +455,14 @@ const CHOICES: &[Row] = &[
     (
         "judge a.acts --nodes 3 --pairs",
         Wanted::Judge("a.acts", Some(3), true),
+    ),
+    (
+        "judge a.acts --memory exact",
+        Wanted::JudgeExact("a.acts", Size::Words64, 0),
+    ),
+    (
+        "judge a.acts --memory=exact --page=256 --collect=7",
+        Wanted::JudgeExact("a.acts", Size::Words256, 7),
     ),
     // What is asked of a run or a program.
     (
