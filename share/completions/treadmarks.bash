@@ -14,7 +14,7 @@ _treadmarks_options() {
     chart) echo "--nodes --steps --collect --order --page --events --seed --threads --acts --text --from --to --hide --source" ;;
     judge) echo "--nodes --pairs --all --memory --page --collect" ;;
     races) echo "--as --group --sure" ;;
-    explore) echo "--nodes --most --outcomes --outcome --memory --tries --ignore-races" ;;
+    explore) echo "--nodes --most --outcomes --outcome --memory --tries --ignore-races --ends" ;;
     esac
 }
 
@@ -30,7 +30,7 @@ _treadmarks_values() {
     judge,--memory) echo "exact" ;;
     *,--memory) echo "flat lazy" ;;
     *,--events | *,--acts) echo FILE ;;
-    *,--threads | *,--messages | *,--text | *,--source | *,--pairs | *,--all | *,--group | *,--sure | *,--outcomes | *,--ignore-races) ;;
+    *,--threads | *,--messages | *,--text | *,--source | *,--pairs | *,--all | *,--group | *,--sure | *,--outcomes | *,--ignore-races | *,--ends) ;;
     *,--*) echo NUMBER ;;
     esac
 }

@@ -109,4 +109,5 @@ complete -c treadmarks -n '__fish_seen_subcommand_from explore' -l outcome -r -f
 complete -c treadmarks -n '__fish_seen_subcommand_from explore' -l memory -r -f -a 'flat lazy' -d 'whose runs have the outcomes'
 complete -c treadmarks -n '__fish_seen_subcommand_from explore' -l tries -r -f -d 'of the lazy outcomes: how many seeds are tried'
 complete -c treadmarks -n '__fish_seen_subcommand_from explore' -l ignore-races -d 'look for no race'
+complete -c treadmarks -n '__fish_seen_subcommand_from explore' -l ends -d 'tell whether every order can end'
 complete -c treadmarks -n '__fish_seen_subcommand_from help' -f -a 'check lint plain sim run trace step explain why stats chart judge races explore help version'

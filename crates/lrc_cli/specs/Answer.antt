@@ -1,5 +1,5 @@
 -- What the program answers to a choice: a text that it prints and its status, or the first fault.
-use Rattle.std.specs.Prelude.{◌≡◌, ◌⊎◌, ◌&&◌, ℕ, Bool, true, false, not, List, Option, None, Some, Result, Ok, Err, codes, option_map}
+use Rattle.std.specs.Prelude.{◌≡◌, ◌≢◌, ◌⊎◌, ◌&&◌, ℕ, Bool, true, false, not, List, Option, None, Some, Result, Ok, Err, codes, option_map}
 use Rattle.lrc_acts.specs.ActsText.{ReadsActs}
 use Rattle.lrc_acts.specs.declared.reading.ActsFault.TheVariants.{BadAct, TooLong}
 use Rattle.lrc_exec.specs.Rounds.{AreActsOfRounds}
@@ -10,6 +10,7 @@ use Rattle.lrc_trace.specs.declared.act.Act.{Act}
 use Rattle.lrc_text.specs.Parts.{whole_text}
 use Rattle.lrc_explore.specs.Answers.{FitsSettled, FitsSettledNoted}
 use Rattle.lrc_explore_text.specs.Explored.{Explores, MeetsFew, MeetsTooMany}
+use Rattle.lrc_explore_text.specs.Ends.{TellsEnds}
 use Rattle.lrc_explore_text.specs.Orders.{TellsFindings}
 use Rattle.lrc_explore_text.specs.OutcomeRun.{HasFewerOutcomes, TellsNumberedRun}
 use Rattle.lrc_labels.specs.Reading.{Label}
@@ -106,11 +107,21 @@ abbrev pub ShowsFindings : Exploring → List Label → Program → (places : Li
 ShowsFindings exploring labels program places out status = TellsFindings labels program exploring.nodes.count places out status
     × FitsSettled program exploring.nodes.count exploring.most.count
 
--- of one flat memory: of the outcome that is asked for, of every order but for races where they are ignored, or of every order
-abbrev pub IsFlatAnswer : Option OutcomeNumber → (ignores_races : Bool) → Exploring → List Label → Program → (places : List ℕ) → List ℕ → ℕ → Type 0
-IsFlatAnswer (Some outcome) ignores_races exploring labels program places out status = ShowsOutcome exploring program places outcome.number out status
-IsFlatAnswer None true exploring labels program places out status = ShowsFindings exploring labels program places out status
-IsFlatAnswer None false exploring labels program places out status = ShowsOrders exploring labels program places out status
+-- the text and the status are what is said of every order and of ends, where races are looked for or ignored, and the search met no more
+-- states than it may, unless it ended at a race, whose status is 3
+abbrev pub ShowsEnds : Exploring → List Label → Program → (places : List ℕ) → List ℕ → ℕ → Type 0
+ShowsEnds exploring labels program places out status =
+    TellsEnds labels program exploring.nodes.count places (not exploring.ignores_races) out status
+    × (status ≢ 3 → FitsSettled program exploring.nodes.count exploring.most.count)
+
+-- of one flat memory: of the outcome that is asked for, of every order and of ends where they are asked for, of every order but for races
+-- where they are ignored, or of every order
+abbrev pub IsFlatAnswer : Option OutcomeNumber → (ends ignores_races : Bool) → Exploring → List Label → Program → (places : List ℕ) → List ℕ → ℕ → Type 0
+IsFlatAnswer (Some outcome) ends ignores_races exploring labels program places out status =
+    ShowsOutcome exploring program places outcome.number out status
+IsFlatAnswer None true ignores_races exploring labels program places out status = ShowsEnds exploring labels program places out status
+IsFlatAnswer None false true exploring labels program places out status = ShowsFindings exploring labels program places out status
+IsFlatAnswer None false false exploring labels program places out status = ShowsOrders exploring labels program places out status
 
 -- of any memory that keeps lazy reading: of the outcome that is asked for, of all outcomes, or else of every order, since races are the same
 abbrev pub IsLazyAnswer : Option OutcomeNumber → (outcomes : Bool) → Exploring → List Label → Program → (places : List ℕ) → List ℕ → ℕ → Type 0
@@ -121,7 +132,7 @@ IsLazyAnswer None false exploring labels program places out status = ShowsOrders
 -- of the memory that is asked for
 abbrev pub IsAnswerTo : Memory → Exploring → List Label → Program → (places : List ℕ) → List ℕ → ℕ → Type 0
 IsAnswerTo Flat exploring labels program places out status =
-    IsFlatAnswer exploring.outcome exploring.ignores_races exploring labels program places out status
+    IsFlatAnswer exploring.outcome exploring.ends exploring.ignores_races exploring labels program places out status
 IsAnswerTo Lazy exploring labels program places out status =
     IsLazyAnswer exploring.outcome exploring.outcomes exploring labels program places out status
 
@@ -224,17 +235,18 @@ HasLazyRunFault exploring program number (TooManyStates most) = (most ≡ explor
 HasLazyRunFault exploring program number NoMemory = Unit {0}
 HasLazyRunFault exploring program number _ = ⊥
 
--- of one that looks for no race
+-- of one that looks for no race, and of one for ends
 abbrev pub HasFindingsFault : Exploring → Program → Fault → Type 0
 HasFindingsFault exploring program (TooManyStates most) = (most ≡ exploring.most.count) × MeetsTooMany program exploring.nodes.count most false
 HasFindingsFault exploring program NoMemory = Unit {0}
 HasFindingsFault exploring program _ = ⊥
 
 -- by what is asked for
-abbrev pub IsFlatFault : Option OutcomeNumber → (ignores_races : Bool) → Exploring → Program → Fault → Type 0
-IsFlatFault (Some outcome) ignores_races exploring program fault = HasOutcomeFault exploring program outcome.number fault
-IsFlatFault None true exploring program fault = HasFindingsFault exploring program fault
-IsFlatFault None false exploring program fault = HasOrdersFault exploring program fault
+abbrev pub IsFlatFault : Option OutcomeNumber → (ends ignores_races : Bool) → Exploring → Program → Fault → Type 0
+IsFlatFault (Some outcome) ends ignores_races exploring program fault = HasOutcomeFault exploring program outcome.number fault
+IsFlatFault None true ignores_races exploring program fault = HasFindingsFault exploring program fault
+IsFlatFault None false true exploring program fault = HasFindingsFault exploring program fault
+IsFlatFault None false false exploring program fault = HasOrdersFault exploring program fault
 
 abbrev pub IsLazyFault : Option OutcomeNumber → (outcomes : Bool) → Exploring → Program → Fault → Type 0
 IsLazyFault (Some outcome) outcomes exploring program fault = HasLazyRunFault exploring program outcome.number fault
@@ -243,7 +255,7 @@ IsLazyFault None false exploring program fault = HasOrdersFault exploring progra
 
 -- the fault of a search through the runs of the memory that is asked for
 abbrev pub IsFaultIn : Memory → Exploring → Program → Fault → Type 0
-IsFaultIn Flat exploring program fault = IsFlatFault exploring.outcome exploring.ignores_races exploring program fault
+IsFaultIn Flat exploring program fault = IsFlatFault exploring.outcome exploring.ends exploring.ignores_races exploring program fault
 IsFaultIn Lazy exploring program fault = IsLazyFault exploring.outcome exploring.outcomes exploring program fault
 
 abbrev pub IsSearchFault : Exploring → Program → Fault → Type 0

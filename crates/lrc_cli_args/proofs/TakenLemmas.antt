@@ -494,6 +494,7 @@ explore_taken words none =
       outcome = bare_taken explore_built rows level (codes "outcome") refl;
       tries = bare_taken explore_built rows level (codes "tries") refl;
       races = flag_taken explore_built rows level (codes "ignore-races") refl;
+      ends = flag_taken explore_built rows level (codes "ends") refl;
     }
 
 lint_taken : (words : List Text) → level_fault lint_built [] nothing_held words false [] ≡ [] → HasValue (codes "FILE") (rows_after lint_built.rules [] words)

@@ -30,7 +30,7 @@ use Rattle.lrc_cli_args.specs.declared.choice.Topic.{Topic}
 use Rattle.lrc_cli_args.specs.declared.choice.Topic.TheVariants.{Commands, Command, Version}
 use Rattle.lrc_cli_args.specs.declared.choice.Way.{Way}
 use Rattle.lrc_cli_args.specs.declared.misfit.Misfit.{Misfit}
-use Rattle.lrc_cli_args.specs.declared.misfit.Misfit.TheVariants.{Order, RunOrder, Page, Form as FormMisfit, Seed, Threads, Messages, Part as PartMisfit, Memory as MemoryMisfit, ExactMemory, ExactOption, Tries as TriesMisfit, IgnoredRaces, Topic as TopicMisfit, TraceForm, Hide, TextSource, SameAct, Sources, NoSource, RunOption, ChartRunOption, Number}
+use Rattle.lrc_cli_args.specs.declared.misfit.Misfit.TheVariants.{Order, RunOrder, Page, Form as FormMisfit, Seed, Threads, Messages, Part as PartMisfit, Memory as MemoryMisfit, ExactMemory, ExactOption, Tries as TriesMisfit, IgnoredRaces, Ends as EndsMisfit, Topic as TopicMisfit, TraceForm, Hide, TextSource, SameAct, Sources, NoSource, RunOption, ChartRunOption, Number}
 use Rattle.lrc_cli_words.specs.Commands.{is_command, treadmarks}
 use Rattle.lrc_cli_args.specs.Options.{AreChartedActs, AreForeignActs, AreOptions, AreRunOptions, HasBadCount, HasBadExploreNumber, HasChartedActsMisfit, HasExactMisfit, HasForeignMisfit, HasFormMisfitIn, HasOptionsMisfit, HasRacesMisfit, HasValue, HasWayMisfitIn, IsAsking, IsChartTaken, IsHiding}
 use Rattle.lrc_cli_args.specs.Options.{IsExactChosen, IsExploreTaken, IsFlag, IsFormIn, IsJudgeTaken, IsMemory, IsPart, IsPicker, IsPlainTaken, IsRacesTaken, IsRunTaken, IsShowingTaken, IsStepTaken}
@@ -137,6 +137,8 @@ pub record IsExploring (rows : List Row) (exploring : Exploring) : Type 0 where
   pub apart : IsSome (tries_in rows) → takes_tries exploring.memory exploring.outcomes (outcome_in rows) ≡ true
   pub ignores : IsFlag (codes "ignore-races") exploring.ignores_races rows
   pub plainly : exploring.ignores_races ≡ true → asks_outcomes exploring.outcomes (outcome_in rows) rows ≡ false
+  pub ends : IsFlag (codes "ends") exploring.ends rows
+  pub ends_plainly : exploring.ends ≡ true → asks_outcomes exploring.outcomes (outcome_in rows) rows ≡ false
 
 -- a chart of a run
 pub record IsRunChart (rows : List Row) (run : RunChoice) (charting : Charting) : Type 0 where
@@ -250,8 +252,13 @@ HasJudgeMisfit rows misfit = HasExactMisfit rows misfit
 abbrev pub AreSought : List Row → Memory → (outcomes : Bool) → Type 0
 AreSought rows memory outcomes = IsMemory (first_of (codes "memory") rows) memory × IsFlag (codes "outcomes") outcomes rows
 
+-- an option that may not stand beside outcomes or a memory is not given, or these are not
+abbrev pub StandsPlainly : Text → (outcomes : Bool) → List Row → Type 0
+StandsPlainly name outcomes rows =
+    (given : Bool) × IsFlag name given rows × (given ≡ true → asks_outcomes outcomes (outcome_in rows) rows ≡ false)
+
 -- Of `explore`: the memory; then runs at random that are asked for and may not be; then races that are to be ignored and may not be; then
--- numbers.
+-- ends that are asked for and may not be; then numbers.
 pub record HasExploreMisfit (rows : List Row) (misfit : Misfit) : Type 0 where
   pub why : ((misfit ≡ MemoryMisfit) × ((memory : Memory) → ¬ IsMemory (first_of (codes "memory") rows) memory))
       ⊎ ((misfit ≡ TriesMisfit) × (memory : Memory) × (outcomes : Bool) × AreSought rows memory outcomes × IsSome (tries_in rows)
@@ -259,10 +266,12 @@ pub record HasExploreMisfit (rows : List Row) (misfit : Misfit) : Type 0 where
       ⊎ ((misfit ≡ IgnoredRaces) × (memory : Memory) × (outcomes : Bool) × AreSought rows memory outcomes
       × (IsSome (tries_in rows) → takes_tries memory outcomes (outcome_in rows) ≡ true) × IsFlag (codes "ignore-races") true rows
       × (asks_outcomes outcomes (outcome_in rows) rows ≡ true))
+      ⊎ ((misfit ≡ EndsMisfit) × (memory : Memory) × (outcomes : Bool) × AreSought rows memory outcomes
+      × (IsSome (tries_in rows) → takes_tries memory outcomes (outcome_in rows) ≡ true) × StandsPlainly (codes "ignore-races") outcomes rows
+      × IsFlag (codes "ends") true rows × (asks_outcomes outcomes (outcome_in rows) rows ≡ true))
       ⊎ ((misfit ≡ Number) × (memory : Memory) × (outcomes : Bool) × AreSought rows memory outcomes
-      × (IsSome (tries_in rows) → takes_tries memory outcomes (outcome_in rows) ≡ true)
-      × ((ignores : Bool) × IsFlag (codes "ignore-races") ignores rows × (ignores ≡ true → asks_outcomes outcomes (outcome_in rows) rows ≡ false))
-      × HasBadExploreNumber rows)
+      × (IsSome (tries_in rows) → takes_tries memory outcomes (outcome_in rows) ≡ true) × StandsPlainly (codes "ignore-races") outcomes rows
+      × StandsPlainly (codes "ends") outcomes rows × HasBadExploreNumber rows)
 
 -- what does not fit in what clap found of a command that shows something of a run
 abbrev pub HasShowMisfit : Text × List Row → Misfit → Type 0
@@ -321,6 +330,7 @@ IsUsageKind ExactMemory kind = kind ≡ InvalidValue
 IsUsageKind ExactOption kind = kind ≡ ArgumentConflict
 IsUsageKind TriesMisfit kind = kind ≡ ArgumentConflict
 IsUsageKind IgnoredRaces kind = kind ≡ ArgumentConflict
+IsUsageKind EndsMisfit kind = kind ≡ ArgumentConflict
 IsUsageKind TopicMisfit kind = kind ≡ InvalidSubcommand
 IsUsageKind TraceForm kind = kind ≡ InvalidValue
 IsUsageKind Hide kind = kind ≡ InvalidValue

@@ -157,6 +157,7 @@ pub record IsExploreTaken (rows : List Row) : Type 0 where
   pub outcome : IsBareNumber (codes "outcome") rows
   pub tries : IsBareNumber (codes "tries") rows
   pub races : IsFlagOption (codes "ignore-races") rows
+  pub ends : IsFlagOption (codes "ends") rows
 
 -- of `races`
 pub record IsRacesTaken (rows : List Row) : Type 0 where
@@ -310,7 +311,7 @@ pub record IsAsking (rows : List Row) (asking : Asking) : Type 0 where
   pub other : some_number_in (codes "and") rows ≡ asking.other
   pub differ : asking.other ≢ Some asking.act
 
--- outcomes are asked for, or a memory is named: so races are not ignored
+-- outcomes are asked for, or a memory is named: so races are not ignored, and it is not asked for ends
 abbrev pub asks_outcomes : (outcomes : Bool) → (outcome : Option ℕ) → List Row → Bool
 asks_outcomes outcomes outcome rows = outcomes || is_some outcome || is_given (codes "memory") rows
 

@@ -202,6 +202,8 @@ pub struct Exploring<'w> {
     /// Whether no race is looked for, so that programs that race are searched for stuck orders and traps too. It does not
     /// come with outcomes, nor where a memory is named.
     pub ignores_races: bool,
+    /// Whether it is asked whether every order can end. It does not come with outcomes, nor where a memory is named.
+    pub ends: bool,
 }
 
 /// The form of a trace that is searched for races.

@@ -31,6 +31,10 @@ pub(crate) fn explore_choice<'w>(options: &ArgMatches<'w>) -> Result<Choice<'w>,
     if ignores_races && asks_outcomes(options, outcomes, outcome) {
         return Err(Misfit::IgnoredRaces);
     }
+    let ends = is_named(options, "ends");
+    if ends && asks_outcomes(options, outcomes, outcome) {
+        return Err(Misfit::Ends);
+    }
     Ok(Choice::Explore(Exploring {
         file: text_of(options, "FILE"),
         nodes: nodes_of(options)?,
@@ -40,6 +44,7 @@ pub(crate) fn explore_choice<'w>(options: &ArgMatches<'w>) -> Result<Choice<'w>,
         outcome: outcome_of(options)?,
         tries: tries_of(options)?,
         ignores_races,
+        ends,
     }))
 }
 

@@ -44,6 +44,9 @@ const BAD_TRIES: &str =
 const BAD_IGNORED_RACES: &str =
     "the argument '--ignore-races' cannot be used with '--outcomes', '--outcome <K>' or '--memory <MEMORY>'";
 
+const BAD_ENDS: &str =
+    "the argument '--ends' cannot be used with '--outcomes', '--outcome <K>' or '--memory <MEMORY>'";
+
 const BAD_TOPIC: &str = "invalid value for '[COMMAND]': it is none of the commands";
 
 const BAD_HIDE: &str = "invalid value for '--hide <WHAT>': it is quiet";
@@ -93,6 +96,8 @@ pub(crate) enum Misfit {
     Tries,
     /// Races are to be ignored, but outcomes are asked for or a memory is named.
     IgnoredRaces,
+    /// It is asked whether every order can end, but outcomes are asked for or a memory is named.
+    Ends,
     /// Help is asked for on a word that is not a command.
     Topic,
     /// The value of `--as` in the command `races` is not one of its words.
@@ -155,6 +160,7 @@ fn usage_kind(misfit: Misfit) -> ErrorKind
         | Misfit::ExactOption
         | Misfit::Tries
         | Misfit::IgnoredRaces
+        | Misfit::Ends
         | Misfit::TextSource
         | Misfit::SameAct
         | Misfit::Sources
@@ -181,6 +187,7 @@ fn message_of(misfit: Misfit) -> &'static str {
         Misfit::ExactOption => BAD_EXACT_OPTION,
         Misfit::Tries => BAD_TRIES,
         Misfit::IgnoredRaces => BAD_IGNORED_RACES,
+        Misfit::Ends => BAD_ENDS,
         Misfit::Topic => BAD_TOPIC,
         Misfit::TraceForm => BAD_TRACE_FORM,
         Misfit::Hide => BAD_HIDE,

@@ -87,6 +87,9 @@ const OUTCOMES_HELP: &str = "Shows every outcome of the runs, and looks for no r
 const IGNORE_RACES_HELP: &str =
     "Looks for no race, and tells of any program whether an order gets stuck and whether a node traps in one";
 
+const ENDS_HELP: &str =
+    "Tells too whether every order can end, so that no node waits for what can no longer come";
+
 const OUTCOME_HELP: &str =
     "Shows the acts of a run that has the outcome of this number in the list of `--outcomes`, counted from 1, in place of the list";
 
@@ -377,10 +380,11 @@ fn explore_command<'w>(alloc: Global) -> Result<Command<'w>, AllocError>
     let command = taking(command, flag_option(alloc, "outcomes", OUTCOMES_HELP));
     let command = taking(command, bare_number(alloc, "outcome", "K", OUTCOME_HELP));
     let command = taking(command, bare_number(alloc, "tries", "T", TRIES_HELP));
-    taking(
+    let command = taking(
         command,
         flag_option(alloc, "ignore-races", IGNORE_RACES_HELP),
-    )
+    );
+    taking(command, flag_option(alloc, "ends", ENDS_HELP))
 }
 
 fn why_command<'w>(alloc: Global) -> Result<Command<'w>, AllocError>

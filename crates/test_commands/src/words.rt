@@ -55,6 +55,8 @@ pub enum Wanted {
     JudgeExact(&'static str, Size, u32),
     /// With so many nodes and states, by outcomes or not.
     Explore(&'static str, u32, u32, bool, Memory, Option<u32>),
+    /// The file of a program of which it is asked whether every order can end, and whether races are ignored.
+    Ends(&'static str, bool),
     /// The list of commands.
     Commands,
     /// The help of this command.
@@ -198,6 +200,10 @@ fn is_wanted(made: &Choice<'_>, wanted: &Wanted) -> bool {
             made.file == *file
                 && is_exploring(made, *nodes, *most, *outcomes)
                 && is_sought(made, *memory, *tries)
+                && !made.ends
+        }
+        (Choice::Explore(made), Wanted::Ends(file, ignores)) => {
+            made.file == *file && made.ends && made.ignores_races == *ignores
         }
         _ => false,
     }
@@ -503,6 +509,11 @@ const CHOICES: &[Row] = &[
     (
         "explore a.tm --memory=lazy --outcomes --tries 50",
         Wanted::Explore("a.tm", 1, 1_000_000, true, Memory::Lazy, Some(50)),
+    ),
+    ("explore a.tm --ends", Wanted::Ends("a.tm", false)),
+    (
+        "explore a.tm --ends --ignore-races",
+        Wanted::Ends("a.tm", true),
     ),
     // What is wrong with texts and traces, and why acts are as they are.
     ("lint a.tm", Wanted::Lint("a.tm")),
