@@ -59,11 +59,22 @@ pub struct RunOptions<'w> {
     pub size: Size,
 }
 
+/// How a run goes on behind the events of a file.
+#[derive(Clone, Copy)]
+pub enum Then {
+    /// In rounds. The picker determines which message is delivered next.
+    Rounds(Picker),
+    /// At random, from this seed.
+    Random(u64),
+}
+
 /// How a run goes on.
 #[derive(Clone, Copy)]
 pub enum Way<'w> {
     /// By the events in this file.
     Events(&'w str),
+    /// By the events in this file, and then on so.
+    Followed(&'w str, Then),
     /// In rounds. The picker determines which message is delivered next.
     Rounds(Picker),
     /// At random, from this seed.

@@ -20,7 +20,13 @@ const BAD_PAGE: &str = "invalid value for '--page <WORDS>': it is 64 or 256";
 const BAD_FORM: &str =
     "invalid value for '--as <FORM>': it is acts, bytes, events, json, rapid or states";
 
-const IDLE_SEED: &str = "the argument '--seed <X>' cannot be used without '--order random'";
+const IDLE_SEED: &str =
+    "the argument '--seed <X>' cannot be used without '--order random' or '--then random'";
+
+const BAD_THEN: &str = "invalid value for '--then <ORDER>': it is oldest, newest, twice or random";
+
+const IDLE_THEN: &str =
+    "the argument '--then <ORDER>' cannot be used without '--events <PATH>', nor with '--order <ORDER>' or '--threads'";
 
 const BAD_THREADS: &str =
     "the argument '--threads' cannot be used with '--events <PATH>' or '--order random'";
@@ -80,6 +86,10 @@ pub(crate) enum Misfit {
     Form,
     /// A seed is given, but the order is not random.
     Seed,
+    /// The value of `--then` is not one of its words.
+    Then,
+    /// The run is to go on behind events, but none are given, or an order or threads are asked for too.
+    Followed,
     /// Threads are asked for together with given events or a random order.
     Threads,
     /// Messages are asked for together with a form other than that of acts.
@@ -154,6 +164,7 @@ fn usage_kind(misfit: Misfit) -> ErrorKind
 {
     match misfit {
         Misfit::Seed
+        | Misfit::Followed
         | Misfit::Threads
         | Misfit::Messages
         | Misfit::Part
@@ -179,6 +190,8 @@ fn message_of(misfit: Misfit) -> &'static str {
         Misfit::Page => BAD_PAGE,
         Misfit::Form => BAD_FORM,
         Misfit::Seed => IDLE_SEED,
+        Misfit::Then => BAD_THEN,
+        Misfit::Followed => IDLE_THEN,
         Misfit::Threads => BAD_THREADS,
         Misfit::Messages => BAD_MESSAGES,
         Misfit::Part => BAD_PART,

@@ -73,7 +73,7 @@ run_command = with_run_options (new_app (codes "run"))
 
 -- what those have beside it that may go on by events, or at random
 abbrev pub with_ways : App → App
-with_ways command = with_rule (with_rule command (option (codes "events"))) (bare_number (codes "seed"))
+with_ways command = with_rule (with_rule (with_rule command (option (codes "events"))) (option (codes "then"))) (bare_number (codes "seed"))
 
 abbrev pub with_way_options : App → App
 with_way_options command = with_ways (with_run_options command)

@@ -33,7 +33,11 @@ const PAGE_HELP: &str = "How many words a page has: 64 or 256";
 const EVENTS_HELP: &str =
     "A file of events to play, `run N`, `deliver I` or `repeat I` on each line; without it all nodes run in turn";
 
-const SEED_HELP: &str = "With `--order random`: from which number it starts. Left out it is 0";
+const THEN_HELP: &str =
+    "With `--events`: in which order the run goes on behind them: oldest, newest, twice or random, as `--order` has them. Left out, it ends there";
+
+const SEED_HELP: &str =
+    "With `--order random` or `--then random`: from which number it starts. Left out it is 0";
 
 const THREADS_HELP: &str =
     "Runs each node on a thread of its own; not with events or a random order";
@@ -473,6 +477,7 @@ fn taking_ways<'w>(
         → IfOk result (λ given. (fields_of given).has_globals ≡ false) }
 {
     let command = taking(command, text(alloc, "events", "PATH", EVENTS_HELP));
+    let command = taking(command, text(alloc, "then", "ORDER", THEN_HELP));
     taking(command, bare_number(alloc, "seed", "X", SEED_HELP))
 }
 
