@@ -127,9 +127,9 @@ fn push_way(text: &mut Vec<u8>, way: &Way<'_>) -> Result<(), AllocError>
 {
     match *way {
         Way::Events(path) => push_value(text, b" --events", path.as_bytes()),
-        Way::Followed(path, then) => {
+        Way::Followed(path, next) => {
             push_value(text, b" --events", path.as_bytes())?;
-            push_then(text, then)
+            push_then(text, next)
         }
         Way::Rounds(picker) => push_order(text, picker),
         Way::Random(seed) => push_random(text, seed),
@@ -141,10 +141,10 @@ fn push_way(text: &mut Vec<u8>, way: &Way<'_>) -> Result<(), AllocError>
 }
 
 // Adds the option that says how a run goes on behind its events.
-fn push_then(text: &mut Vec<u8>, then: Then) -> Result<(), AllocError>
-    ensures { OnOk result (text.new.items ≡ text.old.items ++ then_text then) }
+fn push_then(text: &mut Vec<u8>, next: Then) -> Result<(), AllocError>
+    ensures { OnOk result (text.new.items ≡ text.old.items ++ then_text next) }
 {
-    match then {
+    match next {
         Then::Rounds(Picker::Oldest) => text.extend_from_slice(b" --then oldest"),
         Then::Rounds(Picker::Newest) => text.extend_from_slice(b" --then newest"),
         Then::Rounds(Picker::Twice) => text.extend_from_slice(b" --then twice"),

@@ -40,9 +40,9 @@ pub(crate) fn run_of(
             let Some(text) = events else { unreachable!() };
             played(alloc, options, program, text, keep)
         }
-        Way::Followed(_, then) => {
+        Way::Followed(_, next) => {
             let Some(text) = events else { unreachable!() };
-            followed(alloc, options, program, text, then, keep)
+            followed(alloc, options, program, text, next, keep)
         }
         Way::Rounds(order) => in_order(alloc, options, program, Order::Rounds(order), keep),
         Way::Random(seed) => in_order(alloc, options, program, Order::Random(seed), keep),
@@ -72,22 +72,22 @@ fn followed(
     options: &RunOptions<'_>,
     program: &Program,
     text: &[u8],
-    then: Then,
+    next: Then,
     keep: Keep,
 ) -> Result<Run, Fault>
-    ensures run { IfOk result (IsFollowedRun program.now options.now text.now then keep) }
-    ensures err { IfErr result (IsFollowedFault program.now options.now text.now then) }
+    ensures run { IfOk result (IsFollowedRun program.now options.now text.now next keep) }
+    ensures err { IfErr result (IsFollowedFault program.now options.now text.now next) }
 {
     let events = events_of(alloc, text)?;
-    let order = Order::Followed(&events, lead_of(then));
+    let order = Order::Followed(&events, lead_of(next));
     in_order(alloc, options, program, order, keep)
 }
 
 // What leads a run that goes on so behind its events.
-fn lead_of(then: Then) -> Lead
-    ensures { result ≡ lead_of then }
+fn lead_of(next: Then) -> Lead
+    ensures { result ≡ lead_of next }
 {
-    match then {
+    match next {
         Then::Rounds(picker) => Lead::Rounds(picker),
         Then::Random(seed) => Lead::Random(seed),
     }

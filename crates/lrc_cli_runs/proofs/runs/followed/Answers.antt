@@ -14,7 +14,7 @@ returns-clause-run c =
     let nodes = c.args.options.now.nodes.count in
     let options = options_of c.args.options.now in
     let events = c.in_ok-events.events.items in
-    of_text_followed program c.args.options.now c.args.keep c.args.text.now c.args.then events c.in_order.result c.in_ok-events.ensures.ok
+    of_text_followed program c.args.options.now c.args.keep c.args.text.now c.args.next events c.in_order.result c.in_ok-events.ensures.ok
     (subst (λ (lead : Lead). IfOk c.in_order.result (IsRunBy (AreFollowed (schedule_of nodes lead) events program nodes options) program nodes options c.args.keep))
     c.lead_of.ensures
     (subst (λ (given : List Event). IfOk c.in_order.result
@@ -27,7 +27,7 @@ returns-clause-err c =
     let nodes = c.args.options.now.nodes.count in
     let options = options_of c.args.options.now in
     let events = c.in_ok-events.events.items in
-    IfErr-weaker c.in_order.result _ _ (followed_fault program c.args.options.now c.args.text.now c.args.then events c.in_ok-events.ensures.ok)
+    IfErr-weaker c.in_order.result _ _ (followed_fault program c.args.options.now c.args.text.now c.args.next events c.in_ok-events.ensures.ok)
     (subst (λ (lead : Lead). IfErr c.in_order.result (IsLedFault (WearsOutBehind (schedule_of nodes lead) events program nodes options))) c.lead_of.ensures
     (subst (λ (given : List Event). IfErr c.in_order.result
     (IsLedFault (WearsOutBehind (schedule_of nodes c.lead_of.result) given program nodes options)))
