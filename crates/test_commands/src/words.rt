@@ -3,7 +3,7 @@
 use crate::checks::passes;
 use lrc_cli_args::choice::{
     Asking, ChartedActs, Charting, Choice, ChooseFault, Exploring, ForeignActs, Form, Judging,
-    Memory, Part, PlainRun, Racing, Request, RunOptions, Shape, Topic, TraceForm, Way,
+    Memory, Part, PlainRun, Racing, Request, RunOptions, Shape, Then, Topic, TraceForm, Way,
 };
 use lrc_cli_args::choose;
 use lrc_envelope::Picker;
@@ -77,9 +77,20 @@ fn are_options(made: &RunOptions<'_>, wanted: &Run) -> bool {
 fn is_same_way(made: Way<'_>, wanted: Way<'_>) -> bool {
     match (made, wanted) {
         (Way::Events(made), Way::Events(wanted)) => made == wanted,
+        (Way::Followed(made, next), Way::Followed(wanted, other)) => {
+            made == wanted && is_same_next(next, other)
+        }
         (Way::Rounds(made), Way::Rounds(wanted)) => made == wanted,
         (Way::Threads(made), Way::Threads(wanted)) => made == wanted,
         (Way::Random(made), Way::Random(wanted)) => made == wanted,
+        _ => false,
+    }
+}
+
+fn is_same_next(made: Then, wanted: Then) -> bool {
+    match (made, wanted) {
+        (Then::Rounds(made), Then::Rounds(wanted)) => made == wanted,
+        (Then::Random(made), Then::Random(wanted)) => made == wanted,
         _ => false,
     }
 }
@@ -344,6 +355,28 @@ const CHOICES: &[Row] = &[
             size: Size::Words256,
             way: Way::Threads(Picker::Twice),
             ..OF_THREE
+        }),
+    ),
+    // What comes behind events.
+    (
+        "sim a.tm --events=e --then newest",
+        Wanted::Run(Run {
+            way: Way::Followed("e", Then::Rounds(Picker::Newest)),
+            ..A_RUN
+        }),
+    ),
+    (
+        "sim a.tm --then random --seed 7 --events e",
+        Wanted::Run(Run {
+            way: Way::Followed("e", Then::Random(7)),
+            ..A_RUN
+        }),
+    ),
+    (
+        "sim a.tm --then=random --events=e",
+        Wanted::Run(Run {
+            way: Way::Followed("e", Then::Random(0)),
+            ..A_RUN
         }),
     ),
     // Random orders and traces.
