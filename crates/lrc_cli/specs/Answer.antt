@@ -72,10 +72,10 @@ IsPrintoutOfRounds program nodes steps out status =
 abbrev pub judged_nodes : Judging → Option ℕ
 judged_nodes judging = option_map (λ nodes. nodes.count) judging.nodes
 
--- the exact memory that the acts are held against, if one is named
-abbrev pub judged_memory : Judging → Option ExactMemory
-judged_memory judging =
-    option_map (λ exact. record { page_words = words_of exact.size; collect = exact.collect.count }) judging.memory
+-- the memory is the exact memory that the acts are held against; it is there where one is named
+pub record IsJudgedMemory (judging : Judging) (memory : Option ExactMemory) : Type 0 where
+  pub pages : option_map (λ m. m.page_words) memory ≡ option_map (λ exact. words_of exact.size) judging.memory
+  pub collections : option_map (λ m. m.collect) memory ≡ option_map (λ exact. exact.collect.count) judging.memory
 
 -- the text shows a run that has the outcome of this number, and the search met no more states than it may
 abbrev pub ShowsOutcome : Exploring → Program → (places : List ℕ) → (number : ℕ) → List ℕ → ℕ → Type 0
@@ -164,10 +164,12 @@ pub record IsActsCharted (acts : ChartedActs) (charting : Charting) (text out : 
   pub drawn : IsDrawn charting.text picture out
   pub ended : status ≡ 0
 
--- a judgement of acts; where that is asked for, with each read that breaks a rule
-abbrev pub IsJudged : (all : Bool) → Judging → List ℕ → List ℕ → ℕ → Type 0
-IsJudged true judging text out status = JudgesAll (judged_nodes judging) (judged_memory judging) judging.pairs text out status
-IsJudged false judging text out status = Judges (judged_nodes judging) (judged_memory judging) judging.pairs text out status
+-- a judgement of acts, with their racing pairs or not; where that is asked for, with each read that breaks a rule
+abbrev pub IsJudged : (all pairs : Bool) → Judging → List ℕ → List ℕ → ℕ → Type 0
+IsJudged true pairs judging text out status =
+    (memory : Option ExactMemory) × IsJudgedMemory judging memory × JudgesAll (judged_nodes judging) memory pairs text out status
+IsJudged false pairs judging text out status =
+    (memory : Option ExactMemory) × IsJudgedMemory judging memory × Judges (judged_nodes judging) memory pairs text out status
 
 -- What is printed, with the status: `ok` where the text is a program's, the report of what the program does in rounds on
 -- the plain machine, what is shown of its run, a judgement of acts, or what every order of the program comes to.
@@ -177,7 +179,7 @@ Prints (Plain run) text events_text out status =
     (program : Program) × IsTextOf text program
     × IsPrintoutOfRounds program run.nodes.count run.steps.count out status
 Prints (Show run shape) text events_text out status = ShowsRun run shape text events_text out status
-Prints (Judge judging) text events_text out status = IsJudged judging.all judging text out status
+Prints (Judge judging) text events_text out status = IsJudged judging.all judging.pairs judging text out status
 Prints (Explore exploring) text events_text out status =
     (program : Program) × IsTextOf text program × IsExploration exploring text program out status
 Prints (Lint file) text events_text out status = IsLinted file.now text out status

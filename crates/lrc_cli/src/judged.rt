@@ -1,10 +1,8 @@
 // What the program answers to the command `judge`.
 
 ghost use Rattle.std.specs.Prelude.{◌≡◌, ◌≤◌, IfErr, IfOk, IfSome, false, true};
-ghost use Rattle.lrc_cli.specs.Answer.{IsActsFault, judged_memory, judged_nodes};
+ghost use Rattle.lrc_cli.specs.Answer.{IsActsFault, IsJudged, IsJudgedMemory, judged_nodes};
 ghost use Rattle.lrc_text.specs.Parts.{whole_text};
-ghost use Rattle.lrc_judge_all.specs.JudgesAll.{JudgesAll};
-ghost use Rattle.lrc_judge_text.specs.Judgement.{Judges};
 ghost use Rattle.lrc_judge_text.specs.PairsTold.{HasItsRaces, told_text};
 
 use lrc_cli_answer::fault::Fault;
@@ -18,8 +16,7 @@ use std::alloc::Global;
 
 /// Answers the command `judge`, without racing pairs, for a text of acts.
 pub(crate) fn judged(alloc: Global, judging: &Judging<'_>, text: &[u8]) -> Result<Printout, Fault>
-    ensures ok { IfOk result (λ printout. Judges (judged_nodes judging.now)
-        (judged_memory judging.now) false text.now
+    ensures ok { IfOk result (λ printout. IsJudged false false judging.now text.now
         (whole_text printout.parts.items) printout.status) }
     ensures err { IfErr result (IsActsFault (judged_nodes judging.now) text.now) }
 {
@@ -38,7 +35,7 @@ pub(crate) fn judged_with_pairs(
     text: &[u8],
 ) -> Result<PairsJudgement, Fault>
     ensures ok { IfOk result (λ judgement.
-        Judges (judged_nodes judging.now) (judged_memory judging.now) true text.now (told_text judgement) judgement.status) }
+        IsJudged false true judging.now text.now (told_text judgement) judgement.status) }
     ensures races { IfOk result HasItsRaces }
     ensures err { IfErr result (IsActsFault (judged_nodes judging.now) text.now) }
 {
@@ -53,7 +50,7 @@ pub(crate) fn judged_all(
     text: &[u8],
 ) -> Result<Printout, Fault>
     ensures ok { IfOk result (λ printout.
-        JudgesAll (judged_nodes judging.now) (judged_memory judging.now) judging.now.pairs text.now
+        IsJudged true judging.now.pairs judging.now text.now
         (whole_text printout.parts.items) printout.status) }
     ensures err { IfErr result (IsActsFault (judged_nodes judging.now) text.now) }
 {
@@ -83,7 +80,7 @@ fn nodes_of(judging: &Judging<'_>) -> Option<u32>
 
 // The exact memory that the acts are held against, if one is named.
 fn memory_of(judging: &Judging<'_>) -> Option<ExactMemory>
-    ensures { result ≡ judged_memory judging.now }
+    ensures { IsJudgedMemory judging.now result }
 {
     match judging.memory {
         Some(exact) => Some(ExactMemory {
