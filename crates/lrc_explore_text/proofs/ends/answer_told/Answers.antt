@@ -1,5 +1,6 @@
-use Rattle.std.proofs.Common.{map, subst}
+use Rattle.std.proofs.Common.{map, subst, sym}
 use Rattle.lrc_labels.specs.Reading.{label_seen}
+use Rattle.lrc_orders.specs.Verdict.{EndsInRace}
 use Rattle.lrc_explore_ends.specs.Answers.{IsEndAnswer}
 use Rattle.lrc_explore_text.proofs.Ending.{of_raced}
 use Rattle.lrc_explore_text.proofs.ends.answer_told.Goals as goal
@@ -8,7 +9,9 @@ pub through_told-requires-clause-found : goal.through_told-requires-clause-found
 through_told-requires-clause-found c = subst (IsEndAnswer c.args.program.now c.args.nodes c.args.races) c.in-Through.is c.requires.verdict
 
 pub race_told-requires-clause-ends : goal.race_told-requires-clause-ends
-race_told-requires-clause-ends c = (subst (IsEndAnswer c.args.program.now c.args.nodes c.args.races) c.in-Racy.is c.requires.verdict).1
+race_told-requires-clause-ends c =
+    subst (EndsInRace c.args.program.now c.args.nodes) (sym c.deref.ensures.value)
+    (subst (IsEndAnswer c.args.program.now c.args.nodes c.args.races) c.in-Racy.is c.requires.verdict).1
 
 pub returns-in-Racy-clause-ok : goal.returns-in-Racy-clause-ok
 returns-in-Racy-clause-ok c =
