@@ -29,8 +29,7 @@ pub fn lost_order(
     ensures faults { IfErr result (IsFault task.now) }
 {
     let mut states = States::of(alloc, found);
-    states.link_all(alloc, task)?;
-    states.lost_told(alloc, task)
+    states.find_lost(alloc, task)
 }
 
 // The first place at which a table says no.
@@ -62,7 +61,24 @@ impl States {
     ghost use Rattle.lrc_explore.specs.Answers.{IsFault};
     ghost use Rattle.lrc_explore.specs.Reached.{IsTask};
     ghost use Rattle.lrc_explore_ends.specs.Lost.{IsFirstLost};
-    ghost use Rattle.lrc_explore_ends.specs.Stepped.{AreAllStepped};
+    ghost use Rattle.lrc_explore_ends.specs.Stepped.{AreAllStepped, AreStepped};
+
+    // Finds the steps between the states, and the order that leads to the first state from which none lead to an end.
+    fn find_lost(
+        &mut self,
+        alloc: Global,
+        task: &Task<'_>,
+    ) -> Result<Option<Vec<usize>>, ExploreFault>
+        requires task { IsTask task.now }
+        requires stepped { AreStepped task.now self.old }
+        requires some { 0 < row_count self.old.found.table.rows }
+        ensures lost { IfOk result (λ order. TellsEnd task.now.program.now task.now.flat.nodes
+            (option_map (λ nodes. nodes.items) order)) }
+        ensures faults { IfErr result (IsFault task.now) }
+    {
+        self.link_all(alloc, task)?;
+        self.lost_told(alloc, task)
+    }
 
     // The order that leads to the first state from which no steps lead to an end, if there is one.
     fn lost_told(&self, alloc: Global, task: &Task<'_>) -> Result<Option<Vec<usize>>, ExploreFault>

@@ -18,7 +18,7 @@ loop-node-preserved c =
     let task = c.args.task.now in
     let old = c.loop-node.self in
     let new = c.link_step-in-loop-node.new.self in
-    let e = c.in_ok-link_step-in-loop-node.ensures in
+    let e = c.in_ok-link_step-2.ensures in
     record {
       stepped = e.stepped;
       wider = wider_on i.wider e.wider;

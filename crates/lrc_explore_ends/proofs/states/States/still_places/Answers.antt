@@ -1,4 +1,5 @@
-use Rattle.std.proofs.Common.{ap, arith, length}
+use Rattle.std.proofs.Common.{◌<◌, ap, arith, length}
+use Rattle.lrc_orders_table.specs.Rows.{row_count}
 use Rattle.lrc_orders_table.proofs.RowLaws.{row_within}
 use Rattle.lrc_explore.proofs.MeansOf.{means_are, means_of}
 use Rattle.lrc_explore.proofs.Stepping.{key_at, known_at, row_at, row_of}
@@ -18,7 +19,7 @@ loop-place-preserved c =
     let task = c.args.task.now in
     let found = c.args.self.now.found in
     let place = c.loop-place.place in
-    let within = omega (arith, c.loop-place-test.true, c.len-place-end.ensures.len) in
+    let within : place < row_count found.table.rows = omega (arith, c.loop-place-test.true, c.len-place-end.ensures.len) in
     let means = means_of task in
     let key = key_at task found place c.row-row.result c.requires within c.row-row.ensures in
     said_on task c.args.self.now c.loop-place.still.items c.push.new.self.items place c.is_still-is.result key
