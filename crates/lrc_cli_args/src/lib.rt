@@ -10,6 +10,7 @@ mod explore;
 mod files;
 mod judge;
 mod misfit;
+mod races;
 mod reading;
 mod runs;
 mod topics;
