@@ -1,6 +1,6 @@
 // What is judged, and against which memory.
 
-ghost use Rattle.std.specs.Prelude.{◌≡◌, IfErr, IfOk, Some, codes};
+ghost use Rattle.std.specs.Prelude.{◌≡◌, IfErr, IfOk, None, Some, codes};
 ghost use Rattle.clap.specs.Words.{first_of, found_of, rows_of};
 ghost use Rattle.lrc_cli_args.specs.CommandLine.{HasJudgeMisfit, IsChoice};
 ghost use Rattle.lrc_cli_args.specs.Options.{HasExactMisfit, IsExactChosen, IsJudgeTaken, names_exact_option};
@@ -40,8 +40,7 @@ fn exact_memory(options: &ArgMatches<'_>) -> Result<Option<ExactOptions>, Misfit
 {
     match options.get_str("memory") {
         Some(word) => Ok(Some(memory_named(options, word)?)),
-        None if names_exact_option(options) => Err(Misfit::ExactOption),
-        None => Ok(None),
+        None => no_memory(options),
     }
 }
 
@@ -58,6 +57,18 @@ fn memory_named(options: &ArgMatches<'_>, word: &str) -> Result<ExactOptions, Mi
     let size = size_of(options)?;
     let collect = collect_of(options)?;
     Ok(ExactOptions { size, collect })
+}
+
+// No memory is named: then there is no option of it.
+fn no_memory(options: &ArgMatches<'_>) -> Result<Option<ExactOptions>, Misfit>
+    requires { first_of (codes "memory") (rows_of (found_of options.now)) ≡ None }
+    ensures ok { IfOk result (IsExactChosen (rows_of (found_of options.now))) }
+    ensures err { IfErr result (HasExactMisfit (rows_of (found_of options.now))) }
+{
+    if names_exact_option(options) {
+        return Err(Misfit::ExactOption);
+    }
+    Ok(None)
 }
 
 // Whether the words give an option that only the exact memory has.
