@@ -277,8 +277,8 @@ explore_keyed = (
               (
                 record { own = refl; acts = inr (inl (refl, lit< tt)) },
                 (
-                  record { own = refl; acts = inr (inr refl) },
-                  tt,
+                  record { own = refl; acts = inr (inl (refl, lit< tt)) },
+                  (record { own = refl; acts = inr (inr refl) }, tt),
                 ),
               ),
             ),
@@ -545,7 +545,7 @@ why_taken : (words : List Text) → level_fault why_built [] nothing_held words 
 why_taken words none =
     let rows = rows_after why_built.rules [] words in
     let level = level_good why_built words why_keyed none in
-    let asked = given_some why_built.rules (codes "act") rows level.good ((required_given why_built rows level.checked).1.1.1.1.1.1.1.1.1.0 refl) in
+    let asked = given_some why_built.rules (codes "act") rows level.good ((required_given why_built rows level.checked).1.1.1.1.1.1.1.1.1.1.0 refl) in
     let first = first_passes why_built.rules (filled act) rows level.good refl in
     record {
       nodes = number_taken why_built rows level (codes "nodes") (codes "1") refl;
