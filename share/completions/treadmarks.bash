@@ -13,7 +13,7 @@ _treadmarks_options() {
     stats) echo "--nodes --steps --collect --order --page --events --seed --threads" ;;
     chart) echo "--nodes --steps --collect --order --page --events --seed --threads --acts --text --from --to --hide --source" ;;
     judge) echo "--nodes --pairs --all" ;;
-    races) echo "--as --group --sure" ;;
+    races) echo "--as --group --sure --witness" ;;
     explore) echo "--nodes --most --outcomes --outcome --memory --tries --ignore-races" ;;
     esac
 }

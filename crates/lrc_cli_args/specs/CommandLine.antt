@@ -21,19 +21,20 @@ use Rattle.lrc_cli_args.specs.declared.choice.Memory.{Memory}
 use Rattle.lrc_cli_args.specs.declared.choice.PlainRun.{PlainRun}
 use Rattle.lrc_cli_args.specs.declared.choice.Racing.{Racing}
 use Rattle.lrc_cli_args.specs.declared.choice.Request.{Request}
-use Rattle.lrc_cli_args.specs.declared.choice.Request.TheVariants.{About, Races, Answer}
+use Rattle.lrc_cli_args.specs.declared.choice.Request.TheVariants.{About, Races, Witness as WitnessOf, Answer}
 use Rattle.lrc_cli_args.specs.declared.choice.RunChoice.{RunChoice}
 use Rattle.lrc_cli_args.specs.declared.choice.Shape.{Shape}
 use Rattle.lrc_cli_args.specs.declared.choice.Shape.TheVariants.{Report, Trace, Step, Explain, Stats, Chart, Why}
 use Rattle.lrc_cli_args.specs.declared.choice.Topic.{Topic}
 use Rattle.lrc_cli_args.specs.declared.choice.Topic.TheVariants.{Commands, Command, Version}
 use Rattle.lrc_cli_args.specs.declared.choice.Way.{Way}
+use Rattle.lrc_cli_args.specs.declared.choice.Witnessing.{Witnessing}
 use Rattle.lrc_cli_args.specs.declared.misfit.Misfit.{Misfit}
-use Rattle.lrc_cli_args.specs.declared.misfit.Misfit.TheVariants.{Order, RunOrder, Page, Form as FormMisfit, Seed, Threads, Messages, Part as PartMisfit, Memory as MemoryMisfit, Tries as TriesMisfit, IgnoredRaces, Topic as TopicMisfit, TraceForm, Hide, TextSource, SameAct, Sources, NoSource, RunOption, ChartRunOption, Number}
+use Rattle.lrc_cli_args.specs.declared.misfit.Misfit.TheVariants.{Order, RunOrder, Page, Form as FormMisfit, Seed, Threads, Messages, Part as PartMisfit, Memory as MemoryMisfit, Tries as TriesMisfit, IgnoredRaces, Topic as TopicMisfit, TraceForm, Lines, Witness, Hide, TextSource, SameAct, Sources, NoSource, RunOption, ChartRunOption, Number}
 use Rattle.lrc_cli_words.specs.Commands.{is_command, treadmarks}
-use Rattle.lrc_cli_args.specs.Options.{AreChartedActs, AreForeignActs, AreOptions, AreRunOptions, HasBadCount, HasBadExploreNumber, HasChartedActsMisfit, HasForeignMisfit, HasFormMisfitIn, HasOptionsMisfit, HasRacesMisfit, HasValue, HasWayMisfitIn, IsAsking, IsChartTaken, IsHiding}
+use Rattle.lrc_cli_args.specs.Options.{AreChartedActs, AreForeignActs, AreLines, AreOptions, AreRunOptions, HasBadCount, HasBadExploreNumber, HasChartedActsMisfit, HasForeignMisfit, HasFormMisfitIn, HasOptionsMisfit, HasRacesMisfit, HasValue, HasWayMisfitIn, IsAlone, IsAsking, IsChartTaken, IsHiding}
 use Rattle.lrc_cli_args.specs.Options.{IsExploreTaken, IsFlag, IsFormIn, IsJudgeTaken, IsMemory, IsPart, IsPicker, IsPlainTaken, IsRacesTaken, IsRunTaken, IsShowingTaken, IsStepTaken}
-use Rattle.lrc_cli_args.specs.Options.{asks_outcomes, IsSimTaken, IsThreadsWayIn, IsTraceForm, IsTraceTaken, IsWayIn, IsWhyTaken, most_in, nodes_in, option_number, outcome_in, some_number_in, takes_tries, tries_in}
+use Rattle.lrc_cli_args.specs.Options.{asks_outcomes, IsSimTaken, IsThreadsWayIn, IsTraceForm, IsTraceTaken, IsWayIn, IsWhyTaken, most_in, nodes_in, option_number, outcome_in, some_number_in, takes_tries, tries_in, witness_in}
 
 -- no words at all stand for `sim -`
 abbrev pub words_meant : List Text → List Text
@@ -193,11 +194,21 @@ pub record IsRacing (rows : List Row) (racing : Racing) : Type 0 where
   pub form : IsTraceForm (first_of (codes "as") rows) racing.form
   pub group : IsFlag (codes "group") racing.group rows
   pub sure : IsFlag (codes "sure") racing.sure rows
+  pub plainly : witness_in rows ≡ None
+
+-- Of which two lines it is asked whether they are a sure race. The trace may be read twice, so it is a file.
+pub record IsWitnessing (rows : List Row) (witnessing : Witnessing) : Type 0 where
+  pub file : first_of (codes "FILE") rows ≡ Some witnessing.file.now
+  pub no_input : witnessing.file.now ≢ codes "-"
+  pub form : IsTraceForm (first_of (codes "as") rows) witnessing.form
+  pub alone : IsAlone rows
+  pub lines : IsSomeAnd (witness_in rows) (λ texts. AreLines texts witnessing.lines)
 
 -- what the command that clap found asks for, with its matches
 abbrev pub IsRequest : Text × List Row → Request → Type 0
 IsRequest found (About topic) = IsTopic found topic
 IsRequest found (Races racing) = (found.0 ≡ codes "races") × IsRacing found.1 racing
+IsRequest found (WitnessOf witnessing) = (found.0 ≡ codes "races") × IsWitnessing found.1 witnessing
 IsRequest found (Answer choice) = IsChoice found choice
 
 -- ---- what does not fit
@@ -316,6 +327,8 @@ IsUsageKind TriesMisfit kind = kind ≡ ArgumentConflict
 IsUsageKind IgnoredRaces kind = kind ≡ ArgumentConflict
 IsUsageKind TopicMisfit kind = kind ≡ InvalidSubcommand
 IsUsageKind TraceForm kind = kind ≡ InvalidValue
+IsUsageKind Lines kind = kind ≡ InvalidValue
+IsUsageKind Witness kind = kind ≡ ArgumentConflict
 IsUsageKind Hide kind = kind ≡ InvalidValue
 IsUsageKind TextSource kind = kind ≡ ArgumentConflict
 IsUsageKind SameAct kind = kind ≡ ArgumentConflict

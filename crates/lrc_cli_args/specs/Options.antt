@@ -6,7 +6,7 @@ use Rattle.std.specs.Option.{is_none, option_map_or}
 use Rattle.std.specs.Str.Parse.{digits_value, without_leading_plus}
 use Rattle.clap.specs.Values.{bool_text}
 use Rattle.clap.specs.Takes.{is_given}
-use Rattle.clap.specs.Words.{IsUnsignedIn, Row, Text, first_of, one_of}
+use Rattle.clap.specs.Words.{IsUnsignedIn, Row, Text, all_of, first_of, one_of}
 use Rattle.lrc_page.specs.declared.size.Size.{Size}
 use Rattle.lrc_page.specs.declared.size.Size.TheVariants.{Words64, Words256}
 use Rattle.lrc_envelope.specs.declared.picker.Picker.{Picker}
@@ -16,6 +16,7 @@ use Rattle.lrc_cli_args.specs.declared.choice.ChartedActs.{ChartedActs}
 use Rattle.lrc_cli_args.specs.declared.choice.ForeignActs.{ForeignActs}
 use Rattle.lrc_cli_args.specs.declared.choice.Form.{Form}
 use Rattle.lrc_cli_args.specs.declared.choice.Form.TheVariants as forms
+use Rattle.lrc_cli_args.specs.declared.choice.LinePair.{LinePair}
 use Rattle.lrc_cli_args.specs.declared.choice.Memory.{Memory}
 use Rattle.lrc_cli_args.specs.declared.choice.Memory.TheVariants.{Flat, Lazy}
 use Rattle.lrc_cli_args.specs.declared.choice.Part.{Part}
@@ -62,6 +63,10 @@ outcome_in = some_number_in (codes "outcome")
 -- how many runs are played at random, if any are
 abbrev pub tries_in : List Row → Option ℕ
 tries_in = some_number_in (codes "tries")
+
+-- the lines that `--witness` is given, if it is named
+abbrev pub witness_in : List Row → Option (List Text)
+witness_in = all_of (codes "witness")
 
 -- the number that the words give an option: a default is none
 abbrev pub given_number : Text → List Row → Option ℕ
@@ -207,6 +212,19 @@ IsForm word messages part (forms.Bytes shown) = (word ≡ Some (codes "bytes")) 
 abbrev pub IsTraceForm : Option Text → TraceForm → Type 0
 IsTraceForm word Std = word ≡ Some (codes "std")
 IsTraceForm word Acts = word ≡ Some (codes "acts")
+
+-- the number of a line that a text writes
+pub record IsLine (text : Text) (line : ℕ) : Type 0 where
+  pub writes : IsUnsignedIn 1 18446744073709551615 text
+  pub is : digits_value 10 (without_leading_plus text) ≡ line
+
+-- the texts write the numbers of two lines, the lesser one first
+pub record AreLines (texts : List Text) (lines : LinePair) : Type 0 where
+  pub one : Text
+  pub other : Text
+  pub two : texts ≡ one ∷ other ∷ []
+  pub first : IsLine one lines.first
+  pub second : IsLine other lines.second
 
 -- the memory that a word names
 abbrev pub IsMemory : Option Text → Memory → Type 0
@@ -371,9 +389,20 @@ abbrev pub HasBadExploreNumber : List Row → Type 0
 HasBadExploreNumber rows = IsOutOfRange 1 16 (nodes_in rows) ⊎ IsOutOfRange 1 100000000 (most_in rows) ⊎ (outcome_in rows ≡ Some 0)
     ⊎ IsSomeAnd (tries_in rows) (IsOutOfRange 1 1000000)
 
--- of `races`: no form has the word of the option
+-- neither groups nor the sure races alone are asked for
+abbrev pub IsAlone : List Row → Type 0
+IsAlone rows = IsFlag (codes "group") false rows × IsFlag (codes "sure") false rows
+
+-- where a sure race is to be shown: options that do not stand beside that, or a trace that cannot be read twice; then what are no two lines
+abbrev pub HasWitnessMisfit : List Row → Misfit → List Text → Type 0
+HasWitnessMisfit rows misfit texts =
+    ((misfit ≡ unfit.Witness) × (IsFlag (codes "group") true rows ⊎ IsFlag (codes "sure") true rows ⊎ (first_of (codes "FILE") rows ≡ Some (codes "-"))))
+    ⊎ ((misfit ≡ unfit.Lines) × ((lines : LinePair) → ¬ AreLines texts lines))
+
+-- of `races`: no form has the word of the option; then what does not fit where a sure race is to be shown
 abbrev pub HasRacesMisfit : List Row → Misfit → Type 0
-HasRacesMisfit rows misfit = (misfit ≡ unfit.TraceForm) × ((form : TraceForm) → ¬ IsTraceForm (first_of (codes "as") rows) form)
+HasRacesMisfit rows misfit = ((misfit ≡ unfit.TraceForm) × ((form : TraceForm) → ¬ IsTraceForm (first_of (codes "as") rows) form))
+    ⊎ ((form : TraceForm) × IsTraceForm (first_of (codes "as") rows) form × IsSomeAnd (witness_in rows) (HasWitnessMisfit rows misfit))
 
 -- of acts from anywhere: words are looked at before numbers
 abbrev pub HasForeignMisfit : List Row → Misfit → Type 0

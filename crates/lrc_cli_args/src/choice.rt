@@ -1,6 +1,6 @@
 // What the words of the command line ask for.
 
-ghost use Rattle.std.specs.Prelude.{◌≡◌, ◌≢◌, ◌≤◌, Some, true};
+ghost use Rattle.std.specs.Prelude.{◌≡◌, ◌≢◌, ◌<◌, ◌≤◌, Some, true};
 ghost use Rattle.lrc_cli_words.specs.Commands.{is_command};
 
 use lrc_envelope::Picker;
@@ -215,6 +215,25 @@ pub struct Racing<'w> {
     pub sure: bool,
 }
 
+/// The numbers of two lines of a trace, counted from 1, the lesser one first.
+#[derive(Clone, Copy)]
+pub struct LinePair {
+    pub first: u64,
+    pub second: u64,
+    pub ghost some: { 1 ≤ first },
+    pub ghost ascending: { first < second },
+}
+
+/// The options of the command `races` if a sure race is to be shown.
+#[derive(Clone, Copy)]
+pub struct Witnessing<'w> {
+    /// The file of the trace. It is not standard input.
+    pub file: &'w str,
+    pub form: TraceForm,
+    /// The lines of the two accesses.
+    pub lines: LinePair,
+}
+
 /// A text of acts for the command `why`. The acts may come from any system.
 #[derive(Clone, Copy)]
 pub struct ForeignActs<'w> {
@@ -281,6 +300,8 @@ pub enum Request<'w> {
     About(Topic<'w>),
     /// The races of a trace, which are reported while it is read.
     Races(Racing<'w>),
+    /// The events that show a sure race of a trace.
+    Witness(Witnessing<'w>),
     /// An answer to the texts in files.
     Answer(Choice<'w>),
 }

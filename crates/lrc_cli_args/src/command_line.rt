@@ -8,18 +8,16 @@ ghost use Rattle.lrc_cli_args.specs.CommandLine.{Chooses, HasJudgeMisfit, HasMis
 ghost use Rattle.lrc_cli_args.specs.CommandLine.{HasAnswerMisfit, HasTopicMisfit, IsAnswerTaken, IsRequest, IsRequestTaken};
 ghost use Rattle.lrc_cli_args.specs.CommandLine.{IsAskTaken, IsChoice, IsFoundFault, IsShowTaken};
 ghost use Rattle.lrc_cli_args.specs.CommandLine.{IsCommandTaken, fault_from, words_meant};
-ghost use Rattle.lrc_cli_args.specs.Options.{HasRacesMisfit, IsJudgeTaken, IsPlainTaken, IsRacesTaken, IsTraceForm};
-ghost use Rattle.lrc_cli_args.specs.declared.choice.TraceForm.{TraceForm as AnyTraceForm};
+ghost use Rattle.lrc_cli_args.specs.Options.{IsJudgeTaken, IsPlainTaken};
 ghost use Rattle.lrc_cli_args.specs.declared.choice.ChooseFault.TheVariants.{NoMemory};
 ghost use Rattle.lrc_cli_args.specs.declared.misfit.Misfit.TheVariants.{Number};
 ghost use Rattle.lrc_cli_args.specs.declared.misfit.Misfit.TheVariants as unfit;
 
 use crate::chart::chart_choice;
-use crate::choice::{
-    Choice, ChooseFault, CommandName, Judging, PlainRun, Racing, Request, Shape, Topic, TraceForm,
-};
+use crate::choice::{Choice, ChooseFault, CommandName, Judging, PlainRun, Request, Shape, Topic};
 use crate::explore::explore_choice;
 use crate::misfit::{Misfit, fault_of_misfit};
+use crate::races::races_request;
 use crate::reading::{is_named, nodes_of, some_nodes, some_number_of, steps_of, text_of};
 use crate::runs::{run_choice, showing_choice, step_choice, threads_run, trace_choice};
 use crate::why::why_choice;
@@ -111,33 +109,6 @@ fn help_request<'w>(options: &ArgMatches<'w>) -> Result<Request<'w>, Misfit>
             Ok(Request::About(Topic::Command(CommandName { name })))
         }
         Some(_) => Err(Misfit::Topic),
-    }
-}
-
-fn races_request<'w>(options: &ArgMatches<'w>) -> Result<Request<'w>, Misfit>
-    requires { IsRacesTaken (rows_of (found_of options.now)) }
-    ensures ok { IfOk result (IsRequest (codes "races", rows_of (found_of options.now))) }
-    ensures err { IfErr result (HasRacesMisfit (rows_of (found_of options.now))) }
-{
-    Ok(Request::Races(Racing {
-        file: text_of(options, "FILE"),
-        form: trace_form_named(text_of(options, "as"))?,
-        group: is_named(options, "group"),
-        sure: is_named(options, "sure"),
-    }))
-}
-
-fn trace_form_named(word: &str) -> Result<TraceForm, Misfit>
-    ensures ok { IfOk result (IsTraceForm (Some word.now)) }
-    ensures err { IfErr result (λ misfit. (misfit ≡ unfit.TraceForm)
-        × ((form : AnyTraceForm) → ¬ IsTraceForm (Some word.now) form)) }
-{
-    if word == "std" {
-        Ok(TraceForm::Std)
-    } else if word == "acts" {
-        Ok(TraceForm::Acts)
-    } else {
-        Err(Misfit::TraceForm)
     }
 }
 

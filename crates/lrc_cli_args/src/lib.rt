@@ -9,6 +9,7 @@ mod command_line;
 mod explore;
 mod files;
 mod misfit;
+mod races;
 mod reading;
 mod runs;
 mod topics;

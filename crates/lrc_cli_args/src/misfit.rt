@@ -47,6 +47,12 @@ const BAD_SOURCE: &str = "the argument '--source' cannot be used with '--text'";
 
 const BAD_TRACE_FORM: &str = "invalid value for '--as <FORM>': it is std or acts";
 
+const BAD_LINES: &str =
+    "invalid value for '--witness <I> <J>': they are the numbers of two lines, from 1 on, the lesser one first";
+
+const BAD_WITNESS: &str =
+    "the argument '--witness <I> <J>' cannot be used with '--group' or '--sure', or where FILE is '-'";
+
 const SAME_ACT: &str = "the argument '--and <Q>' cannot be the act of '--act <P>'";
 
 const BAD_SOURCES: &str = "the argument '[FILE]' cannot be used with '--acts <PATH>'";
@@ -88,6 +94,10 @@ pub(crate) enum Misfit {
     Topic,
     /// The value of `--as` in the command `races` is not one of its words.
     TraceForm,
+    /// The values of `--witness` are not the numbers of two lines, the lesser one first.
+    Lines,
+    /// A sure race is to be shown, but groups or sure races are asked for, or the trace is standard input.
+    Witness,
     /// The value of `--hide` is not one of its words.
     Hide,
     /// The program's text is asked for together with a chart for a terminal.
@@ -145,6 +155,7 @@ fn usage_kind(misfit: Misfit) -> ErrorKind
         | Misfit::Part
         | Misfit::Tries
         | Misfit::IgnoredRaces
+        | Misfit::Witness
         | Misfit::TextSource
         | Misfit::SameAct
         | Misfit::Sources
@@ -171,6 +182,8 @@ fn message_of(misfit: Misfit) -> &'static str {
         Misfit::IgnoredRaces => BAD_IGNORED_RACES,
         Misfit::Topic => BAD_TOPIC,
         Misfit::TraceForm => BAD_TRACE_FORM,
+        Misfit::Lines => BAD_LINES,
+        Misfit::Witness => BAD_WITNESS,
         Misfit::Hide => BAD_HIDE,
         Misfit::TextSource => BAD_SOURCE,
         Misfit::SameAct => SAME_ACT,

@@ -3,7 +3,7 @@
 ghost use Rattle.std.specs.Prelude.{◌≡◌, [], IfOk, false};
 ghost use Rattle.clap.specs.Words.{App, Rule, app_of, rule_of, with_rule, with_subcommand};
 ghost use Rattle.clap.specs.declared.builder.command.Command.TheViews.{out-Command as fields_of};
-ghost use Rattle.lrc_cli_words.specs.Commands.{act, bare_number, chart_command, check_command, collect, explain_command, explore_command, file, flag_option, form, help_command, judge_command, lint_command, memory, most, nodes, number_option, option, order};
+ghost use Rattle.lrc_cli_words.specs.Commands.{act, bare_number, chart_command, check_command, collect, explain_command, explore_command, file, flag_option, form, help_command, judge_command, line_pair, lint_command, memory, most, nodes, number_option, option, order};
 ghost use Rattle.lrc_cli_words.specs.Commands.{optional_file, page, plain_command, races_command, run_command, sim_command, stats_command, step_command, steps, trace_command, trace_form, treadmarks, treadmarks_shape, version_command, why_command};
 ghost use Rattle.lrc_cli_words.specs.Commands.{is_command, with_counts, with_hints, with_part, with_ways};
 ghost use Rattle.lrc_cli_words.specs.Commands.{with_questions, with_reports, with_run_options, with_showing_options, with_topics, with_way_options};
@@ -114,6 +114,12 @@ const GROUP_HELP: &str =
 
 const SURE_HELP: &str =
     "Tells only the sure races: those of which another trace of the same program shows the two accesses side by side";
+
+const WITNESS_HELP: &str =
+    "Shows that the accesses at lines I and J are a sure race: prints the events by way of which they were reached, and then the two. If they are none, says why. I is less than J; not with `--group` or `--sure`, or where FILE is `-`";
+
+// The two lines that `--witness` takes.
+static WITNESS_LINES: [&str; 2] = ["I", "J"];
 
 const COMMAND_HELP: &str = "The command. Left out, the commands are listed";
 
@@ -410,7 +416,8 @@ fn races_command<'w>(alloc: Global) -> Result<Command<'w>, AllocError>
     let command = taking(Ok(command), file(alloc, TRACE_HELP));
     let command = taking(command, trace_form(alloc));
     let command = taking(command, flag_option(alloc, "group", GROUP_HELP));
-    taking(command, flag_option(alloc, "sure", SURE_HELP))
+    let command = taking(command, flag_option(alloc, "sure", SURE_HELP));
+    taking(command, line_pair(alloc, "witness", WITNESS_HELP))
 }
 
 fn help_command<'w>(alloc: Global) -> Result<Command<'w>, AllocError>
@@ -527,6 +534,17 @@ fn text<'w>(alloc: Global, name: &'w str, value: &'w str, help: &'w str) -> Arg<
     Arg::new(alloc, name)
         .long(name)
         .value_name(value)
+        .help(help)
+}
+
+// An option that takes two lines of a trace.
+fn line_pair<'w>(alloc: Global, name: &'w str, help: &'w str) -> Arg<'w>
+    ensures rule { rule_of result ≡ line_pair name.entry.now }
+    ensures local { result.global ≡ false }
+{
+    Arg::new(alloc, name)
+        .long(name)
+        .value_names(&WITNESS_LINES)
         .help(help)
 }
 

@@ -210,8 +210,8 @@ fn event_of(body: &[u8]) -> Option<Named<'_>>
     }
 }
 
-// What of the line is no carriage return at its end.
-pub(crate) fn body_of(line: &[u8]) -> &[u8]
+/// Returns what stands on a line, without a carriage return at its end.
+pub fn body_of(line: &[u8]) -> &[u8]
     ensures { IsBody line.now result.now }
 {
     match without_last(line, b'\r') {

@@ -1,1 +1,2 @@
 pub mod TellerLemmas
+mod SeekerLemmas

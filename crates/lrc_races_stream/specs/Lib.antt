@@ -1,2 +1,3 @@
 pub mod Comes
 pub mod Plays
+pub mod Witness

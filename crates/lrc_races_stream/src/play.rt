@@ -72,7 +72,7 @@ fn conclude<E: Write>(alloc: Global, outcome: Outcome, err: &mut E) -> u8
 }
 
 // Says which line of a trace is bad, or, where there is no memory for that, that there is none.
-fn refuse_line<E: Write>(alloc: Global, line: u64, why: &[u8], err: &mut E) -> u8
+pub(crate) fn refuse_line<E: Write>(alloc: Global, line: u64, why: &[u8], err: &mut E) -> u8
     ensures told { IsTold (E.contents err.old) (E.contents err.new) (bad_line line why.now)
         ⊎ IsTold (E.contents err.old) (E.contents err.new) memory_line }
     ensures status { result ≡ 1 }

@@ -56,7 +56,8 @@ pub fn tell_races<B: Blocks, W: Write>(
     }
 }
 
-fn block_of(alloc: Global) -> Result<Vec<u8>, AllocError>
+// The block that is read.
+pub(crate) fn block_of(alloc: Global) -> Result<Vec<u8>, AllocError>
     ensures { IfOk result (λ block. 0 < vec_len block) }
 {
     vec![in alloc; 0; BLOCK]
@@ -140,7 +141,8 @@ impl Teller {
     }
 }
 
-fn write<W: Write>(text: &[u8], out: &mut W) -> io::Result<()>
+/// Writes a text, or only its beginning if a write fails.
+pub(crate) fn write<W: Write>(text: &[u8], out: &mut W) -> io::Result<()>
     ensures ok { OnOk result (Appends (W.contents out.old) (W.contents out.new) text.now) }
     ensures err { OnErr result (AppendsFront (W.contents out.old) (W.contents out.new) text.now) }
 {

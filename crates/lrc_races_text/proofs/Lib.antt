@@ -1,6 +1,6 @@
 mod ActLemmas
-mod NamingLemmas
+pub mod NamingLemmas
 mod TextLemmas
 mod SoughtLemmas
 mod JudgedLemmas
-mod SessionLemmas
+pub mod SessionLemmas

@@ -90,7 +90,7 @@ kept_completed before mid after part old new result kept ok =
     let d = done form asked lines (rest ++ part) told (kept form asked lines rest told a) in
     (d.0, d.1, subst (λ l. IsAt form asked (lines ++ l ∷ []) [] (told ++ d.0) after) (append-nil (rest ++ part)) d.2)) ok
 
-if_err : {V E : Type 0} {P Q : E → Type 0} (result : Result V E) → ((e : E) → P e → Q e) → IfErr result P → IfErr result Q
+pub if_err : {V E : Type 0} {P Q : E → Type 0} (result : Result V E) → ((e : E) → P e → Q e) → IfErr result P → IfErr result Q
 if_err (Ok v) f h = tt
 if_err (Err e) f h = f e h
 
@@ -154,11 +154,11 @@ too_long before part number fault next long says form asked lines rest told a fo
     let both = length-append rest part in
     (d.0 ∙ number_is, omega arith, d.1)
 
-long_bad : (form : Form) (line : List ℕ) → 4096 < length line → IsBad form line
+pub long_bad : (form : Form) (line : List ℕ) → 4096 < length line → IsBad form line
 long_bad Std line long = (λ n. let short = n.short in omega arith, λ saying says. let short = says.short in omega arith)
 long_bad Acts line long = (λ n. let short = n.short in omega arith, λ saying says. let short = says.short in omega arith)
 
-long_cause : (form : Form) (number : ℕ) (line : List ℕ) → 4096 < length line → IsCauseIn form number line line_too_long
+pub long_cause : (form : Form) (number : ℕ) (line : List ℕ) → 4096 < length line → IsCauseIn form number line line_too_long
 long_cause Std number line long = line_any (line_long long)
 long_cause Acts number line long = line_any (line_long long)
 
@@ -169,7 +169,7 @@ too_long_bad before part fault t form asked lines rest told a line why e =
 
 -- ---- bytes and lines
 
-lacks_both : (xs ys : List ℕ) → IsOneLine xs → IsOneLine ys → IsOneLine (xs ++ ys)
+pub lacks_both : (xs ys : List ℕ) → IsOneLine xs → IsOneLine ys → IsOneLine (xs ++ ys)
 lacks_both [] ys a b = b
 lacks_both (x ∷ xs) ys (ne, a) b = (ne, lacks_both xs ys a b)
 
@@ -202,7 +202,7 @@ cut_rest {bytes} {lines} {rest} part c one = record {
   last = lacks_both rest part c.last one;
 }
 
-cut_both : {bytes others rest : List ℕ} {lines more : List (List ℕ)} → IsCut bytes lines [] → IsCut others more rest → IsCut (bytes ++ others) (lines ++ more) rest
+pub cut_both : {bytes others rest : List ℕ} {lines more : List (List ℕ)} → IsCut bytes lines [] → IsCut others more rest → IsCut (bytes ++ others) (lines ++ more) rest
 cut_both {bytes} {others} {rest} {lines} {more} c d = record {
   whole = ap (λ b. b ++ others) (c.whole ∙ append-nil (flat_map ended lines)) ∙ ap (λ b. flat_map ended lines ++ b) d.whole
       ∙ sym (append_assoc (flat_map ended lines) (flat_map ended more) rest) ∙ ap (λ b. b ++ rest) (sym (ended_both lines more));
@@ -211,10 +211,10 @@ cut_both {bytes} {others} {rest} {lines} {more} c d = record {
 }
 
 -- all bytes can be cut
-record AreCut (bytes : List ℕ) : Type 0 where
-  lines : List (List ℕ)
-  rest : List ℕ
-  cut : IsCut bytes lines rest
+pub record AreCut (bytes : List ℕ) : Type 0 where
+  pub lines : List (List ℕ)
+  pub rest : List ℕ
+  pub cut : IsCut bytes lines rest
 
 byte_more : (byte : ℕ) (bytes : List ℕ) → (byte ≡ 10 → ⊥) → (lines : List (List ℕ)) (rest : List ℕ) → IsCut bytes lines rest → AreCut (byte ∷ bytes)
 byte_more byte bytes other [] rest c = record {
@@ -230,7 +230,7 @@ byte_more byte bytes other (line ∷ lines) rest c =
       cut = record { whole = ap (λ b. byte ∷ b) c.whole; each = ((other, one), more); last = c.last };
     }
 
-cut_of : (bytes : List ℕ) → AreCut bytes
+pub cut_of : (bytes : List ℕ) → AreCut bytes
 cut_of [] = record { lines = []; rest = []; cut = record { whole = refl; each = tt; last = tt } }
 cut_of (byte ∷ bytes) = go (byte == 10) refl (cut_of bytes)
   where

@@ -9,5 +9,6 @@ pub mod form;
 pub mod judged;
 pub mod naming;
 pub mod race_detector;
+pub mod reading;
 pub mod session;
 pub mod spelling;

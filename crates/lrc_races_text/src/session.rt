@@ -1,24 +1,19 @@
 // A trace as it comes, block by block.
-ghost use Rattle.std.specs.Prelude.{◌≡◌, ◌↔◌, ◌<◌, ◌+◌, ℕ, [], IfErr, IfOk, IsTrue, OnErr, OnOk, length};
-ghost use Rattle.lrc_races_lines.specs.Cause.{why_of, why_text};
-ghost use Rattle.lrc_races_text.specs.declared.fault.Fault.TheVariants.{BadEvent, NoMemory};
-ghost use Rattle.lrc_races_text.specs.Says.{IsBad, IsCauseIn};
-ghost use Rattle.lrc_races_text.specs.Told.{IsOneLine};
-ghost use Rattle.lrc_races_text.specs.Session.{ReadsIn, HasTakenLine, HasCompleted, IsBadLine, HasKept, IsTooLong};
-ghost use Rattle.lrc_races_text.specs.Session.{Text, HasRead, HasGoneOn, IsStoppedAt, HasEnded, HasFailed, IsNext, FailsLine};
+ghost use Rattle.std.specs.Prelude.{◌≡◌, ◌↔◌, ◌<◌, ◌+◌, [], IfErr, IfOk, IsTrue, OnErr, OnOk, length};
+ghost use Rattle.lrc_races_lines.specs.Line.{longest_line};
+ghost use Rattle.lrc_races_text.specs.declared.fault.Fault.TheVariants.{NoMemory};
+ghost use Rattle.lrc_races_text.specs.Session.{HasTakenLine, HasCompleted, IsBadLine, HasKept, IsTooLong};
+ghost use Rattle.lrc_races_text.specs.Session.{HasRead, HasGoneOn, IsStoppedAt, HasEnded, HasFailed, IsNext, FailsLine};
 
-use crate::acts::read_act;
 use crate::asked::Asked;
 use crate::fault::Fault;
 use crate::form::Form;
 use crate::judged::Judged;
-use lrc_races_lines::cause::{Cause, cause_of, cause_of_any, push_cause};
+use crate::reading::{LONGEST_LINE, bad_event, cause_in, read};
+use lrc_races_lines::cause::Cause;
 use lrc_races_lines::line::Line;
-use lrc_races_lines::reading::{read_line, split};
-use std::alloc::{AllocError, Global};
-
-/// The longest line, in bytes.
-const LONGEST_LINE: usize = 4096;
+use lrc_races_lines::reading::split;
+use std::alloc::Global;
 
 /// The analysis of a trace of which some bytes have come.
 #[derive(Drop)]
@@ -30,57 +25,6 @@ pub struct Session {
     lines: u64,
     /// The bytes of the next line that have come.
     rest: Vec<u8>,
-}
-
-// What a line says, its line feed left out.
-fn read(form: Form, line: &[u8]) -> Line<'_>
-    ensures { ReadsIn form line.now result }
-{
-    match form {
-        Form::Std => read_line(line),
-        Form::Acts => read_act(line),
-    }
-}
-
-// Why the line with this number is no act.
-fn act_cause(number: u64, line: &[u8]) -> Cause<'_>
-    ensures { IsCauseIn Form.Acts number line.now (why_of result) }
-{
-    match cause_of_any(number, line) {
-        Some(cause) => cause,
-        None => Cause::NoAct,
-    }
-}
-
-// Why the line with this number is bad.
-fn cause_in(form: Form, number: u64, line: &[u8]) -> Cause<'_>
-    ensures { IsOneLine line.now → IsBad form line.now
-        → IsCauseIn form number line.now (why_of result) }
-{
-    match form {
-        Form::Std => cause_of(number, line),
-        Form::Acts => act_cause(number, line),
-    }
-}
-
-// What is said of a cause.
-fn text_of(alloc: Global, cause: Cause<'_>) -> Result<Vec<u8>, AllocError>
-    ensures { IfOk result (λ text. text.items ≡ why_text (why_of cause.entry)) }
-{
-    let mut text = Vec::new(alloc);
-    push_cause(&mut text, cause)?;
-    Ok(text)
-}
-
-// The fault of a bad line, or, where there is no memory for what is said of it, that there is none.
-fn bad_event(alloc: Global, number: u64, cause: Cause<'_>) -> Fault
-    ensures { (line : ℕ) (why : Text) → result ≡ BadEvent line why → (line ≡ number)
-        × (why.items ≡ why_text (why_of cause.entry)) }
-{
-    match text_of(alloc, cause) {
-        Ok(text) => Fault::BadEvent(number, text),
-        Err(_error) => Fault::NoMemory,
-    }
 }
 
 // Takes a line with its number, and adds what is told of it.
@@ -134,7 +78,7 @@ impl Session {
 
     // Whether the line is too long of which this part comes behind what was kept.
     fn is_too_long(&self, part: &[u8]) -> bool
-        ensures { IsTrue result ↔ (LONGEST_LINE < length self.now.rest.items + length part.now) }
+        ensures { IsTrue result ↔ (longest_line < length self.now.rest.items + length part.now) }
     {
         if self.rest.len() > LONGEST_LINE {
             return true;

@@ -10,10 +10,11 @@ use Rattle.lrc_cli_args.specs.declared.choice.Choice.{Choice}
 use Rattle.lrc_cli_args.specs.declared.choice.ChooseFault.{ChooseFault}
 use Rattle.lrc_cli_args.specs.declared.choice.ChooseFault.TheVariants.{BadNumber, NoMemory, Usage}
 use Rattle.lrc_cli_args.specs.declared.choice.Racing.{Racing}
-use Rattle.lrc_cli_args.specs.declared.choice.Request.TheVariants.{About, Races, Answer}
+use Rattle.lrc_cli_args.specs.declared.choice.Request.TheVariants.{About, Races, Witness, Answer}
 use Rattle.lrc_cli_args.specs.declared.choice.Topic.{Topic}
 use Rattle.lrc_cli_args.specs.declared.choice.TraceForm.{TraceForm}
 use Rattle.lrc_cli_args.specs.declared.choice.TraceForm.TheVariants as args
+use Rattle.lrc_cli_args.specs.declared.choice.Witnessing.{Witnessing}
 use Rattle.lrc_cli.specs.Performance.{IsWritten, Performs}
 use Rattle.lrc_races_text.specs.declared.asked.Asked.{Asked}
 use Rattle.lrc_races_text.specs.declared.asked.Sought.{Sought}
@@ -21,6 +22,7 @@ use Rattle.lrc_races_text.specs.declared.asked.Sought.TheVariants.{AllRaces, Sur
 use Rattle.lrc_races_text.specs.declared.form.Form.{Form}
 use Rattle.lrc_races_text.specs.declared.form.Form.TheVariants as races
 use Rattle.lrc_races_stream.specs.Plays.{IsRacesPlayed}
+use Rattle.lrc_races_stream.specs.Witness.{IsWitnessPlayed}
 use Rattle.lrc_shell_sources.specs.Known.{IsCause, IsFront, Known}
 use Rattle.lrc_shell_sources.specs.Lines.{IsTold, memory_line, read_line}
 
@@ -106,6 +108,9 @@ pub data Plays (known : Known) (words : List Text) (out out' err err' : Option (
   spoken : (topic : Topic) → Chooses words (Ok (About topic)) → IsTopicTold out out' err err' status → Plays known words out out' err err' status
   raced : (racing : Racing) → Chooses words (Ok (Races racing))
       → IsRacesPlayed known racing.file.now (form_of racing.form) (asked_of racing) out out' err err' status → Plays known words out out' err err' status
+  witnessed : (witnessing : Witnessing) → Chooses words (Ok (Witness witnessing))
+      → IsWitnessPlayed known witnessing.file.now (form_of witnessing.form) witnessing.lines.first witnessing.lines.second out out' err err' status
+      → Plays known words out out' err err' status
   played : (choice : Choice) → Chooses words (Ok (Answer choice)) → IsPlayed known choice out out' err err' status
       → Plays known words out out' err err' status
 

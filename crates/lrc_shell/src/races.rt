@@ -2,10 +2,11 @@
 
 ghost use Rattle.std.specs.Prelude.{◌≡◌};
 ghost use Rattle.lrc_races_stream.specs.Plays.{IsRacesPlayed};
+ghost use Rattle.lrc_races_stream.specs.Witness.{IsWitnessPlayed};
 ghost use Rattle.lrc_shell.specs.Plays.{asked_of, form_of, sought_of};
 
-use lrc_cli_args::choice::{Racing, TraceForm};
-use lrc_races_stream::play_races;
+use lrc_cli_args::choice::{Racing, TraceForm, Witnessing};
+use lrc_races_stream::{play_races, play_witness};
 use lrc_races_text::asked::{Asked, Sought};
 use lrc_races_text::form::Form;
 use lrc_shell_sources::sources::Sources;
@@ -29,6 +30,30 @@ pub(crate) fn tell_races<F: Sources, W: Write, E: Write>(
         racing.file,
         form_of(racing.form),
         asked_of(racing),
+        sources,
+        out,
+        err,
+    )
+}
+
+/// Says whether the accesses on two lines of a trace are a sure race, and returns the exit status.
+pub(crate) fn tell_witness<F: Sources, W: Write, E: Write>(
+    alloc: Global,
+    witnessing: &Witnessing<'_>,
+    sources: &F,
+    out: &mut W,
+    err: &mut E,
+) -> u8
+    ensures { IsWitnessPlayed (F.known sources.now) witnessing.now.file.now
+        (form_of witnessing.now.form) witnessing.now.lines.first witnessing.now.lines.second
+        (W.contents out.old) (W.contents out.new) (E.contents err.old) (E.contents err.new) result }
+{
+    play_witness(
+        alloc,
+        witnessing.file,
+        form_of(witnessing.form),
+        witnessing.lines.first,
+        witnessing.lines.second,
         sources,
         out,
         err,

@@ -3,7 +3,8 @@
 use crate::checks::passes;
 use lrc_cli_args::choice::{
     Asking, ChartedActs, Charting, Choice, ChooseFault, Exploring, ForeignActs, Form, Judging,
-    Memory, Part, PlainRun, Racing, Request, RunOptions, Shape, Topic, TraceForm, Way,
+    LinePair, Memory, Part, PlainRun, Racing, Request, RunOptions, Shape, Topic, TraceForm, Way,
+    Witnessing,
 };
 use lrc_cli_args::choose;
 use lrc_envelope::Picker;
@@ -39,6 +40,8 @@ pub enum Wanted {
     Lint(&'static str),
     /// The races of a trace, in the form of acts or not, by groups or not.
     Races(&'static str, bool, bool),
+    /// Of a trace, in the form of acts or not: the two lines of which it is asked.
+    Witness(&'static str, bool, u64, u64),
     /// Of a run: of which act it is asked, and of which other.
     Why(Run, u64, Option<u64>),
     /// The same of acts from a file, of so many nodes, with pages of this size.
@@ -149,6 +152,14 @@ fn is_racing(made: &Racing<'_>, file: &str, acts: bool, group: bool) -> bool {
     made.file == file && matches!(made.form, TraceForm::Acts) == acts && made.group == group
 }
 
+fn is_witnessing(made: &Witnessing<'_>, file: &str, acts: bool) -> bool {
+    made.file == file && matches!(made.form, TraceForm::Acts) == acts
+}
+
+fn are_lines(made: LinePair, first: u64, second: u64) -> bool {
+    made.first == first && made.second == second
+}
+
 fn is_wanted_why(made: &Choice<'_>, wanted: &Wanted) -> bool {
     match (made, wanted) {
         (Choice::Show(made, Shape::Why(asking)), Wanted::Why(run, act, other)) => {
@@ -204,6 +215,12 @@ fn is_wanted_request(made: &Request<'_>, wanted: &Wanted) -> bool {
         Request::About(topic) => is_wanted_topic(topic, wanted),
         Request::Races(racing) => match wanted {
             Wanted::Races(file, acts, group) => is_racing(racing, file, *acts, *group),
+            _ => false,
+        },
+        Request::Witness(made) => match wanted {
+            Wanted::Witness(file, acts, first, second) => {
+                is_witnessing(made, file, *acts) && are_lines(made.lines, *first, *second)
+            }
             _ => false,
         },
         Request::Answer(choice) => is_wanted(choice, wanted),
@@ -495,6 +512,14 @@ const CHOICES: &[Row] = &[
     (
         "races --as=acts t.acts",
         Wanted::Races("t.acts", true, false),
+    ),
+    (
+        "races t.std --witness 3 18446744073709551615",
+        Wanted::Witness("t.std", false, 3, u64::MAX),
+    ),
+    (
+        "races --witness 01 +2 --as=acts t.acts",
+        Wanted::Witness("t.acts", true, 1, 2),
     ),
     ("why a.tm --act 3", Wanted::Why(A_RUN, 3, None)),
     (

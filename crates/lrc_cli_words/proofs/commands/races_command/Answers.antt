@@ -9,7 +9,8 @@ returns-clause-app c =
     let one = c.taking-command.ensures.app (new_app (codes "races")) _ c.file.ensures.local c.file.ensures.rule about_is in
     let two = c.taking-command-2.ensures.app _ _ c.trace_form.ensures.local c.trace_form.ensures.rule one in
     let three = c.taking-command-3.ensures.app _ _ c.flag_option.ensures.local c.flag_option.ensures.rule two in
-    c.taking.ensures.app _ _ c.flag_option-2.ensures.local c.flag_option-2.ensures.rule three
+    let four = c.taking-command-4.ensures.app _ _ c.flag_option-2.ensures.local c.flag_option-2.ensures.rule three in
+    c.taking.ensures.app _ _ c.line_pair.ensures.local c.line_pair.ensures.rule four
 
 pub returns-clause-local : goal.returns-clause-local
 returns-clause-local c =
@@ -17,4 +18,5 @@ returns-clause-local c =
     let one = c.taking-command.ensures.local c.file.ensures.local about_is in
     let two = c.taking-command-2.ensures.local c.trace_form.ensures.local one in
     let three = c.taking-command-3.ensures.local c.flag_option.ensures.local two in
-    c.taking.ensures.local c.flag_option-2.ensures.local three
+    let four = c.taking-command-4.ensures.local c.flag_option-2.ensures.local three in
+    c.taking.ensures.local c.line_pair.ensures.local four

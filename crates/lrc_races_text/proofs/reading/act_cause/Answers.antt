@@ -1,7 +1,7 @@
 -- Whatever it is, or since it is no act.
 use Rattle.std.proofs.Common.{refl}
 use Rattle.lrc_races_lines.specs.Cause.{line_any, line_other}
-use Rattle.lrc_races_text.proofs.session.act_cause.Goals as goal
+use Rattle.lrc_races_text.proofs.reading.act_cause.Goals as goal
 
 pub returns-in-Some : goal.returns-in-Some
 returns-in-Some c = line_any c.in-Some.ensures
