@@ -4,17 +4,17 @@
 _treadmarks_options() {
     case $1 in
     plain) echo "--nodes --steps" ;;
-    sim) echo "--nodes --steps --collect --order --page --events --seed" ;;
+    sim) echo "--nodes --steps --collect --order --page --events --then --seed" ;;
     run) echo "--nodes --steps --collect --order --page" ;;
-    trace) echo "--nodes --steps --collect --order --page --events --seed --threads --as --messages --from --to" ;;
-    step) echo "--nodes --steps --collect --order --page --events --seed --threads --from --to" ;;
-    explain) echo "--nodes --steps --collect --order --page --events --seed --threads" ;;
-    why) echo "--nodes --steps --collect --order --page --events --seed --acts --act --and" ;;
-    stats) echo "--nodes --steps --collect --order --page --events --seed --threads" ;;
-    chart) echo "--nodes --steps --collect --order --page --events --seed --threads --acts --text --from --to --hide --source" ;;
-    judge) echo "--nodes --pairs --all" ;;
+    trace) echo "--nodes --steps --collect --order --page --events --then --seed --threads --as --messages --from --to" ;;
+    step) echo "--nodes --steps --collect --order --page --events --then --seed --threads --from --to" ;;
+    explain) echo "--nodes --steps --collect --order --page --events --then --seed --threads" ;;
+    why) echo "--nodes --steps --collect --order --page --events --then --seed --acts --act --and" ;;
+    stats) echo "--nodes --steps --collect --order --page --events --then --seed --threads" ;;
+    chart) echo "--nodes --steps --collect --order --page --events --then --seed --threads --acts --text --from --to --hide --source" ;;
+    judge) echo "--nodes --pairs --all --memory --page --collect" ;;
     races) echo "--as --group --sure --witness" ;;
-    explore) echo "--nodes --most --outcomes --outcome --memory --tries --ignore-races" ;;
+    explore) echo "--nodes --most --outcomes --outcome --memory --tries --ignore-races --ends" ;;
     esac
 }
 
@@ -27,9 +27,10 @@ _treadmarks_values() {
     *,--order) echo "oldest newest twice random" ;;
     *,--page) echo "64 256" ;;
     *,--hide) echo "quiet" ;;
+    judge,--memory) echo "exact" ;;
     *,--memory) echo "flat lazy" ;;
     *,--events | *,--acts) echo FILE ;;
-    *,--threads | *,--messages | *,--text | *,--source | *,--pairs | *,--all | *,--group | *,--sure | *,--outcomes | *,--ignore-races) ;;
+    *,--threads | *,--messages | *,--text | *,--source | *,--pairs | *,--all | *,--group | *,--sure | *,--outcomes | *,--ignore-races | *,--ends) ;;
     *,--*) echo NUMBER ;;
     esac
 }

@@ -1,7 +1,7 @@
 -- What a judge says of what is printed of a run: that its acts are well synchronized and read lazily.
-use Rattle.std.proofs.Common.{◌≡◌, ◌≤◌, ◌⊎◌, ℕ, Bool, true, List, ◌++◌, Option, Some, None, append_assoc, refl, sym, subst, ap, ◌∙◌}
+use Rattle.std.proofs.Common.{◌≡◌, ◌≤◌, ◌⊎◌, ℕ, Bool, true, List, [], ◌++◌, append-nil, Option, Some, None, append_assoc, refl, sym, subst, ap, ◌∙◌}
 use Rattle.std.proofs.Common.{arith, inl, inr}
-use Rattle.std.specs.Prelude.{IfSome, MatchOption}
+use Rattle.std.specs.Prelude.{◌&&◌, IfSome, MatchOption}
 use Rattle.lrc_lang.specs.declared.program.Program.{Program}
 use Rattle.lrc_trace.specs.declared.act.Act.{Act}
 use Rattle.lrc_trace.specs.Conflict.{IsFirstRace, IsRaceFree}
@@ -20,7 +20,7 @@ use Rattle.lrc_acts.specs.Printed.{numbers_from}
 use Rattle.lrc_acts.proofs.OneLemmas.{one}
 use Rattle.lrc_judge_text.specs.Judgement as judgement
 use Rattle.lrc_judge_text.specs.Judgement.{CountsNodes, IsHead, IsJudgement}
-use Rattle.lrc_judge_text.specs.Judgement.{IsNodeCount, Judges, TellsLazyReading, TellsSynchronization, judge_status}
+use Rattle.lrc_judge_text.specs.Judgement.{IsNodeCount, Judges, TellsExactReading, TellsLazyReading, TellsSynchronization, judge_status}
 use Rattle.lrc_acts_text_laws.specs.JudgedRun.{IsJudgedRun}
 use Rattle.lrc_acts_text_laws.proofs.Printing.{acts_said}
 
@@ -66,6 +66,11 @@ tells_lazy acts lines so line lazy (judgement.lazy _) = (refl, refl)
 tells_lazy acts lines so line lazy (judgement.unlazy {position = position} first done allowed) =
     absurd (no_misread acts position lazy first.misread)
 
+-- where no exact memory is given, no line tells of one
+tells_unasked : (nodes : ℕ) (acts : List Act) (lines : List ℕ) (so : Bool) (line : List ℕ) → TellsExactReading nodes None acts lines so line
+    → (so ≡ true) × (line ≡ [])
+tells_unasked nodes acts lines so line judgement.unasked = (refl, refl)
+
 -- the status tells whether there is a race
 status_tells : (acts : List Act) (race : Option ℕ) → MatchOption race (IsRaceFree acts) (IsFirstRace acts)
     → ((judge_status true true race ≡ 0) × IsRaceFree acts) ⊎ ((judge_status true true race ≡ 3) × ¬ IsRaceFree acts)
@@ -73,20 +78,28 @@ status_tells acts None free = inl (refl, free)
 status_tells acts (Some position) first = inr (refl, λ free. free first.with position first.races)
 
 module _ (nodes : ℕ) (acts : List Act) (lines : List ℕ) (pairs : Bool) (out : List ℕ) (status : ℕ)
-    (is : IsJudgement nodes acts lines pairs out status) (synchronous : IsWellSynchronized nodes acts) (lazy : ReadsLazily acts) where
+    (is : IsJudgement nodes None acts lines pairs out status) (synchronous : IsWellSynchronized nodes acts) (lazy : ReadsLazily acts) where
   told_first : (is.holds ≡ true) × (is.is_head.first ≡ synchronized_line)
   told_first = tells_synchronized nodes acts lines is.holds is.is_head.first synchronous is.is_head.tells_synchronization
 
-  told_second : (is.reads ≡ true) × (is.is_head.second ≡ lazy_line)
-  told_second = tells_lazy acts lines is.reads is.is_head.second lazy is.is_head.tells_reading
+  told_second : (is.is_head.lazily ≡ true) × (is.is_head.second ≡ lazy_line)
+  told_second = tells_lazy acts lines is.is_head.lazily is.is_head.second lazy is.is_head.tells_reading
+
+  told_between : (is.is_head.exactly ≡ true) × (is.is_head.between ≡ [])
+  told_between = tells_unasked nodes acts lines is.is_head.exactly is.is_head.between is.is_head.tells_exactness
+
+  told_reads : is.reads ≡ true
+  told_reads = is.is_head.both ∙ ap (λ (b : Bool). b && is.is_head.exactly) told_second.0 ∙ ap (λ (b : Bool). true && b) told_between.0
 
   pub told_begins : (rest : List ℕ) × (out ≡ synchronized_line ++ lazy_line ++ rest)
   told_begins =
       let head = is.is_head in
       let front = synchronized_line ++ lazy_line in
       let lines_are : is.head ≡ front ++ head.third = head.whole
-      ∙ ap (λ (l : List ℕ). l ++ head.second ++ head.third) told_first.1
-      ∙ ap (λ (l : List ℕ). synchronized_line ++ l ++ head.third) told_second.1 in (
+      ∙ ap (λ (l : List ℕ). l ++ head.second ++ head.between ++ head.third) told_first.1
+      ∙ ap (λ (l : List ℕ). synchronized_line ++ l ++ head.between ++ head.third) told_second.1
+      ∙ ap (λ (l : List ℕ). front ++ l ++ head.third) told_between.1
+      ∙ ap (λ (l : List ℕ). l ++ head.third) (append-nil front) in (
         head.third ++ is.races ++ first_race_text is.race,
         is.whole ∙ ap (λ (l : List ℕ). l ++ is.races ++ first_race_text is.race) lines_are
             ∙ ap (λ (l : List ℕ). l ++ first_race_text is.race) (append_assoc front head.third is.races)
@@ -96,7 +109,7 @@ module _ (nodes : ℕ) (acts : List Act) (lines : List ℕ) (pairs : Bool) (out 
   pub told_status : ((status ≡ 0) × IsRaceFree acts) ⊎ ((status ≡ 3) × ¬ IsRaceFree acts)
   told_status =
       let same : status ≡ judge_status true true is.race = is.status_is
-      ∙ ap (λ (b : Bool). judge_status b is.reads is.race) told_first.0 ∙ ap (λ (b : Bool). judge_status true b is.race) told_second.0 in
+      ∙ ap (λ (b : Bool). judge_status b is.reads is.race) told_first.0 ∙ ap (λ (b : Bool). judge_status true b is.race) told_reads in
       subst (λ n. ((n ≡ 0) × IsRaceFree acts) ⊎ ((n ≡ 3) × ¬ IsRaceFree acts)) (sym same) (status_tells acts is.race is.is_first)
 
 -- ---- runs
@@ -112,10 +125,10 @@ module _ (acts : List Act) (pairs : Bool) (out : List ℕ) (status : ℕ) (is : 
   pub run_counted : CountsNodes is.given acts is.judged.count
   run_counted = subst (λ (l : List Act). CountsNodes is.given l is.judged.count) read_back.0 is.judged.counted
 
-  pub run_judged : IsJudgement is.judged.count acts (numbers_from 1 acts) pairs out status
+  pub run_judged : IsJudgement is.judged.count None acts (numbers_from 1 acts) pairs out status
   run_judged =
-      subst (λ (n : List ℕ). IsJudgement is.judged.count acts n pairs out status) read_back.1
-      (subst (λ (l : List Act). IsJudgement is.judged.count l is.judged.lined.lines.items pairs out status) read_back.0 is.judged.judgement)
+      subst (λ (n : List ℕ). IsJudgement is.judged.count None acts n pairs out status) read_back.1
+      (subst (λ (l : List Act). IsJudgement is.judged.count None l is.judged.lined.lines.items pairs out status) read_back.0 is.judged.judgement)
 
   run_follows : FollowsText is.is_printed.program is.nodes acts
   run_follows =

@@ -1,7 +1,7 @@
 // What always holds of texts of the runs of a program. Each function is a theorem: its body is empty, and its clauses are the law.
 
 ghost use Rattle.std.specs.Prelude.{◌≡◌, ◌≢◌, ◌<◌, ◌≤◌, ◌⊎◌, ◌↔◌, ◌++◌, ℕ, All, Bool, List, length};
-ghost use Rattle.std.specs.Prelude.{IfSome, MatchResult, Option, Result, Some};
+ghost use Rattle.std.specs.Prelude.{IfSome, MatchResult, None, Option, Result, Some};
 ghost use Rattle.lrc_lang.specs.declared.program.Program.{Program};
 ghost use Rattle.lrc_lang.specs.Faults.{IsText};
 ghost use Rattle.lrc_lang.specs.Tree.{program_of};
@@ -90,7 +90,7 @@ pub fn printed_runs_are_judged_as_their_acts()
     ensures judgement { (acts : List Act) (pairs : Bool) (out : List ℕ) (status : ℕ)
         (is : IsJudgedRun acts pairs out status)
         → (count : ℕ) × CountsNodes is.given acts count
-        × IsJudgement count acts (numbers_from 1 acts) pairs out status }
+        × IsJudgement count None acts (numbers_from 1 acts) pairs out status }
     ensures begins { (acts : List Act) (pairs : Bool) (out : List ℕ) (status : ℕ)
         → IsJudgedRun acts pairs out status
         → (rest : List ℕ) × (out ≡ synchronized_line ++ lazy_line ++ rest) }

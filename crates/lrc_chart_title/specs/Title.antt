@@ -10,7 +10,9 @@ use Rattle.lrc_cli_args.specs.declared.choice.RunChoice.{RunChoice}
 use Rattle.lrc_cli_args.specs.declared.choice.RunOptions.{RunOptions}
 use Rattle.lrc_cli_args.specs.declared.choice.Way.{Way}
 use Rattle.lrc_chart_title.specs.Word.{behind_text, front_text, value_text}
-use Rattle.lrc_cli_args.specs.declared.choice.Way.TheVariants.{Events, Rounds, Random, Threads}
+use Rattle.lrc_cli_args.specs.declared.choice.Way.TheVariants.{Events, Followed, Rounds, Random, Threads}
+use Rattle.lrc_cli_args.specs.declared.choice.Then.{Then}
+use Rattle.lrc_cli_args.specs.declared.choice.Then.TheVariants as thens
 
 -- an option and its number, left out where the number is the one that it has without words
 abbrev pub option_text : List ℕ → ℕ → ℕ → List ℕ
@@ -37,9 +39,17 @@ picker_text Oldest = []
 picker_text Newest = codes " --order newest"
 picker_text Twice = codes " --order twice"
 
+-- the option that says how a run goes on behind its events
+abbrev pub then_text : Then → List ℕ
+then_text (thens.Rounds Oldest) = codes " --then oldest"
+then_text (thens.Rounds Newest) = codes " --then newest"
+then_text (thens.Rounds Twice) = codes " --then twice"
+then_text (thens.Random seed) = codes " --then random" ++ option_text (codes " --seed ") 0 seed
+
 -- the options that say how a run goes on
 abbrev pub way_text : Way → List ℕ
 way_text (Events path) = value_text (codes " --events") path.now
+way_text (Followed path next) = value_text (codes " --events") path.now ++ then_text next
 way_text (Rounds picker) = picker_text picker
 way_text (Random seed) = codes " --order random" ++ option_text (codes " --seed ") 0 seed
 way_text (Threads picker) = picker_text picker ++ codes " --threads"

@@ -2,10 +2,10 @@
 
 ghost use Rattle.std.specs.Prelude.{◌≡◌, ◌++◌, [], IfOk, OnOk, codes, if◌then◌else◌, option_map};
 ghost use Rattle.lrc_chart_title.specs.Title.{charting_text, option_text, options_text, page_size_text, picker_text, some_option_text};
-ghost use Rattle.lrc_chart_title.specs.Title.{title_text, title_text_of_acts, way_text};
+ghost use Rattle.lrc_chart_title.specs.Title.{then_text, title_text, title_text_of_acts, way_text};
 
 use crate::word::{push_front, push_last, push_value};
-use lrc_cli_args::choice::{ChartedActs, Charting, Nodes, RunChoice, RunOptions, Way};
+use lrc_cli_args::choice::{ChartedActs, Charting, Nodes, RunChoice, RunOptions, Then, Way};
 use lrc_envelope::Picker;
 use lrc_page::Size;
 use lrc_text::push_number;
@@ -127,6 +127,10 @@ fn push_way(text: &mut Vec<u8>, way: &Way<'_>) -> Result<(), AllocError>
 {
     match *way {
         Way::Events(path) => push_value(text, b" --events", path.as_bytes()),
+        Way::Followed(path, next) => {
+            push_value(text, b" --events", path.as_bytes())?;
+            push_then(text, next)
+        }
         Way::Rounds(picker) => push_order(text, picker),
         Way::Random(seed) => push_random(text, seed),
         Way::Threads(picker) => {
@@ -134,6 +138,25 @@ fn push_way(text: &mut Vec<u8>, way: &Way<'_>) -> Result<(), AllocError>
             text.extend_from_slice(b" --threads")
         }
     }
+}
+
+// Adds the option that says how a run goes on behind its events.
+fn push_then(text: &mut Vec<u8>, next: Then) -> Result<(), AllocError>
+    ensures { OnOk result (text.new.items ≡ text.old.items ++ then_text next) }
+{
+    match next {
+        Then::Rounds(Picker::Oldest) => text.extend_from_slice(b" --then oldest"),
+        Then::Rounds(Picker::Newest) => text.extend_from_slice(b" --then newest"),
+        Then::Rounds(Picker::Twice) => text.extend_from_slice(b" --then twice"),
+        Then::Random(seed) => push_then_random(text, seed),
+    }
+}
+
+fn push_then_random(text: &mut Vec<u8>, seed: u64) -> Result<(), AllocError>
+    ensures { OnOk result (text.new.items ≡ text.old.items ++ then_text (Then.Random seed)) }
+{
+    text.extend_from_slice(b" --then random")?;
+    push_unless(text, b" --seed ", DEFAULT_SEED, seed)
 }
 
 fn push_order(text: &mut Vec<u8>, picker: Picker) -> Result<(), AllocError>

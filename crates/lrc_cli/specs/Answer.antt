@@ -1,5 +1,5 @@
 -- What the program answers to a choice: a text that it prints and its status, or the first fault.
-use Rattle.std.specs.Prelude.{◌≡◌, ◌⊎◌, ◌&&◌, ℕ, Bool, true, false, not, List, Option, None, Some, Result, Ok, Err, codes, option_map}
+use Rattle.std.specs.Prelude.{◌≡◌, ◌≢◌, ◌⊎◌, ◌&&◌, ℕ, Bool, true, false, not, List, Option, None, Some, Result, Ok, Err, codes, option_map}
 use Rattle.lrc_acts.specs.ActsText.{ReadsActs}
 use Rattle.lrc_acts.specs.declared.reading.ActsFault.TheVariants.{BadAct, TooLong}
 use Rattle.lrc_exec.specs.Rounds.{AreActsOfRounds}
@@ -10,12 +10,15 @@ use Rattle.lrc_trace.specs.declared.act.Act.{Act}
 use Rattle.lrc_text.specs.Parts.{whole_text}
 use Rattle.lrc_explore.specs.Answers.{FitsSettled, FitsSettledNoted}
 use Rattle.lrc_explore_text.specs.Explored.{Explores, MeetsFew, MeetsTooMany}
+use Rattle.lrc_explore_text.specs.Ends.{TellsEnds}
 use Rattle.lrc_explore_text.specs.Orders.{TellsFindings}
 use Rattle.lrc_explore_text.specs.OutcomeRun.{HasFewerOutcomes, TellsNumberedRun}
 use Rattle.lrc_labels.specs.Reading.{Label}
 use Rattle.lrc_judge_all.specs.JudgesAll.{JudgesAll}
 use Rattle.lrc_judge_text.specs.Judgement.{Judges}
 use Rattle.lrc_judge_text.specs.PairsTold.{HasItsRaces, told_text}
+use Rattle.lrc_judge_text.specs.declared.memory.ExactMemory.{ExactMemory}
+use Rattle.lrc_page.specs.Page.{words_of}
 use Rattle.lrc_lint_fault.specs.Told.{TellsNoProgram}
 use Rattle.lrc_lint.specs.Linted.{LintsProgram}
 use Rattle.lrc_why_text.specs.Answers.{AnswersActs, RefusesActs}
@@ -69,6 +72,11 @@ IsPrintoutOfRounds program nodes steps out status =
 abbrev pub judged_nodes : Judging → Option ℕ
 judged_nodes judging = option_map (λ nodes. nodes.count) judging.nodes
 
+-- the memory is the exact memory that the acts are held against; it is there where one is named
+pub record IsJudgedMemory (judging : Judging) (memory : Option ExactMemory) : Type 0 where
+  pub pages : option_map (λ m. m.page_words) memory ≡ option_map (λ exact. words_of exact.size) judging.memory
+  pub collections : option_map (λ m. m.collect) memory ≡ option_map (λ exact. exact.collect.count) judging.memory
+
 -- the text shows a run that has the outcome of this number, and the search met no more states than it may
 abbrev pub ShowsOutcome : Exploring → Program → (places : List ℕ) → (number : ℕ) → List ℕ → ℕ → Type 0
 ShowsOutcome exploring program places number out status = TellsNumberedRun program exploring.nodes.count places number out × (status ≡ 0)
@@ -99,11 +107,21 @@ abbrev pub ShowsFindings : Exploring → List Label → Program → (places : Li
 ShowsFindings exploring labels program places out status = TellsFindings labels program exploring.nodes.count places out status
     × FitsSettled program exploring.nodes.count exploring.most.count
 
--- of one flat memory: of the outcome that is asked for, of every order but for races where they are ignored, or of every order
-abbrev pub IsFlatAnswer : Option OutcomeNumber → (ignores_races : Bool) → Exploring → List Label → Program → (places : List ℕ) → List ℕ → ℕ → Type 0
-IsFlatAnswer (Some outcome) ignores_races exploring labels program places out status = ShowsOutcome exploring program places outcome.number out status
-IsFlatAnswer None true exploring labels program places out status = ShowsFindings exploring labels program places out status
-IsFlatAnswer None false exploring labels program places out status = ShowsOrders exploring labels program places out status
+-- the text and the status are what is said of every order and of ends, where races are looked for or ignored, and the search met no more
+-- states than it may, unless it ended at a race, whose status is 3
+abbrev pub ShowsEnds : Exploring → List Label → Program → (places : List ℕ) → List ℕ → ℕ → Type 0
+ShowsEnds exploring labels program places out status =
+    TellsEnds labels program exploring.nodes.count places (not exploring.ignores_races) out status
+    × (status ≢ 3 → FitsSettled program exploring.nodes.count exploring.most.count)
+
+-- of one flat memory: of the outcome that is asked for, of every order and of ends where they are asked for, of every order but for races
+-- where they are ignored, or of every order
+abbrev pub IsFlatAnswer : Option OutcomeNumber → (ends ignores_races : Bool) → Exploring → List Label → Program → (places : List ℕ) → List ℕ → ℕ → Type 0
+IsFlatAnswer (Some outcome) ends ignores_races exploring labels program places out status =
+    ShowsOutcome exploring program places outcome.number out status
+IsFlatAnswer None true ignores_races exploring labels program places out status = ShowsEnds exploring labels program places out status
+IsFlatAnswer None false true exploring labels program places out status = ShowsFindings exploring labels program places out status
+IsFlatAnswer None false false exploring labels program places out status = ShowsOrders exploring labels program places out status
 
 -- of any memory that keeps lazy reading: of the outcome that is asked for, of all outcomes, or else of every order, since races are the same
 abbrev pub IsLazyAnswer : Option OutcomeNumber → (outcomes : Bool) → Exploring → List Label → Program → (places : List ℕ) → List ℕ → ℕ → Type 0
@@ -114,7 +132,7 @@ IsLazyAnswer None false exploring labels program places out status = ShowsOrders
 -- of the memory that is asked for
 abbrev pub IsAnswerTo : Memory → Exploring → List Label → Program → (places : List ℕ) → List ℕ → ℕ → Type 0
 IsAnswerTo Flat exploring labels program places out status =
-    IsFlatAnswer exploring.outcome exploring.ignores_races exploring labels program places out status
+    IsFlatAnswer exploring.outcome exploring.ends exploring.ignores_races exploring labels program places out status
 IsAnswerTo Lazy exploring labels program places out status =
     IsLazyAnswer exploring.outcome exploring.outcomes exploring labels program places out status
 
@@ -146,10 +164,12 @@ pub record IsActsCharted (acts : ChartedActs) (charting : Charting) (text out : 
   pub drawn : IsDrawn charting.text picture out
   pub ended : status ≡ 0
 
--- a judgement of acts; where that is asked for, with each read that breaks a rule
-abbrev pub IsJudged : (all : Bool) → Judging → List ℕ → List ℕ → ℕ → Type 0
-IsJudged true judging text out status = JudgesAll (judged_nodes judging) judging.pairs text out status
-IsJudged false judging text out status = Judges (judged_nodes judging) judging.pairs text out status
+-- a judgement of acts, with their racing pairs or not; where that is asked for, with each read that breaks a rule
+abbrev pub IsJudged : (all pairs : Bool) → Judging → List ℕ → List ℕ → ℕ → Type 0
+IsJudged true pairs judging text out status =
+    (memory : Option ExactMemory) × IsJudgedMemory judging memory × JudgesAll (judged_nodes judging) memory pairs text out status
+IsJudged false pairs judging text out status =
+    (memory : Option ExactMemory) × IsJudgedMemory judging memory × Judges (judged_nodes judging) memory pairs text out status
 
 -- What is printed, with the status: `ok` where the text is a program's, the report of what the program does in rounds on
 -- the plain machine, what is shown of its run, a judgement of acts, or what every order of the program comes to.
@@ -159,7 +179,7 @@ Prints (Plain run) text events_text out status =
     (program : Program) × IsTextOf text program
     × IsPrintoutOfRounds program run.nodes.count run.steps.count out status
 Prints (Show run shape) text events_text out status = ShowsRun run shape text events_text out status
-Prints (Judge judging) text events_text out status = IsJudged judging.all judging text out status
+Prints (Judge judging) text events_text out status = IsJudged judging.all judging.pairs judging text out status
 Prints (Explore exploring) text events_text out status =
     (program : Program) × IsTextOf text program × IsExploration exploring text program out status
 Prints (Lint file) text events_text out status = IsLinted file.now text out status
@@ -217,17 +237,18 @@ HasLazyRunFault exploring program number (TooManyStates most) = (most ≡ explor
 HasLazyRunFault exploring program number NoMemory = Unit {0}
 HasLazyRunFault exploring program number _ = ⊥
 
--- of one that looks for no race
+-- of one that looks for no race, and of one for ends
 abbrev pub HasFindingsFault : Exploring → Program → Fault → Type 0
 HasFindingsFault exploring program (TooManyStates most) = (most ≡ exploring.most.count) × MeetsTooMany program exploring.nodes.count most false
 HasFindingsFault exploring program NoMemory = Unit {0}
 HasFindingsFault exploring program _ = ⊥
 
 -- by what is asked for
-abbrev pub IsFlatFault : Option OutcomeNumber → (ignores_races : Bool) → Exploring → Program → Fault → Type 0
-IsFlatFault (Some outcome) ignores_races exploring program fault = HasOutcomeFault exploring program outcome.number fault
-IsFlatFault None true exploring program fault = HasFindingsFault exploring program fault
-IsFlatFault None false exploring program fault = HasOrdersFault exploring program fault
+abbrev pub IsFlatFault : Option OutcomeNumber → (ends ignores_races : Bool) → Exploring → Program → Fault → Type 0
+IsFlatFault (Some outcome) ends ignores_races exploring program fault = HasOutcomeFault exploring program outcome.number fault
+IsFlatFault None true ignores_races exploring program fault = HasFindingsFault exploring program fault
+IsFlatFault None false true exploring program fault = HasFindingsFault exploring program fault
+IsFlatFault None false false exploring program fault = HasOrdersFault exploring program fault
 
 abbrev pub IsLazyFault : Option OutcomeNumber → (outcomes : Bool) → Exploring → Program → Fault → Type 0
 IsLazyFault (Some outcome) outcomes exploring program fault = HasLazyRunFault exploring program outcome.number fault
@@ -236,7 +257,7 @@ IsLazyFault None false exploring program fault = HasOrdersFault exploring progra
 
 -- the fault of a search through the runs of the memory that is asked for
 abbrev pub IsFaultIn : Memory → Exploring → Program → Fault → Type 0
-IsFaultIn Flat exploring program fault = IsFlatFault exploring.outcome exploring.ignores_races exploring program fault
+IsFaultIn Flat exploring program fault = IsFlatFault exploring.outcome exploring.ends exploring.ignores_races exploring program fault
 IsFaultIn Lazy exploring program fault = IsLazyFault exploring.outcome exploring.outcomes exploring program fault
 
 abbrev pub IsSearchFault : Exploring → Program → Fault → Type 0

@@ -2,7 +2,7 @@
 
 ghost use Rattle.std.specs.Prelude.{◌≡◌, ◌≤◌, IfErr, IfOk, None};
 ghost use Rattle.lrc_cli.specs.Answer.{HasFindingsFault, HasLazyFault, HasLazyRunFault, HasOrdersFault, HasOutcomeFault, IsExploration, IsFault, IsFlatAnswer, IsFlatFault};
-ghost use Rattle.lrc_cli.specs.Answer.{IsLazyAnswer, IsLazyFault, IsSearchFault, Prints, ShowsFindings, ShowsLazyOutcomes, ShowsLazyRun, ShowsOrders, ShowsOutcome, tries_asked};
+ghost use Rattle.lrc_cli.specs.Answer.{IsLazyAnswer, IsLazyFault, IsSearchFault, Prints, ShowsEnds, ShowsFindings, ShowsLazyOutcomes, ShowsLazyRun, ShowsOrders, ShowsOutcome, tries_asked};
 ghost use Rattle.lrc_cli_answer.specs.Labels.{labels_in};
 ghost use Rattle.lrc_cli_answer.specs.Texts.{IsTextOf};
 ghost use Rattle.lrc_text.specs.Parts.{whole_text};
@@ -11,6 +11,7 @@ ghost use Rattle.lrc_cli_args.specs.declared.choice.Choice.TheVariants.{Explore}
 use lrc_cli_answer::fault::Fault;
 use lrc_cli_answer::printout::{Printout, in_one};
 use lrc_cli_args::choice::{Exploring, Memory};
+use lrc_explore_text::ends::explored_ends;
 use lrc_explore_text::orders::findings_told;
 use lrc_explore_text::outcome_run::outcome_run_told;
 use lrc_labels::read_labels;
@@ -65,14 +66,15 @@ fn of_flat(
 ) -> Result<Printout, Fault>
     requires { IsTextOf text.now program.now }
     ensures ok { IfOk result (λ printout.
-        IsFlatAnswer exploring.now.outcome exploring.now.ignores_races exploring.now
+        IsFlatAnswer exploring.now.outcome exploring.now.ends exploring.now.ignores_races exploring.now
         (labels_in text.now program.now) program.now lines.now
         (whole_text printout.parts.items) printout.status) }
-    ensures err { IfErr result (IsFlatFault exploring.now.outcome exploring.now.ignores_races
-        exploring.now program.now) }
+    ensures err { IfErr result (IsFlatFault exploring.now.outcome exploring.now.ends
+        exploring.now.ignores_races exploring.now program.now) }
 {
     match exploring.outcome {
         Some(outcome) => one_outcome(alloc, exploring, program, lines, outcome.number),
+        None if exploring.ends => ends_asked(alloc, exploring, text, program, lines),
         None if exploring.ignores_races => races_ignored(alloc, exploring, text, program, lines),
         None => every_order(alloc, exploring, text, program, lines),
     }
@@ -156,6 +158,43 @@ fn races_ignored(
     let nodes = exploring.nodes.count;
     let most = exploring.most.count;
     match findings_told(alloc, &labels.said, program, lines, nodes, most as usize) {
+        Ok(told) => Ok(Printout {
+            parts: told.parts,
+            status: told.status,
+        }),
+        Err(ExploreFault::TooMany) => Err(Fault::TooManyStates(most)),
+        Err(ExploreFault::NoMemory) => Err(Fault::NoMemory),
+        Err(ExploreFault::BadNodes) => unreachable!(),
+    }
+}
+
+// What is said of every order and of ends.
+fn ends_asked(
+    alloc: Global,
+    exploring: &Exploring<'_>,
+    text: &[u8],
+    program: &Program,
+    lines: &[u32],
+) -> Result<Printout, Fault>
+    requires { IsTextOf text.now program.now }
+    ensures ok { IfOk result (λ printout.
+        ShowsEnds exploring.now (labels_in text.now program.now) program.now lines.now
+        (whole_text printout.parts.items) printout.status) }
+    ensures err { IfErr result (HasFindingsFault exploring.now program.now) }
+{
+    let labels = read_labels(alloc, text, program.words, program.locks)?;
+    let nodes = exploring.nodes.count;
+    let most = exploring.most.count;
+    let races = !exploring.ignores_races;
+    match explored_ends(
+        alloc,
+        &labels.said,
+        program,
+        lines,
+        nodes,
+        most as usize,
+        races,
+    ) {
         Ok(told) => Ok(Printout {
             parts: told.parts,
             status: told.status,

@@ -1,10 +1,8 @@
 // What the program answers to the command `judge`.
 
 ghost use Rattle.std.specs.Prelude.{◌≡◌, ◌≤◌, IfErr, IfOk, IfSome, false, true};
-ghost use Rattle.lrc_cli.specs.Answer.{IsActsFault, judged_nodes};
+ghost use Rattle.lrc_cli.specs.Answer.{IsActsFault, IsJudged, IsJudgedMemory, judged_nodes};
 ghost use Rattle.lrc_text.specs.Parts.{whole_text};
-ghost use Rattle.lrc_judge_all.specs.JudgesAll.{JudgesAll};
-ghost use Rattle.lrc_judge_text.specs.Judgement.{Judges};
 ghost use Rattle.lrc_judge_text.specs.PairsTold.{HasItsRaces, told_text};
 
 use lrc_cli_answer::fault::Fault;
@@ -12,16 +10,17 @@ use lrc_cli_answer::printout::Printout;
 use lrc_cli_args::choice::Judging;
 use lrc_judge_all::judge_all;
 use lrc_judge_text::judge::judge;
+use lrc_judge_text::memory::ExactMemory;
 use lrc_judge_text::pairs::{PairsJudgement, judge_pairs};
 use std::alloc::Global;
 
 /// Answers the command `judge`, without racing pairs, for a text of acts.
 pub(crate) fn judged(alloc: Global, judging: &Judging<'_>, text: &[u8]) -> Result<Printout, Fault>
-    ensures ok { IfOk result (λ printout. Judges (judged_nodes judging.now) false text.now
+    ensures ok { IfOk result (λ printout. IsJudged false false judging.now text.now
         (whole_text printout.parts.items) printout.status) }
     ensures err { IfErr result (IsActsFault (judged_nodes judging.now) text.now) }
 {
-    let judged = judge(alloc, text, nodes_of(judging))?;
+    let judged = judge(alloc, text, nodes_of(judging), memory_of(judging))?;
     Ok(Printout {
         parts: judged.parts,
         status: judged.status,
@@ -36,11 +35,11 @@ pub(crate) fn judged_with_pairs(
     text: &[u8],
 ) -> Result<PairsJudgement, Fault>
     ensures ok { IfOk result (λ judgement.
-        Judges (judged_nodes judging.now) true text.now (told_text judgement) judgement.status) }
+        IsJudged false true judging.now text.now (told_text judgement) judgement.status) }
     ensures races { IfOk result HasItsRaces }
     ensures err { IfErr result (IsActsFault (judged_nodes judging.now) text.now) }
 {
-    let judgement = judge_pairs(alloc, text, nodes_of(judging))?;
+    let judgement = judge_pairs(alloc, text, nodes_of(judging), memory_of(judging))?;
     Ok(judgement)
 }
 
@@ -51,11 +50,17 @@ pub(crate) fn judged_all(
     text: &[u8],
 ) -> Result<Printout, Fault>
     ensures ok { IfOk result (λ printout.
-        JudgesAll (judged_nodes judging.now) judging.now.pairs text.now
+        IsJudged true judging.now.pairs judging.now text.now
         (whole_text printout.parts.items) printout.status) }
     ensures err { IfErr result (IsActsFault (judged_nodes judging.now) text.now) }
 {
-    let judged = judge_all(alloc, text, nodes_of(judging), judging.pairs)?;
+    let judged = judge_all(
+        alloc,
+        text,
+        nodes_of(judging),
+        memory_of(judging),
+        judging.pairs,
+    )?;
     Ok(Printout {
         parts: judged.parts,
         status: judged.status,
@@ -69,6 +74,19 @@ fn nodes_of(judging: &Judging<'_>) -> Option<u32>
 {
     match judging.nodes {
         Some(nodes) => Some(nodes.count),
+        None => None,
+    }
+}
+
+// The exact memory that the acts are held against, if one is named.
+fn memory_of(judging: &Judging<'_>) -> Option<ExactMemory>
+    ensures { IsJudgedMemory judging.now result }
+{
+    match judging.memory {
+        Some(exact) => Some(ExactMemory {
+            page_words: u32::from(exact.size.words()),
+            collect: exact.collect.count,
+        }),
         None => None,
     }
 }

@@ -1,8 +1,9 @@
 -- What is known of the command that clap found, by its name.
 use Rattle.std.proofs.Common.{◌≡◌, List, Option, None, Some, IsSomeAnd, Result, Ok, Err, IfErr, IsErrAnd, codes, option_map}
-use Rattle.std.proofs.Common.{ap, false, inl, inr, refl, subst, sym, true}
+use Rattle.std.proofs.Common.{◌∙◌, ap, false, inl, inr, refl, subst, sym, true}
 use Rattle.std.specs.Prelude.{Box, Bool}
 use Rattle.std.specs.Str.{bytes_eq}
+use Rattle.std.specs.Borrow.{Bor}
 use Rattle.std.specs.Box.{box_value}
 use Rattle.clap.specs.Words.{Row, Text}
 use Rattle.clap.specs.Simple.{subcommand_rows}
@@ -12,6 +13,11 @@ use Rattle.lrc_cli_args.specs.CommandLine.{IsAskTaken, IsCommandTaken, IsRequest
 use Rattle.lrc_cli_args.specs.Options.{HasValue, IsChartTaken, IsExploreTaken, IsJudgeTaken, IsPlainTaken, IsRacesTaken, IsRunTaken, IsShowingTaken, IsSimTaken, IsTraceTaken}
 use Rattle.lrc_cli_args.specs.Options.{IsStepTaken, IsWhyTaken}
 use Rattle.lrc_cli_args.specs.declared.misfit.Misfit.{Misfit}
+
+-- what a text that was read is among the rows
+pub read_is : (got : Option (Bor Text)) (value row : Option Text) (was : Option (Bor Text)) → option_map (λ s. s.now) got ≡ value → value ≡ row → got ≡ was
+    → row ≡ option_map (λ s. s.now) was
+read_is got value row was reads is got_is = sym is ∙ sym reads ∙ ap (option_map (λ s. s.now)) got_is
 
 module _ {Z : Type 0} where
   -- the name of a subcommand stands before its rows

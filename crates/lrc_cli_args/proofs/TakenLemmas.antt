@@ -233,8 +233,17 @@ judge_keyed = (
       (
         record { own = refl; acts = inr (inl (refl, lit< tt)) },
         (
-          record { own = refl; acts = inr (inr refl) },
-          tt,
+          record { own = refl; acts = inl (refl, lit< tt) },
+          (
+            record { own = refl; acts = inl (refl, lit< tt) },
+            (
+              record { own = refl; acts = inl (refl, lit< tt) },
+              (
+                record { own = refl; acts = inr (inr refl) },
+                tt,
+              ),
+            ),
+          ),
         ),
       ),
     ),
@@ -485,6 +494,8 @@ judge_taken words none =
       nodes = bare_taken judge_built rows level (codes "nodes") refl;
       pairs = flag_taken judge_built rows level (codes "pairs") refl;
       all = flag_taken judge_built rows level (codes "all") refl;
+      page = level.there (filled page) refl (lit< tt);
+      collect = number_taken judge_built rows level (codes "collect") (codes "0") refl;
     }
 
 explore_taken : (words : List Text) → level_fault explore_built [] nothing_held words false [] ≡ [] → IsExploreTaken (rows_after explore_built.rules [] words)
@@ -501,6 +512,7 @@ explore_taken words none =
       outcome = bare_taken explore_built rows level (codes "outcome") refl;
       tries = bare_taken explore_built rows level (codes "tries") refl;
       races = flag_taken explore_built rows level (codes "ignore-races") refl;
+      ends = flag_taken explore_built rows level (codes "ends") refl;
     }
 
 lint_taken : (words : List Text) → level_fault lint_built [] nothing_held words false [] ≡ [] → HasValue (codes "FILE") (rows_after lint_built.rules [] words)

@@ -13,6 +13,7 @@ use Rattle.lrc_cli_args.specs.declared.choice.Choice.{Choice}
 use Rattle.lrc_cli_args.specs.declared.choice.Choice.TheVariants.{Check, Plain, Show, Judge, Explore, Lint, WhyActs, ChartActs}
 use Rattle.lrc_cli_args.specs.declared.choice.ChooseFault.{ChooseFault}
 use Rattle.lrc_cli_args.specs.declared.choice.ChooseFault.TheVariants.{Usage, BadNumber, NoMemory}
+use Rattle.lrc_cli_args.specs.declared.choice.ExactOptions.{ExactOptions}
 use Rattle.lrc_cli_args.specs.declared.choice.Exploring.{Exploring}
 use Rattle.lrc_cli_args.specs.declared.choice.ForeignActs.{ForeignActs}
 use Rattle.lrc_cli_args.specs.declared.choice.Form.{Form}
@@ -30,10 +31,10 @@ use Rattle.lrc_cli_args.specs.declared.choice.Topic.TheVariants.{Commands, Comma
 use Rattle.lrc_cli_args.specs.declared.choice.Way.{Way}
 use Rattle.lrc_cli_args.specs.declared.choice.Witnessing.{Witnessing}
 use Rattle.lrc_cli_args.specs.declared.misfit.Misfit.{Misfit}
-use Rattle.lrc_cli_args.specs.declared.misfit.Misfit.TheVariants.{Order, RunOrder, Page, Form as FormMisfit, Seed, Threads, Messages, Part as PartMisfit, Memory as MemoryMisfit, Tries as TriesMisfit, IgnoredRaces, Topic as TopicMisfit, TraceForm, Lines, Witness, Hide, TextSource, SameAct, Sources, NoSource, RunOption, ChartRunOption, Number}
+use Rattle.lrc_cli_args.specs.declared.misfit.Misfit.TheVariants.{Order, RunOrder, Page, Form as FormMisfit, Seed, Then as ThenMisfit, Followed as FollowedMisfit, Threads, Messages, Part as PartMisfit, Memory as MemoryMisfit, ExactMemory, ExactOption, Tries as TriesMisfit, IgnoredRaces, Ends as EndsMisfit, Topic as TopicMisfit, TraceForm, Lines, Witness, Hide, TextSource, SameAct, Sources, NoSource, RunOption, ChartRunOption, Number}
 use Rattle.lrc_cli_words.specs.Commands.{is_command, treadmarks}
-use Rattle.lrc_cli_args.specs.Options.{AreChartedActs, AreForeignActs, AreLines, AreOptions, AreRunOptions, HasBadCount, HasBadExploreNumber, HasChartedActsMisfit, HasForeignMisfit, HasFormMisfitIn, HasOptionsMisfit, HasRacesMisfit, HasValue, HasWayMisfitIn, IsAlone, IsAsking, IsChartTaken, IsHiding}
-use Rattle.lrc_cli_args.specs.Options.{IsExploreTaken, IsFlag, IsFormIn, IsJudgeTaken, IsMemory, IsPart, IsPicker, IsPlainTaken, IsRacesTaken, IsRunTaken, IsShowingTaken, IsStepTaken}
+use Rattle.lrc_cli_args.specs.Options.{AreChartedActs, AreForeignActs, AreLines, AreOptions, AreRunOptions, HasBadCount, HasBadExploreNumber, HasChartedActsMisfit, HasExactMisfit, HasForeignMisfit, HasFormMisfitIn, HasOptionsMisfit, HasRacesMisfit, HasValue, HasWayMisfitIn, IsAlone, IsAsking, IsChartTaken, IsHiding}
+use Rattle.lrc_cli_args.specs.Options.{IsExactChosen, IsExploreTaken, IsFlag, IsFormIn, IsJudgeTaken, IsMemory, IsPart, IsPicker, IsPlainTaken, IsRacesTaken, IsRunTaken, IsShowingTaken, IsStepTaken}
 use Rattle.lrc_cli_args.specs.Options.{asks_outcomes, IsSimTaken, IsThreadsWayIn, IsTraceForm, IsTraceTaken, IsWayIn, IsWhyTaken, most_in, nodes_in, option_number, outcome_in, some_number_in, takes_tries, tries_in, witness_in}
 
 -- no words at all stand for `sim -`
@@ -123,6 +124,7 @@ pub record IsJudging (rows : List Row) (judging : Judging) : Type 0 where
   pub nodes : some_number_in (codes "nodes") rows ≡ option_map (λ nodes. nodes.count) judging.nodes
   pub pairs : IsFlag (codes "pairs") judging.pairs rows
   pub all : IsFlag (codes "all") judging.all rows
+  pub memory : IsExactChosen rows judging.memory
 
 -- what is to be explored
 pub record IsExploring (rows : List Row) (exploring : Exploring) : Type 0 where
@@ -136,6 +138,8 @@ pub record IsExploring (rows : List Row) (exploring : Exploring) : Type 0 where
   pub apart : IsSome (tries_in rows) → takes_tries exploring.memory exploring.outcomes (outcome_in rows) ≡ true
   pub ignores : IsFlag (codes "ignore-races") exploring.ignores_races rows
   pub plainly : exploring.ignores_races ≡ true → asks_outcomes exploring.outcomes (outcome_in rows) rows ≡ false
+  pub ends : IsFlag (codes "ends") exploring.ends rows
+  pub ends_plainly : exploring.ends ≡ true → asks_outcomes exploring.outcomes (outcome_in rows) rows ≡ false
 
 -- a chart of a run
 pub record IsRunChart (rows : List Row) (run : RunChoice) (charting : Charting) : Type 0 where
@@ -249,15 +253,23 @@ pub record HasThreadsMisfit (rows : List Row) (misfit : Misfit) : Type 0 where
   pub why : ((misfit ≡ RunOrder) × ((picker : Picker) → ¬ IsPicker (first_of (codes "order") rows) picker))
       ⊎ ((picker : Picker) × IsPicker (first_of (codes "order") rows) picker × HasOptionsMisfit rows misfit)
 
+-- of `judge`: what does not fit in its memory, then the number of nodes
 abbrev pub HasJudgeMisfit : List Row → Misfit → Type 0
-HasJudgeMisfit rows misfit = (misfit ≡ Number) × IsSomeAnd (some_number_in (codes "nodes") rows) (IsOutOfRange 1 16)
+HasJudgeMisfit rows misfit = HasExactMisfit rows misfit
+    ⊎ ((misfit ≡ Number) × ((memory : Option ExactOptions) × IsExactChosen rows memory)
+    × IsSomeAnd (some_number_in (codes "nodes") rows) (IsOutOfRange 1 16))
 
 -- a memory and whether outcomes are asked for are chosen by these matches
 abbrev pub AreSought : List Row → Memory → (outcomes : Bool) → Type 0
 AreSought rows memory outcomes = IsMemory (first_of (codes "memory") rows) memory × IsFlag (codes "outcomes") outcomes rows
 
+-- an option that may not stand beside outcomes or a memory is not given, or these are not
+abbrev pub StandsPlainly : Text → (outcomes : Bool) → List Row → Type 0
+StandsPlainly name outcomes rows =
+    (given : Bool) × IsFlag name given rows × (given ≡ true → asks_outcomes outcomes (outcome_in rows) rows ≡ false)
+
 -- Of `explore`: the memory; then runs at random that are asked for and may not be; then races that are to be ignored and may not be; then
--- numbers.
+-- ends that are asked for and may not be; then numbers.
 pub record HasExploreMisfit (rows : List Row) (misfit : Misfit) : Type 0 where
   pub why : ((misfit ≡ MemoryMisfit) × ((memory : Memory) → ¬ IsMemory (first_of (codes "memory") rows) memory))
       ⊎ ((misfit ≡ TriesMisfit) × (memory : Memory) × (outcomes : Bool) × AreSought rows memory outcomes × IsSome (tries_in rows)
@@ -265,10 +277,12 @@ pub record HasExploreMisfit (rows : List Row) (misfit : Misfit) : Type 0 where
       ⊎ ((misfit ≡ IgnoredRaces) × (memory : Memory) × (outcomes : Bool) × AreSought rows memory outcomes
       × (IsSome (tries_in rows) → takes_tries memory outcomes (outcome_in rows) ≡ true) × IsFlag (codes "ignore-races") true rows
       × (asks_outcomes outcomes (outcome_in rows) rows ≡ true))
+      ⊎ ((misfit ≡ EndsMisfit) × (memory : Memory) × (outcomes : Bool) × AreSought rows memory outcomes
+      × (IsSome (tries_in rows) → takes_tries memory outcomes (outcome_in rows) ≡ true) × StandsPlainly (codes "ignore-races") outcomes rows
+      × IsFlag (codes "ends") true rows × (asks_outcomes outcomes (outcome_in rows) rows ≡ true))
       ⊎ ((misfit ≡ Number) × (memory : Memory) × (outcomes : Bool) × AreSought rows memory outcomes
-      × (IsSome (tries_in rows) → takes_tries memory outcomes (outcome_in rows) ≡ true)
-      × ((ignores : Bool) × IsFlag (codes "ignore-races") ignores rows × (ignores ≡ true → asks_outcomes outcomes (outcome_in rows) rows ≡ false))
-      × HasBadExploreNumber rows)
+      × (IsSome (tries_in rows) → takes_tries memory outcomes (outcome_in rows) ≡ true) × StandsPlainly (codes "ignore-races") outcomes rows
+      × StandsPlainly (codes "ends") outcomes rows × HasBadExploreNumber rows)
 
 -- what does not fit in what clap found of a command that shows something of a run
 abbrev pub HasShowMisfit : Text × List Row → Misfit → Type 0
@@ -319,12 +333,17 @@ IsUsageKind RunOrder kind = kind ≡ InvalidValue
 IsUsageKind Page kind = kind ≡ InvalidValue
 IsUsageKind FormMisfit kind = kind ≡ InvalidValue
 IsUsageKind Seed kind = kind ≡ ArgumentConflict
+IsUsageKind ThenMisfit kind = kind ≡ InvalidValue
+IsUsageKind FollowedMisfit kind = kind ≡ ArgumentConflict
 IsUsageKind Threads kind = kind ≡ ArgumentConflict
 IsUsageKind Messages kind = kind ≡ ArgumentConflict
 IsUsageKind PartMisfit kind = kind ≡ ArgumentConflict
 IsUsageKind MemoryMisfit kind = kind ≡ InvalidValue
+IsUsageKind ExactMemory kind = kind ≡ InvalidValue
+IsUsageKind ExactOption kind = kind ≡ ArgumentConflict
 IsUsageKind TriesMisfit kind = kind ≡ ArgumentConflict
 IsUsageKind IgnoredRaces kind = kind ≡ ArgumentConflict
+IsUsageKind EndsMisfit kind = kind ≡ ArgumentConflict
 IsUsageKind TopicMisfit kind = kind ≡ InvalidSubcommand
 IsUsageKind TraceForm kind = kind ≡ InvalidValue
 IsUsageKind Lines kind = kind ≡ InvalidValue

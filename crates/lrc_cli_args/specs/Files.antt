@@ -3,7 +3,7 @@ use Rattle.std.specs.Prelude.{ℕ, Bool, false, true, List, Option, None, Some, 
 use Rattle.lrc_cli_args.specs.declared.choice.Choice.{Choice}
 use Rattle.lrc_cli_args.specs.declared.choice.Choice.TheVariants.{Check, Plain, Show, Judge, Explore, Lint, WhyActs, ChartActs}
 use Rattle.lrc_cli_args.specs.declared.choice.Way.{Way}
-use Rattle.lrc_cli_args.specs.declared.choice.Way.TheVariants.{Events, Rounds, Random, Threads}
+use Rattle.lrc_cli_args.specs.declared.choice.Way.TheVariants.{Events, Followed, Rounds, Random, Threads}
 
 -- the file of the text: of acts for `judge`, `why --acts` and `chart --acts`, and else of a program
 abbrev pub file_of : Choice → List ℕ
@@ -30,6 +30,7 @@ reads_acts (ChartActs acts charting) = true
 -- the file of the events by which a run goes on
 abbrev pub events_along : Way → Option (List ℕ)
 events_along (Events path) = Some path.now
+events_along (Followed path next) = Some path.now
 events_along (Rounds order) = None
 events_along (Random seed) = None
 events_along (Threads order) = None
@@ -50,6 +51,7 @@ names_events choice = is_some (events_of choice)
 
 abbrev pub is_on_threads : Way → Bool
 is_on_threads (Events path) = false
+is_on_threads (Followed path next) = false
 is_on_threads (Rounds order) = false
 is_on_threads (Random seed) = false
 is_on_threads (Threads order) = true

@@ -13,6 +13,7 @@ use Rattle.lrc_envelope.specs.declared.picker.Picker.{Picker}
 use Rattle.lrc_envelope.specs.declared.picker.Picker.TheVariants.{Oldest, Newest, Twice}
 use Rattle.lrc_cli_args.specs.declared.choice.Asking.{Asking}
 use Rattle.lrc_cli_args.specs.declared.choice.ChartedActs.{ChartedActs}
+use Rattle.lrc_cli_args.specs.declared.choice.ExactOptions.{ExactOptions}
 use Rattle.lrc_cli_args.specs.declared.choice.ForeignActs.{ForeignActs}
 use Rattle.lrc_cli_args.specs.declared.choice.Form.{Form}
 use Rattle.lrc_cli_args.specs.declared.choice.Form.TheVariants as forms
@@ -23,6 +24,8 @@ use Rattle.lrc_cli_args.specs.declared.choice.Part.{Part}
 use Rattle.lrc_cli_args.specs.declared.choice.RunOptions.{RunOptions}
 use Rattle.lrc_cli_args.specs.declared.choice.TraceForm.{TraceForm}
 use Rattle.lrc_cli_args.specs.declared.choice.TraceForm.TheVariants.{Std, Acts}
+use Rattle.lrc_cli_args.specs.declared.choice.Then.{Then}
+use Rattle.lrc_cli_args.specs.declared.choice.Then.TheVariants as thens
 use Rattle.lrc_cli_args.specs.declared.choice.Way.{Way}
 use Rattle.lrc_cli_args.specs.declared.choice.Way.TheVariants as ways
 use Rattle.lrc_cli_args.specs.declared.misfit.Misfit.{Misfit}
@@ -148,6 +151,8 @@ pub record IsJudgeTaken (rows : List Row) : Type 0 where
   pub nodes : IsBareNumber (codes "nodes") rows
   pub pairs : IsFlagOption (codes "pairs") rows
   pub all : IsFlagOption (codes "all") rows
+  pub page : HasValue (codes "page") rows
+  pub collect : IsNumberOption (codes "collect") rows
 
 -- of `explore`
 pub record IsExploreTaken (rows : List Row) : Type 0 where
@@ -159,6 +164,7 @@ pub record IsExploreTaken (rows : List Row) : Type 0 where
   pub outcome : IsBareNumber (codes "outcome") rows
   pub tries : IsBareNumber (codes "tries") rows
   pub races : IsFlagOption (codes "ignore-races") rows
+  pub ends : IsFlagOption (codes "ends") rows
 
 -- of `races`
 pub record IsRacesTaken (rows : List Row) : Type 0 where
@@ -253,6 +259,18 @@ IsWay order seed events threads (ways.Random number) =
     (order ≡ Random) × (unwrap_or seed 0 ≡ number) × (events ≡ None) × (threads ≡ false)
 IsWay order seed events threads (ways.Threads picker) =
     (order ≡ Picked picker) × (seed ≡ None) × (events ≡ None) × (threads ≡ true)
+IsWay order seed events threads (ways.Followed path next) = ⊥
+
+-- how a run goes on behind its events, by a word and a seed: a seed is of a random order alone
+abbrev pub IsThen : Option Text → Option ℕ → Then → Type 0
+IsThen word seed (thens.Rounds picker) = IsPicker word picker × (seed ≡ None)
+IsThen word seed (thens.Random number) = (word ≡ Some (codes "random")) × (unwrap_or seed 0 ≡ number)
+
+-- what keeps a word and a seed from saying how
+abbrev pub HasThenMisfit : Option Text → Option ℕ → Misfit → Type 0
+HasThenMisfit word seed misfit =
+    ((misfit ≡ unfit.Then) × ((order : Order) → ¬ IsOrder word order))
+    ⊎ ((misfit ≡ unfit.Seed) × IsSome seed × ((picker : Picker) × IsPicker word picker))
 
 -- what keeps a run from going on so
 abbrev pub HasWayMisfit : Order → Option ℕ → Option Text → Bool → Misfit → Type 0
@@ -291,17 +309,35 @@ pub record AreAsked (rows : List Row) (order : Order) (seed : Option ℕ) (event
   pub seed_is : seed ≡ some_number_in (codes "seed") rows
   pub events_is : events ≡ first_of (codes "events") rows
 
--- how a run goes on, on threads or not, is chosen by these matches
-pub record IsWayIn (threads : Bool) (rows : List Row) (way : Way) : Type 0 where
+-- how a run goes on that has nothing behind its events, on threads or not, is chosen by these matches
+pub record IsBareWayIn (threads : Bool) (rows : List Row) (way : Way) : Type 0 where
+  pub bare : first_of (codes "then") rows ≡ None
   pub order : Order
   pub seed : Option ℕ
   pub events : Option Text
   pub asked : AreAsked rows order seed events
   pub way_is : IsWay order seed events threads way
 
+-- The events of a run, and how it goes on behind them, are chosen by these matches. No order is named beside them, and the run is not on
+-- threads.
+pub record IsFollowedIn (threads : Bool) (rows : List Row) (path : Text) (next : Then) : Type 0 where
+  pub events : first_of (codes "events") rows ≡ Some path
+  pub then_is : IsThen (first_of (codes "then") rows) (some_number_in (codes "seed") rows) next
+  pub unordered : is_given (codes "order") rows ≡ false
+  pub threadless : threads ≡ false
+
+-- how a run goes on, on threads or not, is chosen by these matches
+abbrev pub IsWayIn : Bool → List Row → Way → Type 0
+IsWayIn threads rows (ways.Followed path next) = IsFollowedIn threads rows path.now next
+IsWayIn threads rows (ways.Events path) = IsBareWayIn threads rows (ways.Events path)
+IsWayIn threads rows (ways.Rounds picker) = IsBareWayIn threads rows (ways.Rounds picker)
+IsWayIn threads rows (ways.Random number) = IsBareWayIn threads rows (ways.Random number)
+IsWayIn threads rows (ways.Threads picker) = IsBareWayIn threads rows (ways.Threads picker)
+
 -- the same on threads, where the command has neither events nor a seed
 abbrev pub IsThreadsWayIn : List Row → Way → Type 0
 IsThreadsWayIn rows (ways.Events path) = ⊥
+IsThreadsWayIn rows (ways.Followed path next) = ⊥
 IsThreadsWayIn rows (ways.Rounds picker) = ⊥
 IsThreadsWayIn rows (ways.Random number) = ⊥
 IsThreadsWayIn rows (ways.Threads picker) = IsPicker (first_of (codes "order") rows) picker
@@ -325,14 +361,24 @@ pub record IsAsking (rows : List Row) (asking : Asking) : Type 0 where
   pub other : some_number_in (codes "and") rows ≡ asking.other
   pub differ : asking.other ≢ Some asking.act
 
--- outcomes are asked for, or a memory is named: so races are not ignored
+-- outcomes are asked for, or a memory is named: so races are not ignored, and it is not asked for ends
 abbrev pub asks_outcomes : (outcomes : Bool) → (outcome : Option ℕ) → List Row → Bool
 asks_outcomes outcomes outcome rows = outcomes || is_some outcome || is_given (codes "memory") rows
 
 -- the words give an option that only a run of the nodes has
 abbrev pub has_run_option : List Row → Bool
 has_run_option rows = list_any (λ name. is_given name rows)
-    (codes "steps" ∷ codes "collect" ∷ codes "order" ∷ codes "events" ∷ codes "seed" ∷ [])
+    (codes "steps" ∷ codes "collect" ∷ codes "order" ∷ codes "events" ∷ codes "then" ∷ codes "seed" ∷ [])
+
+-- the words give an option that only the exact memory has
+abbrev pub names_exact_option : List Row → Bool
+names_exact_option rows = list_any (λ name. is_given name rows) (codes "page" ∷ codes "collect" ∷ [])
+
+-- the exact memory is chosen by these matches, or none is
+abbrev pub IsExactChosen : List Row → Option ExactOptions → Type 0
+IsExactChosen rows None = (first_of (codes "memory") rows ≡ None) × (names_exact_option rows ≡ false)
+IsExactChosen rows (Some exact) = (first_of (codes "memory") rows ≡ Some (codes "exact"))
+    × IsPageSize (first_of (codes "page") rows) exact.size × (collect_in rows ≡ exact.collect.count)
 
 -- acts from anywhere are chosen by these matches
 pub record AreForeignActs (rows : List Row) (acts : ForeignActs) : Type 0 where
@@ -344,7 +390,7 @@ pub record AreForeignActs (rows : List Row) (acts : ForeignActs) : Type 0 where
 -- the words give an option that only a chart of a run has
 abbrev pub names_run_option : List Row → Bool
 names_run_option rows = list_any (λ name. is_given name rows)
-    (codes "steps" ∷ codes "collect" ∷ codes "order" ∷ codes "page" ∷ codes "events" ∷ codes "seed" ∷ codes "threads" ∷ codes "source" ∷ [])
+    (codes "steps" ∷ codes "collect" ∷ codes "order" ∷ codes "page" ∷ codes "events" ∷ codes "then" ∷ codes "seed" ∷ codes "threads" ∷ codes "source" ∷ [])
 
 -- the acts from anywhere that are charted are chosen by these matches
 pub record AreChartedActs (rows : List Row) (acts : ChartedActs) : Type 0 where
@@ -371,12 +417,24 @@ abbrev pub HasOptionsMisfit : List Row → Misfit → Type 0
 HasOptionsMisfit rows misfit = ((misfit ≡ unfit.Page) × HasBadPage rows)
     ⊎ ((misfit ≡ unfit.Number) × ((size : Size) × IsPageSize (first_of (codes "page") rows) size) × HasBadNumber rows)
 
--- what does not fit in how a run goes on
-abbrev pub HasWayMisfitIn : Bool → List Row → Misfit → Type 0
-HasWayMisfitIn threads rows misfit =
+-- what does not fit in how a run goes on behind its events: the word of it, or the seed; then that there are no events, that an order is
+-- named, or that the run is on threads
+abbrev pub HasFollowedMisfit : Bool → List Row → Misfit → Type 0
+HasFollowedMisfit threads rows misfit =
+    HasThenMisfit (first_of (codes "then") rows) (some_number_in (codes "seed") rows) misfit
+    ⊎ ((misfit ≡ unfit.Followed) × ((first_of (codes "events") rows ≡ None) ⊎ (is_given (codes "order") rows ≡ true) ⊎ (threads ≡ true)))
+
+-- what does not fit in how a run goes on that has nothing behind its events
+abbrev pub HasBareWayMisfit : Bool → List Row → Misfit → Type 0
+HasBareWayMisfit threads rows misfit =
     ((misfit ≡ unfit.Order) × ((order : Order) → ¬ IsOrder (first_of (codes "order") rows) order))
     ⊎ ((order : Order) × (seed : Option ℕ) × (events : Option Text) × AreAsked rows order seed events
     × HasWayMisfit order seed events threads misfit)
+
+-- what does not fit in how a run goes on
+abbrev pub HasWayMisfitIn : Bool → List Row → Misfit → Type 0
+HasWayMisfitIn threads rows misfit = ((first_of (codes "then") rows ≡ None) × HasBareWayMisfit threads rows misfit)
+    ⊎ (IsSome (first_of (codes "then") rows) × HasFollowedMisfit threads rows misfit)
 
 -- what does not fit in the form of a trace
 abbrev pub HasFormMisfitIn : List Row → Misfit → Type 0
@@ -388,6 +446,15 @@ HasFormMisfitIn rows misfit =
 abbrev pub HasBadExploreNumber : List Row → Type 0
 HasBadExploreNumber rows = IsOutOfRange 1 16 (nodes_in rows) ⊎ IsOutOfRange 1 100000000 (most_in rows) ⊎ (outcome_in rows ≡ Some 0)
     ⊎ IsSomeAnd (tries_in rows) (IsOutOfRange 1 1000000)
+
+-- of the exact memory: another one is named, or an option of it is given without it; then the size of its pages; then the number
+abbrev pub HasExactMisfit : List Row → Misfit → Type 0
+HasExactMisfit rows misfit =
+    ((misfit ≡ unfit.ExactMemory) × IsSomeAnd (first_of (codes "memory") rows) (λ word. word ≢ codes "exact"))
+    ⊎ ((misfit ≡ unfit.ExactOption) × (first_of (codes "memory") rows ≡ None) × (names_exact_option rows ≡ true))
+    ⊎ ((misfit ≡ unfit.Page) × (first_of (codes "memory") rows ≡ Some (codes "exact")) × HasBadPage rows)
+    ⊎ ((misfit ≡ unfit.Number) × (first_of (codes "memory") rows ≡ Some (codes "exact"))
+    × ((size : Size) × IsPageSize (first_of (codes "page") rows) size) × IsOutOfRange 0 1000000 (collect_in rows))
 
 -- neither groups nor the sure races alone are asked for
 abbrev pub IsAlone : List Row → Type 0

@@ -13,8 +13,8 @@ use crate::runs::showing_run;
 use clap::ArgMatches;
 
 // The options that only a chart of a run has.
-static RUN_OPTIONS: [&str; 8] = [
-    "steps", "collect", "order", "page", "events", "seed", "threads", "source",
+static RUN_OPTIONS: [&str; 9] = [
+    "steps", "collect", "order", "page", "events", "then", "seed", "threads", "source",
 ];
 
 /// Returns the choice of the command `chart`, or why its options do not fit.

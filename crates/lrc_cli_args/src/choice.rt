@@ -59,11 +59,22 @@ pub struct RunOptions<'w> {
     pub size: Size,
 }
 
+/// How a run goes on behind the events of a file.
+#[derive(Clone, Copy)]
+pub enum Then {
+    /// In rounds. The picker determines which message is delivered next.
+    Rounds(Picker),
+    /// At random, from this seed.
+    Random(u64),
+}
+
 /// How a run goes on.
 #[derive(Clone, Copy)]
 pub enum Way<'w> {
     /// By the events in this file.
     Events(&'w str),
+    /// By the events in this file, and then on so.
+    Followed(&'w str, Then),
     /// In rounds. The picker determines which message is delivered next.
     Rounds(Picker),
     /// At random, from this seed.
@@ -150,6 +161,14 @@ pub enum Shape {
     Why(Asking),
 }
 
+/// The exact memory that acts are held against.
+#[derive(Clone, Copy)]
+pub struct ExactOptions {
+    /// The size of a page.
+    pub size: Size,
+    pub collect: Collect,
+}
+
 /// The options of the command `judge`.
 #[derive(Clone, Copy)]
 pub struct Judging<'w> {
@@ -161,6 +180,8 @@ pub struct Judging<'w> {
     pub pairs: bool,
     /// Whether each read that is not allowed, and each that is not in order, is named, instead of the first.
     pub all: bool,
+    /// The exact memory that the reads are held against too, if one is named.
+    pub memory: Option<ExactOptions>,
 }
 
 /// The memory whose runs are searched.
@@ -192,6 +213,8 @@ pub struct Exploring<'w> {
     /// Whether no race is looked for, so that programs that race are searched for stuck orders and traps too. It does not
     /// come with outcomes, nor where a memory is named.
     pub ignores_races: bool,
+    /// Whether it is asked whether every order can end. It does not come with outcomes, nor where a memory is named.
+    pub ends: bool,
 }
 
 /// The form of a trace that is searched for races.

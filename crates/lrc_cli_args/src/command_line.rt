@@ -4,21 +4,22 @@ ghost use Rattle.std.specs.Prelude.{◌≡◌, [], IfErr, IfOk, IsSomeAnd, Ok, O
 ghost use Rattle.std.specs.Int.{IsOutOfRange};
 ghost use Rattle.clap.specs.Words.{fault_of, found_of, rows_of, subcommand_of, subcommand_rows_of};
 ghost use Rattle.lrc_cli_words.specs.Commands.{treadmarks};
-ghost use Rattle.lrc_cli_args.specs.CommandLine.{Chooses, HasJudgeMisfit, HasMisfit, HasPlainMisfit, HasRequestMisfit, HasShowMisfit};
+ghost use Rattle.lrc_cli_args.specs.CommandLine.{Chooses, HasMisfit, HasPlainMisfit, HasRequestMisfit, HasShowMisfit};
 ghost use Rattle.lrc_cli_args.specs.CommandLine.{HasAnswerMisfit, HasTopicMisfit, IsAnswerTaken, IsRequest, IsRequestTaken};
 ghost use Rattle.lrc_cli_args.specs.CommandLine.{IsAskTaken, IsChoice, IsFoundFault, IsShowTaken};
 ghost use Rattle.lrc_cli_args.specs.CommandLine.{IsCommandTaken, fault_from, words_meant};
-ghost use Rattle.lrc_cli_args.specs.Options.{IsJudgeTaken, IsPlainTaken};
+ghost use Rattle.lrc_cli_args.specs.Options.{IsPlainTaken};
 ghost use Rattle.lrc_cli_args.specs.declared.choice.ChooseFault.TheVariants.{NoMemory};
 ghost use Rattle.lrc_cli_args.specs.declared.misfit.Misfit.TheVariants.{Number};
 ghost use Rattle.lrc_cli_args.specs.declared.misfit.Misfit.TheVariants as unfit;
 
 use crate::chart::chart_choice;
-use crate::choice::{Choice, ChooseFault, CommandName, Judging, PlainRun, Request, Shape, Topic};
+use crate::choice::{Choice, ChooseFault, CommandName, PlainRun, Request, Shape, Topic};
 use crate::explore::explore_choice;
+use crate::judge::judge_choice;
 use crate::misfit::{Misfit, fault_of_misfit};
 use crate::races::races_request;
-use crate::reading::{is_named, nodes_of, some_nodes, some_number_of, steps_of, text_of};
+use crate::reading::{is_named, nodes_of, steps_of, text_of};
 use crate::runs::{run_choice, showing_choice, step_choice, threads_run, trace_choice};
 use crate::why::why_choice;
 use clap::ArgMatches;
@@ -184,20 +185,6 @@ fn plain_choice<'w>(options: &ArgMatches<'w>) -> Result<Choice<'w>, Misfit>
         file: text_of(options, "FILE"),
         nodes: nodes_of(options)?,
         steps: steps_of(options)?,
-    }))
-}
-
-fn judge_choice<'w>(options: &ArgMatches<'w>) -> Result<Choice<'w>, Misfit>
-    requires { IsJudgeTaken (rows_of (found_of options.now)) }
-    ensures ok { IfOk result (IsChoice (codes "judge", rows_of (found_of options.now))) }
-    ensures err { IfErr result (HasJudgeMisfit (rows_of (found_of options.now))) }
-{
-    let nodes = some_nodes(some_number_of(options, "nodes"))?;
-    Ok(Choice::Judge(Judging {
-        file: text_of(options, "FILE"),
-        nodes,
-        pairs: is_named(options, "pairs"),
-        all: is_named(options, "all"),
     }))
 }
 

@@ -1,9 +1,9 @@
 // What is explored, and how.
 
-ghost use Rattle.std.specs.Prelude.{◌≡◌, IfErr, IfOk, Some, codes};
+ghost use Rattle.std.specs.Prelude.{◌≡◌, IfErr, IfOk, Some, codes, false, true};
 ghost use Rattle.clap.specs.Words.{found_of, rows_of};
 ghost use Rattle.lrc_cli_args.specs.CommandLine.{HasExploreMisfit, IsChoice};
-ghost use Rattle.lrc_cli_args.specs.Options.{IsExploreTaken, IsMemory, asks_outcomes, takes_tries};
+ghost use Rattle.lrc_cli_args.specs.Options.{IsExploreTaken, IsFlag, IsFlagOption, IsMemory, asks_outcomes, takes_tries};
 ghost use Rattle.lrc_cli_args.specs.declared.choice.Memory.{Memory as AnyMemory};
 ghost use Rattle.lrc_cli_args.specs.declared.misfit.Misfit.TheVariants as unfit;
 
@@ -27,10 +27,9 @@ pub(crate) fn explore_choice<'w>(options: &ArgMatches<'w>) -> Result<Choice<'w>,
     if tries.is_some() && !takes_tries(memory, outcomes, outcome) {
         return Err(Misfit::Tries);
     }
-    let ignores_races = is_named(options, "ignore-races");
-    if ignores_races && asks_outcomes(options, outcomes, outcome) {
-        return Err(Misfit::IgnoredRaces);
-    }
+    let beside = asks_outcomes(options, outcomes, outcome);
+    let ignores_races = named_alone(options, "ignore-races", beside, Misfit::IgnoredRaces)?;
+    let ends = named_alone(options, "ends", beside, Misfit::Ends)?;
     Ok(Choice::Explore(Exploring {
         file: text_of(options, "FILE"),
         nodes: nodes_of(options)?,
@@ -40,7 +39,29 @@ pub(crate) fn explore_choice<'w>(options: &ArgMatches<'w>) -> Result<Choice<'w>,
         outcome: outcome_of(options)?,
         tries: tries_of(options)?,
         ignores_races,
+        ends,
     }))
+}
+
+// Whether the words name a flag that may not stand beside others, where it is known whether these are there.
+fn named_alone(
+    options: &ArgMatches<'_>,
+    name: &str,
+    beside: bool,
+    misfit: Misfit,
+) -> Result<bool, Misfit>
+    requires { IsFlagOption name.now (rows_of (found_of options.now)) }
+    ensures ok { IfOk result (λ given. IsFlag name.now given (rows_of (found_of options.now))
+        × (given ≡ true → beside ≡ false)) }
+    ensures err { IfErr result (λ other. (other ≡ misfit)
+        × IsFlag name.now true (rows_of (found_of options.now)) × (beside ≡ true)) }
+{
+    let given = is_named(options, name);
+    if given && beside {
+        Err(misfit)
+    } else {
+        Ok(given)
+    }
 }
 
 // Whether outcomes are asked for, or a memory is named.

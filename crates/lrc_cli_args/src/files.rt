@@ -49,7 +49,7 @@ impl<'w> Way<'w> {
         ensures { option_map (λ path. path.now) result ≡ events_along self.now }
     {
         match self {
-            Way::Events(path) => Some(*path),
+            Way::Events(path) | Way::Followed(path, _) => Some(*path),
             Way::Rounds(_) | Way::Random(_) | Way::Threads(_) => None,
         }
     }

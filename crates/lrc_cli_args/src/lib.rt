@@ -8,6 +8,7 @@ pub mod choice;
 mod command_line;
 mod explore;
 mod files;
+mod judge;
 mod misfit;
 mod races;
 mod reading;

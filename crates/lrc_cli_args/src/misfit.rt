@@ -20,7 +20,13 @@ const BAD_PAGE: &str = "invalid value for '--page <WORDS>': it is 64 or 256";
 const BAD_FORM: &str =
     "invalid value for '--as <FORM>': it is acts, bytes, events, json, rapid or states";
 
-const IDLE_SEED: &str = "the argument '--seed <X>' cannot be used without '--order random'";
+const IDLE_SEED: &str =
+    "the argument '--seed <X>' cannot be used without '--order random' or '--then random'";
+
+const BAD_THEN: &str = "invalid value for '--then <ORDER>': it is oldest, newest, twice or random";
+
+const IDLE_THEN: &str =
+    "the argument '--then <ORDER>' cannot be used without '--events <PATH>', nor with '--order <ORDER>' or '--threads'";
 
 const BAD_THREADS: &str =
     "the argument '--threads' cannot be used with '--events <PATH>' or '--order random'";
@@ -33,11 +39,19 @@ const BAD_PART: &str =
 
 const BAD_MEMORY: &str = "invalid value for '--memory <MEMORY>': it is flat or lazy";
 
+const BAD_EXACT_MEMORY: &str = "invalid value for '--memory <MEMORY>': it is exact";
+
+const BAD_EXACT_OPTION: &str =
+    "the arguments '--page <WORDS>' and '--collect <N>' cannot be used without '--memory exact'";
+
 const BAD_TRIES: &str =
     "the argument '--tries <T>' is of '--memory lazy --outcomes' alone, and not of '--outcome <K>'";
 
 const BAD_IGNORED_RACES: &str =
     "the argument '--ignore-races' cannot be used with '--outcomes', '--outcome <K>' or '--memory <MEMORY>'";
+
+const BAD_ENDS: &str =
+    "the argument '--ends' cannot be used with '--outcomes', '--outcome <K>' or '--memory <MEMORY>'";
 
 const BAD_TOPIC: &str = "invalid value for '[COMMAND]': it is none of the commands";
 
@@ -78,6 +92,10 @@ pub(crate) enum Misfit {
     Form,
     /// A seed is given, but the order is not random.
     Seed,
+    /// The value of `--then` is not one of its words.
+    Then,
+    /// The run is to go on behind events, but none are given, or an order or threads are asked for too.
+    Followed,
     /// Threads are asked for together with given events or a random order.
     Threads,
     /// Messages are asked for together with a form other than that of acts.
@@ -86,10 +104,16 @@ pub(crate) enum Misfit {
     Part,
     /// The value of `--memory` is not one of its words.
     Memory,
+    /// The value of `--memory` in the command `judge` is not its word.
+    ExactMemory,
+    /// An option of the exact memory is given without it.
+    ExactOption,
     /// Runs in random orders are asked for without the list of lazy outcomes.
     Tries,
     /// Races are to be ignored, but outcomes are asked for or a memory is named.
     IgnoredRaces,
+    /// It is asked whether every order can end, but outcomes are asked for or a memory is named.
+    Ends,
     /// Help is asked for on a word that is not a command.
     Topic,
     /// The value of `--as` in the command `races` is not one of its words.
@@ -150,11 +174,14 @@ fn usage_kind(misfit: Misfit) -> ErrorKind
 {
     match misfit {
         Misfit::Seed
+        | Misfit::Followed
         | Misfit::Threads
         | Misfit::Messages
         | Misfit::Part
+        | Misfit::ExactOption
         | Misfit::Tries
         | Misfit::IgnoredRaces
+        | Misfit::Ends
         | Misfit::Witness
         | Misfit::TextSource
         | Misfit::SameAct
@@ -174,12 +201,17 @@ fn message_of(misfit: Misfit) -> &'static str {
         Misfit::Page => BAD_PAGE,
         Misfit::Form => BAD_FORM,
         Misfit::Seed => IDLE_SEED,
+        Misfit::Then => BAD_THEN,
+        Misfit::Followed => IDLE_THEN,
         Misfit::Threads => BAD_THREADS,
         Misfit::Messages => BAD_MESSAGES,
         Misfit::Part => BAD_PART,
         Misfit::Memory => BAD_MEMORY,
+        Misfit::ExactMemory => BAD_EXACT_MEMORY,
+        Misfit::ExactOption => BAD_EXACT_OPTION,
         Misfit::Tries => BAD_TRIES,
         Misfit::IgnoredRaces => BAD_IGNORED_RACES,
+        Misfit::Ends => BAD_ENDS,
         Misfit::Topic => BAD_TOPIC,
         Misfit::TraceForm => BAD_TRACE_FORM,
         Misfit::Lines => BAD_LINES,

@@ -5,16 +5,18 @@ ghost use Rattle.clap.specs.Words.{first_of, found_of, rows_of};
 ghost use Rattle.lrc_envelope.specs.declared.picker.Picker.{Picker as AnyPicker};
 ghost use Rattle.lrc_cli_args.specs.CommandLine.{HasMisfitOfRun, HasShowingMisfit, HasThreadsMisfit, HasTraceMisfit, IsRun, IsShowingRun, IsThreadsRun};
 ghost use Rattle.lrc_cli_args.specs.CommandLine.{IsChoice};
-ghost use Rattle.lrc_cli_args.specs.Options.{AreRunOptions, HasFormMisfitIn, HasOptionsMisfit, HasValue, HasWayMisfit, HasWayMisfitIn};
+ghost use Rattle.lrc_cli_args.specs.Options.{AreRunOptions, HasBareWayMisfit, HasFollowedMisfit, HasFormMisfitIn, HasOptionsMisfit, HasThenMisfit, HasValue, HasWayMisfit, HasWayMisfitIn};
 ghost use Rattle.lrc_cli_args.specs.Options.{HasNameMisfit, HasWordMisfit, IsForm, IsFormIn, IsOrder, IsPart, IsPartTaken, IsPicker, IsRunTaken};
-ghost use Rattle.lrc_cli_args.specs.Options.{IsShowingTaken, IsSimTaken, IsStepTaken, IsTraceTaken, IsWay, IsWayIn, is_whole};
+ghost use Rattle.lrc_cli_args.specs.Options.{IsShowingTaken, IsSimTaken, IsStepTaken, IsThen, IsTraceTaken, IsWay, IsWayIn, is_whole};
 ghost use Rattle.lrc_cli_args.specs.declared.misfit.Misfit.TheVariants as unfit;
 ghost use Rattle.lrc_cli_args.specs.declared.choice.RunChoice.{RunChoice as AnyRun};
 ghost use Rattle.lrc_cli_args.specs.declared.runs.Order.{Order as AnyOrder};
 
-use crate::choice::{Choice, Form, Part, RunChoice, RunOptions, Shape, Way};
+use crate::choice::{Choice, Form, Part, RunChoice, RunOptions, Shape, Then, Way};
 use crate::misfit::Misfit;
-use crate::reading::{collect_of, is_named, nodes_of, size_of, some_number_of, steps_of, text_of};
+use crate::reading::{
+    collect_of, is_given, is_named, nodes_of, size_of, some_number_of, steps_of, text_of,
+};
 use clap::ArgMatches;
 use lrc_envelope::Picker;
 
@@ -116,6 +118,46 @@ fn way_of<'w>(options: &ArgMatches<'w>, threads: bool) -> Result<Way<'w>, Misfit
     requires { IsSimTaken (rows_of (found_of options.now)) }
     ensures ok { IfOk result (IsWayIn threads (rows_of (found_of options.now))) }
     ensures err { IfErr result (HasWayMisfitIn threads (rows_of (found_of options.now))) }
+{
+    match options.get_str("then") {
+        Some(word) => followed_way(options, word, threads),
+        None => bare_way(options, threads),
+    }
+}
+
+// How a run goes on by the events of a file and behind them.
+fn followed_way<'w>(options: &ArgMatches<'w>, word: &str, threads: bool) -> Result<Way<'w>, Misfit>
+    requires taken { IsSimTaken (rows_of (found_of options.now)) }
+    requires word { first_of (codes "then") (rows_of (found_of options.now)) ≡ Some word.now }
+    ensures ok { IfOk result (IsWayIn threads (rows_of (found_of options.now))) }
+    ensures err { IfErr result (HasFollowedMisfit threads (rows_of (found_of options.now))) }
+{
+    let then = then_of(word, some_number_of(options, "seed"))?;
+    match events_of(options) {
+        Some(path) if !threads && !is_given(options, "order") => Ok(Way::Followed(path, then)),
+        _ => Err(Misfit::Followed),
+    }
+}
+
+// What comes behind the events.
+fn then_of(word: &str, seed: Option<u64>) -> Result<Then, Misfit>
+    ensures ok { IfOk result (IsThen (Some word.now) seed) }
+    ensures err { IfErr result (HasThenMisfit (Some word.now) seed) }
+{
+    match order_named(word) {
+        Ok(Order::Random) => Ok(Then::Random(seed.unwrap_or(0))),
+        Ok(Order::Picked(picker)) if seed.is_none() => Ok(Then::Rounds(picker)),
+        Ok(Order::Picked(_)) => Err(Misfit::Seed),
+        Err(_) => Err(Misfit::Then),
+    }
+}
+
+// How a run goes on that has nothing behind its events.
+fn bare_way<'w>(options: &ArgMatches<'w>, threads: bool) -> Result<Way<'w>, Misfit>
+    requires taken { IsSimTaken (rows_of (found_of options.now)) }
+    requires bare { first_of (codes "then") (rows_of (found_of options.now)) ≡ None }
+    ensures ok { IfOk result (IsWayIn threads (rows_of (found_of options.now))) }
+    ensures err { IfErr result (HasBareWayMisfit threads (rows_of (found_of options.now))) }
 {
     let order = order_of(options)?;
     let seed = some_number_of(options, "seed");

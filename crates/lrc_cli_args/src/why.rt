@@ -15,7 +15,7 @@ use crate::runs::run_choice;
 use clap::ArgMatches;
 
 // The options that only a run of the nodes has.
-static RUN_OPTIONS: [&str; 5] = ["steps", "collect", "order", "events", "seed"];
+static RUN_OPTIONS: [&str; 6] = ["steps", "collect", "order", "events", "then", "seed"];
 
 /// Returns the choice of the command `why`, or why its options do not fit.
 pub(crate) fn why_choice<'w>(options: &ArgMatches<'w>) -> Result<Choice<'w>, Misfit>

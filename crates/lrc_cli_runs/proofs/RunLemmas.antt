@@ -11,15 +11,17 @@ use Rattle.lrc_protocol.specs.Node.{OptionsRecord}
 use Rattle.lrc_order_laws.proofs.TimesOfRuns.{acts_of_nodes}
 use Rattle.lrc_cli_args.specs.declared.choice.RunOptions.{RunOptions}
 use Rattle.lrc_cli_args.specs.declared.choice.Shape.{Shape}
+use Rattle.lrc_cli_args.specs.declared.choice.Then.{Then}
 use Rattle.lrc_cli_args.specs.declared.choice.Way.{Way}
 use Rattle.lrc_cli_args.specs.declared.choice.Way.TheVariants as ways
 use Rattle.lrc_world.specs.Report.{IsWornBy}
-use Rattle.lrc_world.specs.Runs.{IsRunBy}
+use Rattle.lrc_world.specs.Driven.{schedule_of}
+use Rattle.lrc_world.specs.Runs.{AreFollowed, IsRunBy, WearsOutBehind}
 use Rattle.lrc_world.specs.World.{with_turns}
 use Rattle.lrc_world.specs.declared.keep.Keep.{Keep}
 use Rattle.lrc_world.specs.declared.keep.Keep.TheVariants.{All}
 use Rattle.lrc_world.specs.declared.run.Run.{Run}
-use Rattle.lrc_cli_runs.specs.Runs.{IsLedFault, IsPlayedFault, IsRunOfWay, IsRunWith, options_of, turns_in}
+use Rattle.lrc_cli_runs.specs.Runs.{IsFollowedFault, IsFollowedRun, IsLedFault, IsPlayedFault, IsRunOfWay, IsRunWith, lead_of, options_of, turns_in}
 use Rattle.lrc_cli_runs.specs.Shown.{IsRunFor, keep_for}
 use Rattle.lrc_cli_answer.specs.declared.fault.Fault.{Fault}
 use Rattle.lrc_cli_answer.specs.declared.fault.Fault.TheVariants.{Worn, NoMemory}
@@ -49,7 +51,25 @@ of_text program nodes options keep text given (Ok run) reads is =
     of_events (λ events. events ≡ given) (λ events. ReadsEvents text (Ok events)) program nodes options keep run is
     (subst (λ events. ReadsEvents text (Ok events)) (sym is.events) reads)
 
+-- the same of a run that goes on behind them
+pub of_text_followed : (program : Program) (options : RunOptions) (keep : Keep) (text : List ℕ) (next : Then) (given : List Event)
+    (r : Result Run Fault) → ReadsEvents text (Ok given)
+    → IfOk r (IsRunBy (AreFollowed (schedule_of options.nodes.count (lead_of next)) given program options.nodes.count (options_of options))
+    program options.nodes.count (options_of options) keep)
+    → IfOk r (IsFollowedRun program options text next keep)
+of_text_followed program options keep text next given (Err fault) reads is = tt
+of_text_followed program options keep text next given (Ok run) reads is = (given, reads, is)
+
 -- and why there is none
+pub followed_fault : (program : Program) (options : RunOptions) (text : List ℕ) (next : Then) (given : List Event) → ReadsEvents text (Ok given)
+    → (fault : Fault)
+    → IsLedFault (WearsOutBehind (schedule_of options.nodes.count (lead_of next)) given program options.nodes.count (options_of options)) fault
+    → IsFollowedFault program options text next fault
+followed_fault program options text next given reads Worn why = (given, reads, why)
+followed_fault program options text next given reads NoMemory why = tt
+followed_fault program options text next given reads _ why = absurd why
+
+-- why there is no run of the events of a text
 pub played_fault : (program : Program) (options : RunOptions) (text : List ℕ) (given : List Event) → ReadsEvents text (Ok given) → (fault : Fault)
     → IsLedFault (IsWornBy program options.nodes.count (options_of options) given) fault → IsPlayedFault program options text fault
 played_fault program options text given reads Worn why = (given, reads, why)
@@ -67,6 +87,9 @@ pub run_for : (way : Way) (shape : Shape) (program : Program) (options : RunOpti
     → IsRunOfWay way program options events_text (keep_for shape) run → IsRunFor shape program options run
 run_for (ways.Events file) shape program options None run is = absurd is
 run_for (ways.Events file) shape program options (Some text) run is = (keep_for shape, λ e. e, run_with _ program options (keep_for shape) run is)
+run_for (ways.Followed file next) shape program options None run is = absurd is
+run_for (ways.Followed file next) shape program options (Some text) run is =
+    (keep_for shape, λ e. e, run_with _ program options (keep_for shape) run is.2)
 run_for (ways.Rounds order) shape program options events_text run is = (keep_for shape, λ e. e, run_with _ program options (keep_for shape) run is)
 run_for (ways.Random seed) shape program options events_text run is = (keep_for shape, λ e. e, run_with _ program options (keep_for shape) run is)
 run_for (ways.Threads order) shape program options events_text run is =

@@ -29,7 +29,7 @@ pub fn show_any<R: Threads + Wait + Sync>(
 {
     match choice.way {
         Way::Threads(order) => show_on_threads(rt, alloc, choice, order, shape, text),
-        Way::Events(_) | Way::Rounds(_) | Way::Random(_) => show(
+        Way::Events(_) | Way::Followed(_, _) | Way::Rounds(_) | Way::Random(_) => show(
             alloc, choice, shape, text, events,
         ),
     }

@@ -1,18 +1,19 @@
 // The run that a choice asks for, by the way in which it goes on.
 
 ghost use Rattle.std.specs.Prelude.{◌≡◌, IfErr, IfOk, Ok as Was, false, is_some, option_map};
-ghost use Rattle.lrc_cli_runs.specs.Runs.{IsLedFault, IsPlayedFault, IsRunFault, IsRunOfWay, options_of};
+ghost use Rattle.lrc_cli_runs.specs.Runs.{IsFollowedFault, IsFollowedRun, IsLedFault, IsPlayedFault, IsRunFault, IsRunOfWay, lead_of, options_of};
 ghost use Rattle.lrc_events.specs.EventsText.{ReadsEvents};
 ghost use Rattle.lrc_cli_args.specs.Files.{events_along, is_on_threads};
 ghost use Rattle.lrc_world.specs.Runs.{IsRunBy, IsRunIn, WearsOutIn};
 ghost use Rattle.lrc_node.specs.Options.{options_of as options_in};
 
 use lrc_cli_answer::fault::Fault;
-use lrc_cli_args::choice::{RunChoice, RunOptions, Way};
+use lrc_cli_args::choice::{RunChoice, RunOptions, Then, Way};
 use lrc_events::events::events_of;
 use lrc_lang::program::Program;
 use lrc_setting::setting::Setting;
 use lrc_world::keep::Keep;
+use lrc_world::lead::Lead;
 use lrc_world::report::TurnFault;
 use lrc_world::run::{Order, Run, run_in};
 use std::alloc::Global;
@@ -39,6 +40,10 @@ pub(crate) fn run_of(
             let Some(text) = events else { unreachable!() };
             played(alloc, options, program, text, keep)
         }
+        Way::Followed(_, next) => {
+            let Some(text) = events else { unreachable!() };
+            followed(alloc, options, program, text, next, keep)
+        }
         Way::Rounds(order) => in_order(alloc, options, program, Order::Rounds(order), keep),
         Way::Random(seed) => in_order(alloc, options, program, Order::Random(seed), keep),
         Way::Threads(_) => unreachable!(),
@@ -59,6 +64,33 @@ fn played(
 {
     let events = events_of(alloc, text)?;
     in_order(alloc, options, program, Order::Events(&events), keep)
+}
+
+// The run of the events that a text names, and of those that follow.
+fn followed(
+    alloc: Global,
+    options: &RunOptions<'_>,
+    program: &Program,
+    text: &[u8],
+    next: Then,
+    keep: Keep,
+) -> Result<Run, Fault>
+    ensures run { IfOk result (IsFollowedRun program.now options.now text.now next keep) }
+    ensures err { IfErr result (IsFollowedFault program.now options.now text.now next) }
+{
+    let events = events_of(alloc, text)?;
+    let order = Order::Followed(&events, lead_of(next));
+    in_order(alloc, options, program, order, keep)
+}
+
+// What leads a run that goes on so behind its events.
+fn lead_of(next: Then) -> Lead
+    ensures { result ≡ lead_of next }
+{
+    match next {
+        Then::Rounds(picker) => Lead::Rounds(picker),
+        Then::Random(seed) => Lead::Random(seed),
+    }
 }
 
 // The run in an order.

@@ -73,7 +73,7 @@ run_command = with_run_options (new_app (codes "run"))
 
 -- what those have beside it that may go on by events, or at random
 abbrev pub with_ways : App → App
-with_ways command = with_rule (with_rule command (option (codes "events"))) (bare_number (codes "seed"))
+with_ways command = with_rule (with_rule (with_rule command (option (codes "events"))) (option (codes "then"))) (bare_number (codes "seed"))
 
 abbrev pub with_way_options : App → App
 with_way_options command = with_ways (with_run_options command)
@@ -101,14 +101,15 @@ explain_command = with_showing_options (new_app (codes "explain"))
 abbrev pub stats_command : App
 stats_command = with_showing_options (new_app (codes "stats"))
 
--- the number of nodes need not be given
+-- neither the number of nodes nor a memory need be given
 abbrev pub judge_command : App
-judge_command = with_rule (with_rule (with_rule (with_rule (new_app (codes "judge")) file) (bare_number (codes "nodes"))) (flag_option (codes "pairs")))
-    (flag_option (codes "all"))
+judge_command = with_rule (with_rule (with_rule (with_rule (with_rule (with_rule (with_rule (new_app (codes "judge")) file) (bare_number (codes "nodes")))
+    (flag_option (codes "pairs"))) (flag_option (codes "all"))) (option (codes "memory"))) page) collect
 
 abbrev pub explore_command : App
-explore_command = with_rule (with_rule (with_rule (with_rule (with_rule (with_rule (with_rule (with_rule (new_app (codes "explore")) file) nodes) most)
-    memory) (flag_option (codes "outcomes"))) (bare_number (codes "outcome"))) (bare_number (codes "tries"))) (flag_option (codes "ignore-races"))
+explore_command = with_rule (with_rule (with_rule (with_rule (with_rule (with_rule (with_rule (with_rule (with_rule (new_app (codes "explore")) file) nodes) most)
+    memory) (flag_option (codes "outcomes"))) (bare_number (codes "outcome"))) (bare_number (codes "tries"))) (flag_option (codes "ignore-races")))
+    (flag_option (codes "ends"))
 
 -- a FILE need not be given where there is a file of acts, and an act has to be
 abbrev pub optional_file : Rule

@@ -33,7 +33,11 @@ const PAGE_HELP: &str = "How many words a page has: 64 or 256";
 const EVENTS_HELP: &str =
     "A file of events to play, `run N`, `deliver I` or `repeat I` on each line; without it all nodes run in turn";
 
-const SEED_HELP: &str = "With `--order random`: from which number it starts. Left out it is 0";
+const THEN_HELP: &str =
+    "With `--events`: in which order the run goes on behind them: oldest, newest, twice or random, as `--order` has them. Left out, it ends there";
+
+const SEED_HELP: &str =
+    "With `--order random` or `--then random`: from which number it starts. Left out it is 0";
 
 const THREADS_HELP: &str =
     "Runs each node on a thread of its own; not with events or a random order";
@@ -77,12 +81,18 @@ const PAIRS_HELP: &str = "Names every pair of acts that race, in place of the ra
 const ALL_HELP: &str =
     "Where reads are not allowed, or not in order, names each of them, in place of the first";
 
+const EXACT_HELP: &str =
+    "exact: also says whether each read gives what the exact memory has, with the pages of `--page` and the collections of `--collect`, which go with it alone";
+
 const MOST_HELP: &str = "How many states the search may meet: 1 to 100000000";
 
 const OUTCOMES_HELP: &str = "Shows every outcome of the runs, and looks for no race";
 
 const IGNORE_RACES_HELP: &str =
     "Looks for no race, and tells of any program whether an order gets stuck and whether a node traps in one";
+
+const ENDS_HELP: &str =
+    "Tells too whether every order can end, so that no node waits for what can no longer come";
 
 const OUTCOME_HELP: &str =
     "Shows the acts of a run that has the outcome of this number in the list of `--outcomes`, counted from 1, in place of the list";
@@ -360,7 +370,10 @@ fn judge_command<'w>(alloc: Global) -> Result<Command<'w>, AllocError>
     let command = taking(Ok(command), file(alloc, ACTS_FILE_HELP));
     let command = taking(command, bare_number(alloc, "nodes", "N", ACTS_NODES_HELP));
     let command = taking(command, flag_option(alloc, "pairs", PAIRS_HELP));
-    taking(command, flag_option(alloc, "all", ALL_HELP))
+    let command = taking(command, flag_option(alloc, "all", ALL_HELP));
+    let command = taking(command, text(alloc, "memory", "MEMORY", EXACT_HELP));
+    let command = taking(command, page(alloc));
+    taking(command, collect(alloc))
 }
 
 fn explore_command<'w>(alloc: Global) -> Result<Command<'w>, AllocError>
@@ -377,10 +390,11 @@ fn explore_command<'w>(alloc: Global) -> Result<Command<'w>, AllocError>
     let command = taking(command, flag_option(alloc, "outcomes", OUTCOMES_HELP));
     let command = taking(command, bare_number(alloc, "outcome", "K", OUTCOME_HELP));
     let command = taking(command, bare_number(alloc, "tries", "T", TRIES_HELP));
-    taking(
+    let command = taking(
         command,
         flag_option(alloc, "ignore-races", IGNORE_RACES_HELP),
-    )
+    );
+    taking(command, flag_option(alloc, "ends", ENDS_HELP))
 }
 
 fn why_command<'w>(alloc: Global) -> Result<Command<'w>, AllocError>
@@ -470,6 +484,7 @@ fn taking_ways<'w>(
         → IfOk result (λ given. (fields_of given).has_globals ≡ false) }
 {
     let command = taking(command, text(alloc, "events", "PATH", EVENTS_HELP));
+    let command = taking(command, text(alloc, "then", "ORDER", THEN_HELP));
     taking(command, bare_number(alloc, "seed", "X", SEED_HELP))
 }
 

@@ -176,8 +176,8 @@ fn looked_at(most: usize) -> u64
     (most as u64).saturating_mul(20).saturating_add(1_000_000)
 }
 
-// How many nodes there are, where they are 1 to 16.
-fn count_of(nodes: u32) -> Result<u8, ExploreFault>
+/// Returns how many nodes there are, if they are 1 to 16. If they are not, fails with `BadNodes`.
+pub fn count_of(nodes: u32) -> Result<u8, ExploreFault>
     ensures { MatchResult result (λ count. (count ≡ nodes) × AreNodes nodes)
         (λ fault. (fault ≡ ExploreFault.BadNodes) × ¬ AreNodes nodes) }
 {
@@ -263,8 +263,8 @@ impl Found {
         }
     }
 
-    // An order whose last two acts race.
-    fn race_told(
+    /// Returns an order whose last two acts race, where two nodes meet at a state. It fails if memory runs out.
+    pub fn race_told(
         &self,
         alloc: Global,
         task: &Task<'_>,
@@ -284,8 +284,9 @@ impl Found {
         Ok(Verdict::Racy { order })
     }
 
-    // An order that gets stuck, and one in which a node traps, where all states were found.
-    fn findings_told(
+    /// Returns an order that gets stuck, and one in which a node traps, where all states were found. It fails if memory
+    /// runs out.
+    pub fn findings_told(
         &self,
         alloc: Global,
         task: &Task<'_>,

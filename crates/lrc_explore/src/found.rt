@@ -207,6 +207,7 @@ impl Found {
         requires none { row_count self.old.table.rows ≡ 0 }
         ensures found { OnOk result (AreFound task.now self.new) }
         ensures start { OnOk result (HasStart task.now self.new.table.rows) }
+        ensures some { OnOk result (0 < row_count self.new.table.rows) }
         ensures traps { IfOk result (ShowsStartTrap task.now) }
         ensures faults { IfErr result (IsFault task.now) }
     {
@@ -291,12 +292,13 @@ impl Found {
             parent: place,
             step,
         };
-        self.put(task, led.row, origin)?;
+        let _place = self.put(task, led.row, origin)?;
         Ok(led.traps)
     }
 
-    // The row that a step leads to from that at a place, and whether a node traps in it, if it can be taken.
-    fn row_after(
+    /// Returns the row that a step leads to from that at a place, and whether a node traps in it, if it can be taken. It
+    /// fails as `taken` does.
+    pub fn row_after(
         &mut self,
         alloc: Global,
         task: &Task<'_>,
@@ -324,20 +326,23 @@ impl Found {
         }
     }
 
-    // One row more, if it is new.
-    fn put(&mut self, task: &Task<'_>, row: Row, origin: Origin) -> Result<(), AllocError>
+    /// Adds a row to which a step leads, if it is new, and where it was found. Returns its place. It fails if memory runs
+    /// out.
+    pub fn put(&mut self, task: &Task<'_>, row: Row, origin: Origin) -> Result<usize, AllocError>
         requires found { AreFound task.now self.old }
         requires next { IsNext task.now self.old.table.rows origin row }
         ensures found { OnOk result (AreFound task.now self.new) }
         ensures more { OnOk result (IsMore self.old self.new) }
         ensures has { OnOk result ((key : Key) → StandsFor self.old.table.rows row key
             → IsKept self.new.table.rows key) }
+        ensures there { IfOk result (λ place. (key : Key) → StandsFor self.old.table.rows row key
+            → IsRowAt self.new.table.rows place key) }
     {
         let _most = task.most;
-        let (_place, added) = self.table.put(row)?;
+        let (place, added) = self.table.put(row)?;
         if added {
             self.origins.push(origin)?;
         }
-        Ok(())
+        Ok(place)
     }
 }

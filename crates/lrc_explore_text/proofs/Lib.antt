@@ -4,3 +4,4 @@ pub mod Led
 pub mod Listed
 pub mod Numbered
 pub mod Telling
+pub mod Ending

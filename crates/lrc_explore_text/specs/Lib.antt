@@ -5,3 +5,4 @@ pub mod Outcomes
 pub mod OutcomeRun
 pub mod Trapped
 pub mod Sections
+pub mod Ends

@@ -2,6 +2,7 @@
 //! whether a node traps in one, or which outcomes the nodes can reach.
 #![tactic(auto)]
 
+pub mod ends;
 pub mod explored;
 mod last_races;
 pub mod laws;

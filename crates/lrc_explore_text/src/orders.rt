@@ -104,17 +104,18 @@ fn verdict_told(
     }
 }
 
-// What is said of stuck orders or of traps: a line, and where an order is told its acts, and the nodes after them.
+// What is said of stuck orders, of traps or of ends: a line, and where an order is told its acts, and the nodes after
+// them.
 #[derive(Drop)]
-struct Section {
-    told: bool,
-    head: Vec<u8>,
-    acts: Vec<u8>,
-    ends: Vec<u8>,
+pub(crate) struct Section {
+    pub(crate) told: bool,
+    pub(crate) head: Vec<u8>,
+    pub(crate) acts: Vec<u8>,
+    pub(crate) ends: Vec<u8>,
 }
 
 // What was found besides races, behind a first line.
-fn found_told(
+pub(crate) fn found_told(
     alloc: Global,
     head: &[u8],
     labels: &[Label<'_>],
@@ -165,7 +166,7 @@ fn parts_of(
 }
 
 // A section of a line alone.
-fn line_alone(alloc: Global, line: &[u8]) -> Result<Section, AllocError>
+pub(crate) fn line_alone(alloc: Global, line: &[u8]) -> Result<Section, AllocError>
     ensures told { IfOk result (λ section. section.told ≡ false) }
     ensures text { IfOk result (λ section. section_text section ≡ line.now) }
 {
@@ -309,7 +310,7 @@ fn trap_told(
 }
 
 // What the earliest race of an order comes of.
-fn race_told(
+pub(crate) fn race_told(
     alloc: Global,
     labels: &[Label<'_>],
     program: &Program,
@@ -380,7 +381,7 @@ fn three_parts(
 }
 
 // The acts that the plain machine makes in an order.
-fn acts_of(
+pub(crate) fn acts_of(
     alloc: Global,
     program: &Program,
     nodes: u8,
@@ -398,7 +399,7 @@ fn acts_of(
 }
 
 // Where acts leave the nodes that are unfinished.
-fn ends_told(
+pub(crate) fn ends_told(
     alloc: Global,
     labels: &[Label<'_>],
     program: &Program,

@@ -1,5 +1,5 @@
 -- What a judge says of acts who names every read that breaks a rule.
-use Rattle.std.specs.Prelude.{◌≡◌, ◌≢◌, ℕ, Bool, true, false, List, ◌++◌, Option, MatchOption, Ok}
+use Rattle.std.specs.Prelude.{◌≡◌, ◌≢◌, ◌&&◌, ℕ, Bool, true, false, List, ◌++◌, Option, MatchOption, Ok}
 use Rattle.lrc_trace.specs.declared.act.Act.{Act}
 use Rattle.lrc_trace.specs.declared.act.Deed.TheVariants.{Read}
 use Rattle.lrc_trace.specs.Run.{IsDone}
@@ -12,7 +12,8 @@ use Rattle.lrc_text.specs.RaceText.{first_race_text}
 use Rattle.lrc_acts.specs.ActsText.{ReadsActs}
 use Rattle.lrc_acts.specs.JudgeLines.{lazy_line, ordered_line, unlazy_line, unordered_line}
 use Rattle.lrc_acts.specs.declared.reading.LinedActs.{LinedActs}
-use Rattle.lrc_judge_text.specs.Judgement.{CountsNodes, TellsRaces, TellsSynchronization, judge_status, place_at}
+use Rattle.lrc_judge_text.specs.Judgement.{CountsNodes, TellsExactReading, TellsRaces, TellsSynchronization, judge_status, place_at}
+use Rattle.lrc_judge_text.specs.declared.memory.ExactMemory.{ExactMemory}
 use Rattle.lrc_judge_all.specs.Each.{TellsEach}
 
 -- ---- lazy reading
@@ -60,33 +61,39 @@ pub data TellsDisorders (acts : List Act) (lines : List ℕ) : List ℕ → Type
 
 -- ---- the whole
 
--- the lines before those on races: the acts are or are not well synchronized, read or do not read lazily, and read in order
-pub record IsWholeHead (nodes : ℕ) (acts : List Act) (lines : List ℕ) (holds reads : Bool) (text : List ℕ) : Type 0 where
+-- The lines before those on races: the acts are or are not well synchronized, read or do not read lazily, exactly where a memory is given, and in
+-- order. They read as is asked where they read lazily, and exactly where that is asked.
+pub record IsWholeHead (nodes : ℕ) (memory : Option ExactMemory) (acts : List Act) (lines : List ℕ) (holds reads : Bool) (text : List ℕ) : Type 0 where
   pub first : List ℕ
   pub second : List ℕ
+  pub between : List ℕ
   pub third : List ℕ
+  pub lazily : Bool
+  pub exactly : Bool
   pub tells_synchronization : TellsSynchronization nodes acts lines holds first
-  pub tells_misreads : TellsMisreads acts lines reads second
+  pub tells_misreads : TellsMisreads acts lines lazily second
+  pub tells_exactness : TellsExactReading nodes memory acts lines exactly between
   pub tells_disorders : TellsDisorders acts lines third
-  pub whole : text ≡ first ++ second ++ third
+  pub both : reads ≡ (lazily && exactly)
+  pub whole : text ≡ first ++ second ++ between ++ third
 
 -- what is printed of acts and their lines, and the status after it
-pub record IsWholeJudgement (nodes : ℕ) (acts : List Act) (lines : List ℕ) (pairs : Bool) (out : List ℕ) (status : ℕ) : Type 0 where
+pub record IsWholeJudgement (nodes : ℕ) (memory : Option ExactMemory) (acts : List Act) (lines : List ℕ) (pairs : Bool) (out : List ℕ) (status : ℕ) : Type 0 where
   pub holds : Bool
   pub reads : Bool
   pub head : List ℕ
   pub races : List ℕ
   pub race : Option ℕ
-  pub is_head : IsWholeHead nodes acts lines holds reads head
+  pub is_head : IsWholeHead nodes memory acts lines holds reads head
   pub tells_races : TellsRaces acts pairs races
   pub is_first : MatchOption race (IsRaceFree acts) (IsFirstRace acts)
   pub whole : out ≡ head ++ races ++ first_race_text race
   pub status_is : status ≡ judge_status holds reads race
 
 -- what is printed of a text of acts, and the status after it
-pub record JudgesAll (nodes : Option ℕ) (pairs : Bool) (text out : List ℕ) (status : ℕ) : Type 0 where
+pub record JudgesAll (nodes : Option ℕ) (memory : Option ExactMemory) (pairs : Bool) (text out : List ℕ) (status : ℕ) : Type 0 where
   pub lined : LinedActs
   pub count : ℕ
   pub says : ReadsActs nodes text (Ok lined)
   pub counted : CountsNodes nodes lined.acts.items count
-  pub judgement : IsWholeJudgement count lined.acts.items lined.lines.items pairs out status
+  pub judgement : IsWholeJudgement count memory lined.acts.items lined.lines.items pairs out status

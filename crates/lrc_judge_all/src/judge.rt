@@ -19,29 +19,32 @@ use lrc_judge::first::first_race;
 use lrc_judge::pairs::{Pair, racing_pairs};
 use lrc_judge::races::{named_races, word_of};
 use lrc_judge::synchronization::first_fault_of_synchronization;
+use lrc_judge_text::exact::{reads_both, tell_exact_reading};
 use lrc_judge_text::judge::{Printout, nodes_of};
+use lrc_judge_text::memory::ExactMemory;
 use lrc_text::{first_race_part, races_part};
 use lrc_trace::act::{Act, Deed};
 use std::alloc::{AllocError, Global};
 
-/// Judges the acts of a text, with the number of nodes if that is given, and names each read that breaks a rule. Names
-/// the races, or with `pairs` the racing pairs. It fails if the text is too long, if a line is bad (the error names the
-/// first one), or if memory runs out.
+/// Judges the acts of a text, with the number of nodes if that is given, and names each read that breaks a rule. With an
+/// exact memory it also names the first read that is not exact. Names the races, or with `pairs` the racing pairs. It
+/// fails if the text is too long, if a line is bad (the error names the first one), or if memory runs out.
 pub fn judge_all(
     alloc: Global,
     text: &[u8],
     nodes: Option<u32>,
+    memory: Option<ExactMemory>,
     pairs: bool,
 ) -> Result<Printout, ActsFault>
     requires nodes { IfSome nodes (λ count. count ≤ NODES) }
     ensures ok { IfOk result (λ printout.
-        JudgesAll nodes pairs text.now (whole_text printout.parts.items) printout.status) }
+        JudgesAll nodes memory pairs text.now (whole_text printout.parts.items) printout.status) }
     ensures err { IfErr result (λ fault. ReadsActs nodes text.now (Err fault)) }
     ensures memory { IfErr result (λ fault. fault ≡ NoMemory → MayRunOut nodes text.now) }
 {
     let lined = acts_of(alloc, text, nodes)?;
     let count = nodes_of(nodes, &lined.acts);
-    let printout = judgement(alloc, &lined.acts, &lined.lines, count, pairs)?;
+    let printout = judgement(alloc, &lined.acts, &lined.lines, count, memory, pairs)?;
     Ok(printout)
 }
 
@@ -50,45 +53,55 @@ fn judgement(
     acts: &[Act],
     lines: &[u32],
     nodes: u8,
+    memory: Option<ExactMemory>,
     pairs: bool,
 ) -> Result<Printout, AllocError>
     requires nodes { nodes ≤ NODES }
     requires acts { All (λ act. act.node < NODES) acts.now }
+    requires below { All (λ act. act.node < nodes) acts.now }
     requires lines { length acts.now ≡ length lines.now }
-    ensures { IfOk result (λ printout. IsWholeJudgement nodes acts.now lines.now pairs
+    ensures { IfOk result (λ printout. IsWholeJudgement nodes memory acts.now lines.now pairs
         (whole_text printout.parts.items) printout.status) }
 {
-    let head = head_of(alloc, acts, lines, nodes)?;
+    let head = head_of(alloc, acts, lines, nodes, memory)?;
     let races = races_told(alloc, acts, pairs)?;
     let first = first_race(alloc, acts)?;
-    let status = status_of(head.synchronized, head.lazy, first);
+    let status = status_of(head.synchronized, head.reads, first);
     let parts = parts_of(alloc, head.text, races, first)?;
     Ok(Printout { parts, status })
 }
 
-/// The lines before those on races, and whether the acts are well synchronized and read lazily.
+/// The lines before those on races, with whether the acts are well synchronized, and whether they read as is asked.
 #[derive(Drop)]
 struct Head {
     text: Vec<u8>,
     synchronized: bool,
-    lazy: bool,
+    reads: bool,
 }
 
-fn head_of(alloc: Global, acts: &[Act], lines: &[u32], nodes: u8) -> Result<Head, AllocError>
+fn head_of(
+    alloc: Global,
+    acts: &[Act],
+    lines: &[u32],
+    nodes: u8,
+    memory: Option<ExactMemory>,
+) -> Result<Head, AllocError>
     requires nodes { nodes ≤ NODES }
     requires acts { All (λ act. act.node < NODES) acts.now }
+    requires below { All (λ act. act.node < nodes) acts.now }
     requires lines { length acts.now ≡ length lines.now }
-    ensures { IfOk result (λ head. IsWholeHead nodes acts.now lines.now head.synchronized head.lazy
-        head.text.items) }
+    ensures { IfOk result (λ head. IsWholeHead nodes memory acts.now lines.now head.synchronized
+        head.reads head.text.items) }
 {
     let mut text = Vec::new(alloc);
     let synchronized = tell_synchronization(&mut text, acts, lines, nodes)?;
     let lazy = tell_misreads(alloc, &mut text, acts, lines)?;
+    let exact = tell_exact_reading(alloc, &mut text, acts, lines, nodes, memory)?;
     tell_disorders(alloc, &mut text, acts, lines)?;
     Ok(Head {
         text,
         synchronized,
-        lazy,
+        reads: reads_both(lazy, exact),
     })
 }
 
@@ -184,10 +197,10 @@ fn parts_of(
 }
 
 // The exit status for a judgement.
-fn status_of(synchronized: bool, lazy: bool, first: Option<usize>) -> u8
-    ensures { result ≡ judge_status synchronized lazy first }
+fn status_of(synchronized: bool, reads: bool, first: Option<usize>) -> u8
+    ensures { result ≡ judge_status synchronized reads first }
 {
-    if !synchronized || !lazy {
+    if !synchronized || !reads {
         return 4;
     }
     if first.is_some() { 3 } else { 0 }

@@ -7,10 +7,11 @@ use Rattle.lrc_acts.specs.declared.reading.LinedActs.{LinedActs}
 use Rattle.lrc_judge_text.specs.Judgement.{IsJudgement, Judges, TellsRaces, paired}
 use Rattle.lrc_judge_text.specs.PairsTold.{IsPairsJudgement, IsPairsJudgementOf, told_text}
 use Rattle.lrc_judge_text.specs.RacingPairs.{lines_from}
+use Rattle.lrc_judge_text.specs.declared.memory.ExactMemory.{ExactMemory}
 use Rattle.lrc_judge_text.specs.declared.pairs.PairsJudgement.{PairsJudgement}
 use Rattle.lrc_judge_text.proofs.PairLists.{all-pairs, lines-are}
 
-module _ (count : ℕ) (lined : LinedActs) (judgement : PairsJudgement) (of : IsPairsJudgementOf count lined judgement) where
+module _ (count : ℕ) (memory : Option ExactMemory) (lined : LinedActs) (judgement : PairsJudgement) (of : IsPairsJudgementOf count memory lined judgement) where
   abbrev acts : List Act
   acts = judgement.acts.items
 
@@ -19,7 +20,7 @@ module _ (count : ℕ) (lined : LinedActs) (judgement : PairsJudgement) (of : Is
       subst (λ (text : List ℕ). TellsRaces acts true text) (lines-are acts judgement.conflicts.order of.races.kept.order)
       (paired (all-pairs acts judgement.conflicts.order of.races.kept.order))
 
-  judged : IsJudgement count lined.acts.items lined.lines.items true (told_text judgement) judgement.status
+  judged : IsJudgement count memory lined.acts.items lined.lines.items true (told_text judgement) judgement.status
   judged = record {
     holds = of.holds;
     reads = of.reads;
@@ -34,12 +35,12 @@ module _ (count : ℕ) (lined : LinedActs) (judgement : PairsJudgement) (of : Is
   }
 
 -- what is told of a text is a judgement of its acts, with their racing pairs
-pub judged-pairs : (nodes : Option ℕ) (text : List ℕ) (judgement : PairsJudgement) → IsPairsJudgement nodes text judgement
-    → Judges nodes true text (told_text judgement) judgement.status
-judged-pairs nodes text judgement is = record {
+pub judged-pairs : (nodes : Option ℕ) (memory : Option ExactMemory) (text : List ℕ) (judgement : PairsJudgement)
+    → IsPairsJudgement nodes memory text judgement → Judges nodes memory true text (told_text judgement) judgement.status
+judged-pairs nodes memory text judgement is = record {
   lined = is.lined;
   count = is.count;
   says = is.says;
   counted = is.counted;
-  judgement = judged is.count is.lined judgement is.of;
+  judgement = judged is.count memory is.lined judgement is.of;
 }

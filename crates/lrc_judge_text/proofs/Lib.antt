@@ -1,4 +1,5 @@
 pub mod Judged
+mod Nobody
 mod PairLists
 mod Racing
 pub mod Within

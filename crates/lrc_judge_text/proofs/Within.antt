@@ -1,5 +1,5 @@
 -- Where the acts stand that a judgement names.
-use Rattle.std.proofs.Common.{◌≡◌, ◌∙◌, ◌<◌, ◌≤◌, ◌+◌, ◌⊎◌, ◌++◌, ℕ, List, [], All, ap, Option, Some, length, take, get_or, inl, inr, subst, sym, arith}
+use Rattle.std.proofs.Common.{◌≡◌, ◌∙◌, ◌<◌, ◌≤◌, ◌+◌, ◌⊎◌, ◌++◌, ℕ, List, [], All, ap, Option, None, Some, length, take, get_or, inl, inr, subst, sym, arith}
 use Rattle.std.specs.Prelude.{IfErr, IsErrAnd, Result, Ok, Err}
 use Rattle.std.proofs.lemmas.List.{take_more}
 use Rattle.std.proofs.lemmas.List.Elements.{All-cons, All-more, All-nil, All-pop, All-weaker, Contains-get_or}
@@ -13,7 +13,7 @@ use Rattle.lrc_judge.specs.Pairs.{ArePairsWithLater}
 use Rattle.lrc_judge.specs.declared.lanes.Pair.{Pair}
 use Rattle.lrc_acts.specs.ActsText.{SayActs, empty, more, none}
 use Rattle.lrc_acts.specs.declared.reading.ActsFault.{ActsFault}
-use Rattle.lrc_judge_text.specs.Judgement.{IsNodeCount}
+use Rattle.lrc_judge_text.specs.Judgement.{CountsNodes, IsNodeCount}
 
 pub misread_within : {run : List Act} {p : ℕ} → IsFirstMisread run p → p < length run
 misread_within h = Does-within h.misread.read.1
@@ -67,12 +67,25 @@ acts_ranged none = All-nil (λ (act : Act). act.node < 16)
 acts_ranged (empty e n) = acts_ranged n
 acts_ranged (more s n) = All-cons (λ (act : Act). act.node < 16) _ _ (omega (arith, s.node.small)) (acts_ranged n)
 
+acts_among : {n number : ℕ} {lines : List (List ℕ)} {acts : List Act} {numbers : List ℕ} → SayActs (Some n) number lines acts numbers
+    → All (λ act. act.node < n) acts
+acts_among {n} none = All-nil (λ (act : Act). act.node < n)
+acts_among {n} (empty e k) = acts_among k
+acts_among {n} (more s k) = All-cons (λ (act : Act). act.node < n) _ _ s.among (acts_among k)
+
+-- each act is of one of the nodes that are counted
+pub acts_below : (nodes : Option ℕ) {number : ℕ} {lines : List (List ℕ)} {acts : List Act} {numbers : List ℕ} (count : ℕ)
+    → SayActs nodes number lines acts numbers → CountsNodes nodes acts count → All (λ act. act.node < count) acts
+acts_below None count says counted = counted.above
+acts_below (Some n) {acts = acts} count says counted = subst (λ m. All (λ act. act.node < m) acts) (sym counted) (acts_among says)
+
 -- ---- texts
 
-pub three_texts : (none one two three first second third : List ℕ) → none ≡ [] → one ≡ none ++ first → two ≡ one ++ second → three ≡ two ++ third
-    → three ≡ first ++ second ++ third
-three_texts start one two three first second third n f s t =
-    t ∙ ap (λ (l : List ℕ). l ++ third) (s ∙ ap (λ (l : List ℕ). l ++ second) (f ∙ ap (λ (l : List ℕ). l ++ first) n))
+pub four_texts : (none one two three four first second third fourth : List ℕ) → none ≡ [] → one ≡ none ++ first → two ≡ one ++ second
+    → three ≡ two ++ third → four ≡ three ++ fourth → four ≡ first ++ second ++ third ++ fourth
+four_texts start one two three four first second third fourth n f s t u =
+    u ∙ ap (λ (l : List ℕ). l ++ fourth) (t ∙ ap (λ (l : List ℕ). l ++ third)
+    (s ∙ ap (λ (l : List ℕ). l ++ second) (f ∙ ap (λ (l : List ℕ). l ++ first) n)))
 
 -- ---- faults
 

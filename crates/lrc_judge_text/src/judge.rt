@@ -8,6 +8,8 @@ ghost use Rattle.lrc_acts.specs.ActsText.{ReadsActs};
 ghost use Rattle.lrc_acts.specs.declared.reading.ActsFault.TheVariants.{NoMemory};
 ghost use Rattle.lrc_judge_text.specs.Judgement.{CountsNodes, IsHead, IsJudgement, IsNodeCount, Judges, MayRunOut, judge_status};
 
+use crate::exact::{reads_both, tell_exact_reading};
+use crate::memory::ExactMemory;
 use crate::tell::{races_told, tell_lazy_reading, tell_order, tell_synchronization};
 use lrc_acts::reading::{ActsFault, acts_of};
 use lrc_judge::NODES;
@@ -24,12 +26,18 @@ pub struct Printout {
     pub status: u8,
 }
 
-/// Judges the acts of a text, with the number of nodes if that is given, and names their races. It fails if the text is
-/// too long, if a line is bad (the error names the first one), or if memory runs out.
-pub fn judge(alloc: Global, text: &[u8], nodes: Option<u32>) -> Result<Printout, ActsFault>
+/// Judges the acts of a text, with the number of nodes if that is given, and names their races. With an exact memory it
+/// also says whether they read exactly. It fails if the text is too long, if a line is bad (the error names the first
+/// one), or if memory runs out.
+pub fn judge(
+    alloc: Global,
+    text: &[u8],
+    nodes: Option<u32>,
+    memory: Option<ExactMemory>,
+) -> Result<Printout, ActsFault>
     requires nodes { IfSome nodes (λ count. count ≤ NODES) }
     ensures ok { IfOk result (λ printout.
-        Judges nodes false text.now (whole_text printout.parts.items) printout.status) }
+        Judges nodes memory false text.now (whole_text printout.parts.items) printout.status) }
     ensures err { IfErr result (λ fault. ReadsActs nodes text.now (Err fault)) }
     ensures memory { IfErr result (λ fault. fault ≡ NoMemory → MayRunOut nodes text.now) }
 {
@@ -39,6 +47,7 @@ pub fn judge(alloc: Global, text: &[u8], nodes: Option<u32>) -> Result<Printout,
         &lined.acts,
         &lined.lines,
         nodes_of(nodes, &lined.acts),
+        memory,
     )?;
     Ok(printout)
 }
@@ -77,50 +86,60 @@ fn greater(a: u8, b: u8) -> u8
     if a < b { b } else { a }
 }
 
-fn judgement(alloc: Global, acts: &[Act], lines: &[u32], nodes: u8) -> Result<Printout, AllocError>
+fn judgement(
+    alloc: Global,
+    acts: &[Act],
+    lines: &[u32],
+    nodes: u8,
+    memory: Option<ExactMemory>,
+) -> Result<Printout, AllocError>
     requires nodes { nodes ≤ NODES }
     requires acts { All (λ act. act.node < NODES) acts.now }
+    requires below { All (λ act. act.node < nodes) acts.now }
     requires lines { length acts.now ≡ length lines.now }
-    ensures { IfOk result (λ printout. IsJudgement nodes acts.now lines.now false
+    ensures { IfOk result (λ printout. IsJudgement nodes memory acts.now lines.now false
         (whole_text printout.parts.items) printout.status) }
 {
-    let head = head_of(alloc, acts, lines, nodes)?;
+    let head = head_of(alloc, acts, lines, nodes, memory)?;
     let races = races_told(alloc, acts)?;
     let first = first_race(alloc, acts)?;
-    let status = status_of(head.synchronized, head.lazy, first);
+    let status = status_of(head.synchronized, head.reads, first);
     let parts = parts_of(alloc, head.text, races, first)?;
     Ok(Printout { parts, status })
 }
 
-/// The first three lines of a judgement, and the answers of the first two.
+/// The first lines of a judgement, with whether the acts are well synchronized, and whether they read as is asked.
 #[derive(Drop)]
 pub(crate) struct Head {
     pub(crate) text: Vec<u8>,
     pub(crate) synchronized: bool,
-    pub(crate) lazy: bool,
+    pub(crate) reads: bool,
 }
 
-/// Returns the first three lines of a judgement.
+/// Returns the first lines of a judgement.
 pub(crate) fn head_of(
     alloc: Global,
     acts: &[Act],
     lines: &[u32],
     nodes: u8,
+    memory: Option<ExactMemory>,
 ) -> Result<Head, AllocError>
     requires nodes { nodes ≤ NODES }
     requires acts { All (λ act. act.node < NODES) acts.now }
+    requires below { All (λ act. act.node < nodes) acts.now }
     requires lines { length acts.now ≡ length lines.now }
-    ensures { IfOk result (λ head. IsHead nodes acts.now lines.now head.synchronized head.lazy
-        head.text.items) }
+    ensures { IfOk result (λ head. IsHead nodes memory acts.now lines.now head.synchronized
+        head.reads head.text.items) }
 {
     let mut text = Vec::new(alloc);
     let synchronized = tell_synchronization(&mut text, acts, lines, nodes)?;
     let lazy = tell_lazy_reading(alloc, &mut text, acts, lines)?;
+    let exact = tell_exact_reading(alloc, &mut text, acts, lines, nodes, memory)?;
     tell_order(alloc, &mut text, acts, lines)?;
     Ok(Head {
         text,
         synchronized,
-        lazy,
+        reads: reads_both(lazy, exact),
     })
 }
 
@@ -141,10 +160,10 @@ fn parts_of(
 }
 
 /// Returns the program's exit status for a judgement.
-pub(crate) fn status_of(synchronized: bool, lazy: bool, first: Option<usize>) -> u8
-    ensures { result ≡ judge_status synchronized lazy first }
+pub(crate) fn status_of(synchronized: bool, reads: bool, first: Option<usize>) -> u8
+    ensures { result ≡ judge_status synchronized reads first }
 {
-    if !synchronized || !lazy {
+    if !synchronized || !reads {
         return 4;
     }
     if first.is_some() { 3 } else { 0 }

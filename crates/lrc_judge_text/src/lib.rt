@@ -3,6 +3,8 @@
 #![tactic(auto)]
 
 pub mod broken_off;
+pub mod exact;
 pub mod judge;
+pub mod memory;
 pub mod pairs;
 mod tell;

@@ -14,6 +14,7 @@ ghost use Rattle.lrc_judge_text.specs.RacingPairs.{lines_from};
 
 use crate::broken_off::BrokenOff;
 use crate::judge::{head_of, nodes_of, status_of};
+use crate::memory::ExactMemory;
 use lrc_acts::judge_lines::{RacingAccesses, push_pair};
 use lrc_acts::reading::{ActsFault, LinedActs, acts_of};
 use lrc_judge::NODES;
@@ -41,36 +42,43 @@ pub struct PairsJudgement {
     pub status: u8,
 }
 
-/// Judges the acts of a text, with the number of nodes if that is given, for a report with all racing pairs. It fails
-/// as `judge` does.
+/// Judges the acts of a text, with the number of nodes and an exact memory if these are given, for a report with all
+/// racing pairs. It fails as `judge` does.
 pub fn judge_pairs(
     alloc: Global,
     text: &[u8],
     nodes: Option<u32>,
+    memory: Option<ExactMemory>,
 ) -> Result<PairsJudgement, ActsFault>
     requires nodes { IfSome nodes (λ count. count ≤ NODES) }
-    ensures ok { IfOk result (IsPairsJudgement nodes text.now) }
+    ensures ok { IfOk result (IsPairsJudgement nodes memory text.now) }
     ensures judges { IfOk result (λ judgement.
-        Judges nodes true text.now (told_text judgement) judgement.status) }
+        Judges nodes memory true text.now (told_text judgement) judgement.status) }
     ensures err { IfErr result (λ fault. ReadsActs nodes text.now (Err fault)) }
     ensures memory { IfErr result (λ fault. fault ≡ NoMemory → MayRunOut nodes text.now) }
 {
     let lined = acts_of(alloc, text, nodes)?;
     let count = nodes_of(nodes, &lined.acts);
-    let judgement = judgement_of(alloc, lined, count)?;
+    let judgement = judgement_of(alloc, lined, count, memory)?;
     Ok(judgement)
 }
 
-fn judgement_of(alloc: Global, lined: LinedActs, nodes: u8) -> Result<PairsJudgement, AllocError>
+fn judgement_of(
+    alloc: Global,
+    lined: LinedActs,
+    nodes: u8,
+    memory: Option<ExactMemory>,
+) -> Result<PairsJudgement, AllocError>
     requires nodes { nodes ≤ NODES }
     requires acts { All (λ act. act.node < NODES) lined.acts.items }
+    requires below { All (λ act. act.node < nodes) lined.acts.items }
     requires lines { length lined.acts.items ≡ length lined.lines.items }
-    ensures { IfOk result (IsPairsJudgementOf nodes lined) }
+    ensures { IfOk result (IsPairsJudgementOf nodes memory lined) }
 {
-    let head = head_of(alloc, &lined.acts, &lined.lines, nodes)?;
+    let head = head_of(alloc, &lined.acts, &lined.lines, nodes, memory)?;
     let conflicts = conflicts_of(alloc, &lined.acts)?;
     let first = first_race(alloc, &lined.acts)?;
-    let status = status_of(head.synchronized, head.lazy, first);
+    let status = status_of(head.synchronized, head.reads, first);
     Ok(PairsJudgement {
         head: head.text,
         acts: lined.acts,

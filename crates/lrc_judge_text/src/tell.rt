@@ -18,7 +18,8 @@ use lrc_text::races_part;
 use lrc_trace::act::{Act, Deed};
 use std::alloc::{AllocError, Global};
 
-fn place_at(lines: &[u32], position: usize) -> Place
+/// Returns the place of the act at this position.
+pub(crate) fn place_at(lines: &[u32], position: usize) -> Place
     requires { position < length lines.now }
     ensures { result ≡ place_at lines.now position }
 {

@@ -1,6 +1,6 @@
 -- A run that is led from event to event.
 use Rattle.std.proofs.Common.{◌≡◌, ◌∙◌, ℕ, zero, suc, ◌+◌, ◌-◌, ◌<◌, ◌≤◌, arith, List, [], ◌∷◌, ◌++◌, Bool, true, false, ◌||◌, Option, inl, inr}
-use Rattle.std.proofs.Common.{Some, Result, Ok, Err, IsErrAnd, OnOk, refl, sym, ap, subst, length, below_more, ⊎_elim, ◌⊎◌}
+use Rattle.std.proofs.Common.{Some, Result, Ok, Err, IsErrAnd, OnOk, refl, sym, ap, subst, length, below_more, ⊎_elim, ◌⊎◌, append-nil}
 use Rattle.std.specs.Prelude.{slice_get}
 use Rattle.std.specs.List.{list_any}
 use Rattle.std.specs.Option.{option_map_or}
@@ -15,6 +15,7 @@ use Rattle.lrc_world.specs.declared.report.TurnFault.{TurnFault}
 use Rattle.lrc_world.specs.declared.report.TurnFault.TheVariants.{Worn, NoMemory}
 use Rattle.lrc_world.specs.declared.report.TheConstants.{MOST_EVENTS}
 use Rattle.lrc_world.specs.declared.rounds.Driver.{Driver}
+use Rattle.lrc_world.specs.declared.turned.Turned.{Turned}
 use Rattle.lrc_world.specs.declared.world.World.{World}
 use Rattle.lrc_world.specs.Driven.{DriverStandsAt, IsDrivenOn, DrivesTo, IsStill, IsAsleep, NoneReady, IsRunOver, PlaysOne, IsFull}
 use Rattle.lrc_world.specs.Led.{Schedule, Led, begins, plays, passes, WearsOut}
@@ -29,11 +30,11 @@ use Rattle.lrc_world.proofs.Lists.{same_length}
 
 module _ (s : Schedule) where
   pub goes-nowhere : (at : s.Standing) (d : Driver) → IsDrivenOn s at at d d
-  goes-nowhere at d = record { drives = λ starts start h. h; few = λ h. h; more = omega arith }
+  goes-nowhere at d = record { drives = λ starts start earlier h. h; few = λ h. h; more = omega arith }
 
   pub goes-twice : (from mid to : s.Standing) (a b c : Driver) → IsDrivenOn s from mid a b → IsDrivenOn s mid to b c → IsDrivenOn s from to a c
   goes-twice from mid to a b c g h = record {
-    drives = λ starts start d. h.drives starts start (g.drives starts start d);
+    drives = λ starts start earlier d. h.drives starts start earlier (g.drives starts start earlier d);
     few = λ few. h.few (g.few few);
     more = omega (arith, g.more, h.more);
   }
@@ -41,7 +42,7 @@ module _ (s : Schedule) where
   pub goes-after : (from mid to : s.Standing) (a b c : Driver) (result : Result (Unit {0}) TurnFault) → IsDrivenOn s from mid a b → DrivesTo s mid to b c result
       → DrivesTo s from to a c result
   goes-after from mid to a b c (Ok u) g h = goes-twice from mid to a b c g h
-  goes-after from mid to a b c (Err Worn) g h = λ starts start d. h starts start (g.drives starts start d)
+  goes-after from mid to a b c (Err Worn) g h = λ starts start earlier d. h starts start earlier (g.drives starts start earlier d)
   goes-after from mid to a b c (Err NoMemory) g h = tt
 
   -- it may end elsewhere where it comes to a fault
@@ -58,15 +59,16 @@ module _ (s : Schedule) where
       (subst (λ x. DrivesTo s mid end b c (Err x)) (sym is) (other_end mid to end b c fault h))
 
   -- before any event
-  pub at_start : (starts : Starts) (start : Run) (d : Driver) (world : World) → Shows starts world start → world.turned.items ≡ [] → d.world ≡ world
-      → d.events.items ≡ [] → DriverStandsAt s starts start s.first d
-  at_start starts start d world shows unturned is none = record {
+  pub at_start : (starts : Starts) (start : Run) (earlier : List Turned) (d : Driver) (world : World) → Shows starts world start
+      → world.turned.items ≡ earlier → d.world ≡ world → d.events.items ≡ [] → DriverStandsAt s starts start earlier s.first d
+  at_start starts start earlier d world shows turned is none = record {
     run = start;
     standing = s.first;
     led = subst (λ events. Led s start events start s.first) (sym none) begins;
     shows = subst (λ w. Shows starts w start) (sym is) shows;
-    turned = ap (λ (w : World). w.turned.items) is ∙ unturned ∙ sym (kept_none starts.keep)
-        ∙ ap (λ events. when_all starts.keep (turned_from (Some start) events)) (sym none);
+    turned = ap (λ (w : World). w.turned.items) is ∙ turned ∙ sym (append-nil earlier)
+        ∙ ap (λ ts. earlier ++ ts) (sym (kept_none starts.keep)
+        ∙ ap (λ events. when_all starts.keep (turned_from (Some start) events)) (sym none));
     here = inl refl;
   }
 
@@ -99,10 +101,10 @@ module _ (s : Schedule) where
   pub passes_on : (from to : s.Standing) (d : Driver)
       → ((starts : Starts) (run : Run) → Shows starts d.world run → s.Passes run from to) → IsDrivenOn s from to d d
   passes_on from to d pass = record {
-    drives = λ starts start d1.
+    drives = λ starts start earlier d1.
         ⊎_elim
         (λ (here : d1.standing ≡ from).
-        let passed : DriverStandsAt s starts start to d = record {
+        let passed : DriverStandsAt s starts start earlier to d = record {
           run = d1.run;
           standing = to;
           led = passes d1.led (subst (λ x. s.Passes d1.run x to) (sym here) (pass starts d1.run d1.shows));
@@ -111,7 +113,7 @@ module _ (s : Schedule) where
           here = inl refl;
         } in passed)
         (λ (full : MOST_EVENTS ≤ length d.events.items).
-        let rests : DriverStandsAt s starts start to d = record {
+        let rests : DriverStandsAt s starts start earlier to d = record {
           run = d1.run;
           standing = d1.standing;
           led = d1.led;
@@ -128,27 +130,27 @@ module _ (s : Schedule) where
 
   module _ (from to : s.Standing) (old new : Driver) (event : Event)
       (due : (starts : Starts) (run : Run) → Shows starts old.world run → s.Due run from event to) where
-    stands : (starts : Starts) (start : Run) (d : DriverStandsAt s starts start from old) → length old.events.items < MOST_EVENTS → d.standing ≡ from
-    stands starts start d room =
+    stands : (starts : Starts) (start : Run) (earlier : List Turned) (d : DriverStandsAt s starts start earlier from old) → length old.events.items < MOST_EVENTS → d.standing ≡ from
+    stands starts start earlier d room =
         ⊎_elim (λ (here : d.standing ≡ from). here) (λ (full : MOST_EVENTS ≤ length old.events.items). absurd (omega (arith, full, room))) d.here
 
-    led_here : (starts : Starts) (start : Run) (d : DriverStandsAt s starts start from old) → length old.events.items < MOST_EVENTS
+    led_here : (starts : Starts) (start : Run) (earlier : List Turned) (d : DriverStandsAt s starts start earlier from old) → length old.events.items < MOST_EVENTS
         → Led s start old.events.items d.run from
-    led_here starts start d room = subst (Led s start old.events.items d.run) (stands starts start d room) d.led
+    led_here starts start earlier d room = subst (Led s start old.events.items d.run) (stands starts start earlier d room) d.led
 
     plays_ok : (u : Unit {0}) → PlaysOne old new event (Ok u) → IsDrivenOn s from to old new
     plays_ok u p = record {
-      drives = λ starts start d.
+      drives = λ starts start earlier d.
           let next = p.plays starts d.run d.shows in
           record {
             run = next.0;
             standing = to;
             led = subst (λ events. Led s start events next.0 to) (sym p.events)
-                (plays (led_here starts start d p.room) (due starts d.run d.shows) next.1);
+                (plays (led_here starts start earlier d p.room) (due starts d.run d.shows) next.1);
             shows = next.2;
-            turned = noted_more starts start d.run old.events.items event old.world new.world d.shows (led_played start old.events.items d.run d.standing d.led)
-                d.turned (p.turned starts d.run d.shows)
-                ∙ ap (λ events. when_all starts.keep (turned_from (Some start) events)) (sym p.events);
+            turned = noted_more starts start d.run earlier old.events.items event old.world new.world d.shows
+                (led_played start old.events.items d.run d.standing d.led) d.turned (p.turned starts d.run d.shows)
+                ∙ ap (λ events. earlier ++ when_all starts.keep (turned_from (Some start) events)) (sym p.events);
             here = inl refl;
           };
       few = λ few. let long = ap length p.events ∙ length_push old.events.items event in omega (arith, p.room, long);
@@ -157,12 +159,12 @@ module _ (s : Schedule) where
 
     plays_by : (result : Result (Unit {0}) TurnFault) → PlaysOne old new event result → DrivesTo s from to old new result
     plays_by (Ok u) p = plays_ok u p
-    plays_by (Err Worn) p = λ starts start d. record {
+    plays_by (Err Worn) p = λ starts start earlier d. record {
       before = old.events.items;
       early = p.room;
       run = d.run;
       at = from;
-      led = led_here starts start d p.room;
+      led = led_here starts start earlier d p.room;
       event = event;
       after = to;
       due = due starts d.run d.shows;
@@ -172,7 +174,7 @@ module _ (s : Schedule) where
 
     stays_full : MOST_EVENTS ≤ length old.events.items → IsDrivenOn s from to old old
     stays_full full = record {
-      drives = λ starts start d. record { run = d.run; standing = d.standing; led = d.led; shows = d.shows; turned = d.turned; here = inr full };
+      drives = λ starts start earlier d. record { run = d.run; standing = d.standing; led = d.led; shows = d.shows; turned = d.turned; here = inr full };
       few = λ few. few;
       more = omega arith;
     }

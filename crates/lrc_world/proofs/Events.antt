@@ -16,12 +16,7 @@ use Rattle.lrc_world.specs.Turned.{when_all, turned_of, turner}
 use Rattle.lrc_world.specs.World.{NotesTurn, Starts, Shows, PlaysTo, starts_of}
 use Rattle.lrc_world.proofs.Noted.{noted_more}
 use Rattle.lrc_world.specs.Report.{IsWornBy, IsWornFault}
-
--- the run of the events so far, which the world shows, and the turns that they made
-abbrev pub Runs : Keep → Program → ℕ → OptionsRecord → List Event → World → Type 0
-Runs keep program nodes options events world =
-    (run : Run) × (run_of program nodes options events ≡ Some run) × Shows (starts_of program nodes options keep) world run
-    × (world.turned.items ≡ when_all keep (turned_of program nodes options events))
+use Rattle.lrc_world.specs.Runs.{ShowsRun}
 
 module _ (program : Program) (nodes : ℕ) (options : OptionsRecord) (events : List Event) (k : ℕ) (event : Event) (at : slice_get events k ≡ Some event) where
   taken_next : take (k + 1) events ≡ take k events ++ event ∷ []
@@ -35,10 +30,10 @@ module _ (program : Program) (nodes : ℕ) (options : OptionsRecord) (events : L
       ∙ ap (λ w. step_of w event) so_far
 
   pub goes_on : (keep : Keep) (old new : World) (result : Result (Unit {0}) TurnFault) (u : Unit {0})
-      → Runs keep program nodes options (take k events) old
+      → ShowsRun keep program nodes options (take k events) old
       → ((starts : Starts) (run : Run) → Shows starts old run → PlaysTo starts new (event_on run event) result)
       → ((starts : Starts) (run : Run) → Shows starts old run → OnOk result (NotesTurn old new event (turner run event))) → result ≡ Ok u
-      → Runs keep program nodes options (take (k + 1) events) new
+      → ShowsRun keep program nodes options (take (k + 1) events) new
   goes_on keep old new result u runs plays notes ok =
       let first = starts_of program nodes options keep in
       let p = subst (PlaysTo first new (event_on runs.0 event)) ok (plays first runs.0 runs.2) in
@@ -46,7 +41,7 @@ module _ (program : Program) (nodes : ℕ) (options : OptionsRecord) (events : L
         p.0,
         one_more runs.0 runs.1 ∙ p.1,
         p.2,
-        noted_more first (fresh_world program nodes options) runs.0 (take k events) event old new runs.2 runs.1 runs.3 noted
+        noted_more first (fresh_world program nodes options) runs.0 [] (take k events) event old new runs.2 runs.1 runs.3 noted
             ∙ ap (λ es. when_all keep (turned_of program nodes options es)) (sym taken_next),
       )
 
@@ -56,7 +51,7 @@ split_at (y ∷ xs) zero x at = let same : y ≡ x = cc in ap (λ z. z ∷ xs) s
 split_at (y ∷ xs) (suc k) x at = ap (λ more. y ∷ more) (split_at xs k x at)
 
 pub wears_out : (program : Program) (nodes : ℕ) (options : OptionsRecord) (events : List Event) (k : ℕ) (event : Event) → slice_get events k ≡ Some event
-    → (keep : Keep) (old new : World) (result : Result (Unit {0}) TurnFault) → Runs keep program nodes options (take k events) old
+    → (keep : Keep) (old new : World) (result : Result (Unit {0}) TurnFault) → ShowsRun keep program nodes options (take k events) old
     → ((starts : Starts) (run : Run) → Shows starts old run → PlaysTo starts new (event_on run event) result) → result ≡ Err Worn
     → IsWornBy program nodes options events
 wears_out program nodes options events k event at keep old new result runs plays worn = record {
@@ -72,7 +67,7 @@ wears_out program nodes options events k event at keep old new result runs plays
 
 -- why the events are not played, where one of them is not
 pub faults_at : (program : Program) (nodes : ℕ) (options : OptionsRecord) (events : List Event) (k : ℕ) (event : Event) → slice_get events k ≡ Some event
-    → (keep : Keep) (old new : World) (fault : TurnFault) → Runs keep program nodes options (take k events) old
+    → (keep : Keep) (old new : World) (fault : TurnFault) → ShowsRun keep program nodes options (take k events) old
     → ((starts : Starts) (run : Run) → Shows starts old run → PlaysTo starts new (event_on run event) (Err fault))
     → IsWornFault (IsWornBy program nodes options events) fault
 faults_at program nodes options events k event at keep old new Worn runs plays =

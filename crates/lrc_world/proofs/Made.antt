@@ -142,6 +142,20 @@ turned_more (Some world) (x ∷ before) event =
     ∙ sym (append_assoc (turned_by x (turner world x)) (turned_from (event_on world x) before)
     (turned_last (fold step_of (event_on world x) before) event))
 
+turned_none : (events : List Event) → turned_from None events ≡ []
+turned_none [] = refl
+turned_none (event ∷ more) = refl
+
+-- the turns of some events and of those behind them
+pub turned_both : (o : Option Run) (before more : List Event)
+    → turned_from o (before ++ more) ≡ turned_from o before ++ turned_from (fold step_of o before) more
+turned_both o [] more = refl
+turned_both None (x ∷ before) more = sym (ap (λ w. turned_from w more) (nowhere before) ∙ turned_none more)
+turned_both (Some world) (x ∷ before) more =
+    ap (λ ts. turned_by x (turner world x) ++ ts) (turned_both (event_on world x) before more)
+    ∙ sym (append_assoc (turned_by x (turner world x)) (turned_from (event_on world x) before)
+    (turned_from (fold step_of (event_on world x) before) more))
+
 -- ---- the turned events alone
 
 -- the run of one event and those after it that are not skipped

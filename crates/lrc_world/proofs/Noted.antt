@@ -1,6 +1,6 @@
 -- The turns that are kept beside a world.
 use Rattle.std.proofs.Common.{◌≡◌, ◌∙◌, ◌≤◌, ℕ, List, [], ◌∷◌, ◌++◌, Option, Some, None, Result, Ok, Err, OnOk, true, false}
-use Rattle.std.proofs.Common.{append-nil, ap, arith, length, refl, sym}
+use Rattle.std.proofs.Common.{append-nil, append_assoc, ap, arith, length, refl, sym}
 use Rattle.std.proofs.lemmas.Option.{slice_get_past}
 use Rattle.std.specs.Prelude.{slice_get}
 use Rattle.lrc_protocol.specs.declared.event.Event.{Event}
@@ -49,16 +49,18 @@ notes_same old new keep turned event maker other (Ok done) kept same is notes =
 notes_same old new keep turned event maker other (Err fault) kept same is notes = tt
 
 -- one event more
-pub noted_more : (starts : Starts) (start run : Run) (before : List Event) (event : Event) (old new : World) → Shows starts old run
-    → played start before ≡ Some run → old.turned.items ≡ when_all starts.keep (turned_from (Some start) before)
+pub noted_more : (starts : Starts) (start run : Run) (earlier : List Turned) (before : List Event) (event : Event) (old new : World)
+    → Shows starts old run → played start before ≡ Some run
+    → old.turned.items ≡ earlier ++ when_all starts.keep (turned_from (Some start) before)
     → NotesTurn old new event (turner run event)
-    → new.turned.items ≡ when_all starts.keep (turned_from (Some start) (before ++ event ∷ []))
-noted_more starts start run before event old new shows plays so_far notes =
+    → new.turned.items ≡ earlier ++ when_all starts.keep (turned_from (Some start) (before ++ event ∷ []))
+noted_more starts start run earlier before event old new shows plays so_far notes =
     notes ∙ ap (λ keep. old.turned.items ++ when_all keep (turned_by event (turner run event))) shows.keep
     ∙ ap (λ ts. ts ++ when_all starts.keep (turned_by event (turner run event))) so_far
-    ∙ sym (kept_both starts.keep (turned_from (Some start) before) (turned_by event (turner run event)))
+    ∙ append_assoc earlier (when_all starts.keep (turned_from (Some start) before)) (when_all starts.keep (turned_by event (turner run event)))
+    ∙ ap (λ ts. earlier ++ ts) (sym (kept_both starts.keep (turned_from (Some start) before) (turned_by event (turner run event)))
     ∙ ap (λ o. when_all starts.keep (turned_from (Some start) before ++ turned_last o event)) (sym plays)
-    ∙ ap (when_all starts.keep) (sym (turned_more (Some start) before event))
+    ∙ ap (when_all starts.keep) (sym (turned_more (Some start) before event)))
 
 -- ---- who made a turn
 

@@ -1,9 +1,10 @@
 -- No event of a run in rounds is skipped, and none of a run in a random order.
 use Rattle.std.proofs.Common.{◌≡◌, ◌∙◌, ℕ, zero, suc, ◌+◌, ◌%◌, ◌<◌, ◌≤◌, arith, List, [], ◌∷◌, ◌++◌, Bool, true, false, cond, Option, Some, None}
 use Rattle.std.proofs.Common.{refl, sym, ap, append-nil, ⊎_elim, ◌⊎◌, inl, inr, map, length}
-use Rattle.std.specs.Prelude.{filter, min, nat_le, remove, slice_get}
+use Rattle.std.specs.Prelude.{filter, fold, min, nat_le, remove, slice_get}
 use Rattle.std.specs.List.{enumerate_from, range_with_len}
 use Rattle.std.specs.Option.{option_map_or}
+use Rattle.std.proofs.lemmas.List.Sums.{fold-append}
 use Rattle.std.proofs.lemmas.Option.{same_Some}
 use Rattle.std.proofs.lemmas.List.{length-append, length-map, map-append}
 use Rattle.std.proofs.lemmas.List.Edits.{length-remove}
@@ -21,16 +22,16 @@ use Rattle.lrc_protocol.specs.Turn.{turn_or, turn_by, run_turn, take_turn, is_re
 use Rattle.lrc_protocol.specs.Turn.{takes}
 use Rattle.lrc_protocol.specs.Run.{Input, EntryRecord, Logged, Logging, logged, refused, too_large, logs, logging, next_stamp, MOST_STAMP}
 use Rattle.lrc_protocol.specs.Run.{World as Run, Flying as Sent, fresh_world, sent_by, with_mark, after_input, input_to}
-use Rattle.lrc_protocol.specs.Run.{delivers, event_on, played, run_of}
+use Rattle.lrc_protocol.specs.Run.{delivers, event_on, played, run_of, step_of}
 use Rattle.lrc_protocol.specs.Run as log
 use Rattle.lrc_protocol.proofs.Skips.{ready-goes_on}
 use Rattle.lrc_order_laws.proofs.Timely.{get_within}
-use Rattle.lrc_world.specs.Led.{Led, begins as starts, plays, passes, AreLed}
+use Rattle.lrc_world.specs.Led.{Led, begins as starts, plays, passes}
 use Rattle.lrc_world.specs.Moments.{RefusesNone}
 use Rattle.lrc_world.specs.Random.{choices_of, drawn_event, drawn_number, wandering}
 use Rattle.lrc_world.specs.Rounds.{Stage, at_node, delivering, IsDue, turn, delivery, Passes, asleep, all_went, all_delivered}
 use Rattle.lrc_world.specs.Rounds.{schedule_of_rounds, ready_at, delivery_of, is_delivered, newest_place}
-use Rattle.lrc_world.specs.Turned.{node_if, node_by, taker, turner, turned_by, turned_from, events_in, AreAllTurned}
+use Rattle.lrc_world.specs.Turned.{node_if, node_by, taker, turner, turned_by, turned_from, events_in, AreTurnedFrom}
 use Rattle.lrc_world.proofs.Driven.{led_played}
 use Rattle.lrc_world.proofs.Made.{MadeOrNot, by_taker, turned_more, turned_last}
 use Rattle.lrc_world.proofs.Moments.{refuses_none}
@@ -217,9 +218,19 @@ picked_one Newest world next left welcome room e =
     deliver_one world next left (newest_place (length world.flight)) welcome room (newest_within left (length world.flight) room) e
 picked_one Twice world next left welcome room e = twice_one world next left (is_delivered (slice_get world.flight 0)) welcome room e
 
-module _ (program : Program) (nodes : ℕ) (options : OptionsRecord) where
-  pub welcome_at : (events : List Event) (world : Run) → run_of program nodes options events ≡ Some world → RefusesNone world
-  welcome_at events world runs = refuses_none program nodes options events events [] world (sym (append-nil events)) runs
+pub welcome_at : (program : Program) (nodes : ℕ) (options : OptionsRecord) (events : List Event) (world : Run)
+    → run_of program nodes options events ≡ Some world → RefusesNone world
+welcome_at program nodes options events world runs = refuses_none program nodes options events events [] world (sym (append-nil events)) runs
+
+module _ (program : Program) (nodes : ℕ) (options : OptionsRecord) (given : List Event) (start : Run)
+    (begins_at : run_of program nodes options given ≡ Some start) where
+  -- what follows events that a program's run has made is made by that run too
+  pub run_behind : (events : List Event) (world : Run) → played start events ≡ Some world → run_of program nodes options (given ++ events) ≡ Some world
+  run_behind events world runs =
+      fold-append step_of (Some (fresh_world program nodes options)) given events ∙ ap (λ w. fold step_of w events) begins_at ∙ runs
+
+  welcome_behind : (events : List Event) (world : Run) → played start events ≡ Some world → RefusesNone world
+  welcome_behind events world runs = welcome_at program nodes options (given ++ events) world (run_behind events world runs)
 
   due_turns : (picker : Picker) (world next : Run) (at after : Stage) (event : Event) → RefusesNone world → IsDue picker nodes world at event after
       → Room at world → event_on world event ≡ Some next → ((m : ℕ) × (turner world event ≡ Some m)) × Room after next
@@ -231,22 +242,21 @@ module _ (program : Program) (nodes : ℕ) (options : OptionsRecord) where
   pass_room world at after all_went room = omega arith
   pass_room world at after all_delivered room = tt
 
-  by_rounds : (picker : Picker) (events : List Event) (world : Run) (at : Stage)
-      → Led (schedule_of_rounds picker nodes) (fresh_world program nodes options) events world at
-      → AreAllTurned program nodes options events × Room at world
+  by_rounds : (picker : Picker) (events : List Event) (world : Run) (at : Stage) → Led (schedule_of_rounds picker nodes) start events world at
+      → AreTurnedFrom start events × Room at world
   by_rounds picker events world at starts = (refl, tt)
   by_rounds picker events world at (plays {events = before} {run = now} {at = stood} {after = after} {event = event} led due next) =
       let so_far = by_rounds picker before now stood led in
-      let runs = led_played (schedule_of_rounds picker nodes) (fresh_world program nodes options) before now stood led in
-      let one = due_turns picker now world stood after event (welcome_at before now runs) due so_far.1 next in
-      (unskipped_more (fresh_world program nodes options) now before event one.0.0 runs one.0.1 so_far.0, one.1)
+      let runs = led_played (schedule_of_rounds picker nodes) start before now stood led in
+      let one = due_turns picker now world stood after event (welcome_behind before now runs) due so_far.1 next in
+      (unskipped_more start now before event one.0.0 runs one.0.1 so_far.0, one.1)
   by_rounds picker events world at (passes {at = stood} led on) =
       let so_far = by_rounds picker events world stood led in (so_far.0, pass_room world stood at on so_far.1)
 
-  -- no event of a run in rounds is skipped
-  pub rounds_unskipped : (picker : Picker) (events : List Event) → AreLed (schedule_of_rounds picker nodes) program nodes options events
-      → AreAllTurned program nodes options events
-  rounds_unskipped picker events led = (by_rounds picker events led.0 led.1 led.2).0
+  -- no event in rounds is skipped
+  pub rounds_unskipped : (picker : Picker) (events : List Event) (world : Run) (at : Stage)
+      → Led (schedule_of_rounds picker nodes) start events world at → AreTurnedFrom start events
+  rounds_unskipped picker events world at led = (by_rounds picker events world at led).0
 
 -- ---- a random order
 
@@ -300,18 +310,16 @@ chosen_turns nodes number world next event welcome is e =
     (t.0, ap (turner world) at.2 ∙ t.1))
     (get_both turns deliveries place event is)
 
-module _ (program : Program) (nodes : ℕ) (options : OptionsRecord) (seed : ℕ) where
-  by_wandering : (events : List Event) (world : Run) (at : ℕ) → Led (wandering nodes seed) (fresh_world program nodes options) events world at
-      → AreAllTurned program nodes options events
-  by_wandering events world at starts = refl
-  by_wandering events world at (plays {events = before} {run = now} {at = stood} {event = event} led due next) =
-      let so_far = by_wandering before now stood led in
-      let runs = led_played (wandering nodes seed) (fresh_world program nodes options) before now stood led in
-      let one = chosen_turns nodes (drawn_number at) now world event (welcome_at program nodes options before now runs) due.1 next in
-      unskipped_more (fresh_world program nodes options) now before event one.0 runs one.1 so_far
-  by_wandering events world at (passes led on) = absurd on
-
-  -- no event of a run in a random order is skipped
-  pub wandering_unskipped : (events : List Event) → AreLed (wandering nodes seed) program nodes options events
-      → AreAllTurned program nodes options events
-  wandering_unskipped events led = by_wandering events led.0 led.1 led.2
+module _ (program : Program) (nodes : ℕ) (options : OptionsRecord) (given : List Event) (start : Run)
+    (begins_at : run_of program nodes options given ≡ Some start) (seed : ℕ) where
+  -- no event in a random order is skipped
+  pub wandering_unskipped : (events : List Event) (world : Run) (at : ℕ) → Led (wandering nodes seed) start events world at
+      → AreTurnedFrom start events
+  wandering_unskipped events world at starts = refl
+  wandering_unskipped events world at (plays {events = before} {run = now} {at = stood} {event = event} led due next) =
+      let so_far = wandering_unskipped before now stood led in
+      let runs = led_played (wandering nodes seed) start before now stood led in
+      let one =
+      chosen_turns nodes (drawn_number at) now world event (welcome_behind program nodes options given start begins_at before now runs) due.1 next in
+      unskipped_more start now before event one.0 runs one.1 so_far
+  wandering_unskipped events world at (passes led on) = absurd on

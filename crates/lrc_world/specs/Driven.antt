@@ -1,13 +1,14 @@
 -- What is driven, as its functions say it.
-use Rattle.std.specs.Prelude.{◌≡◌, ◌⊎◌, ◌<◌, ◌≤◌, ℕ, false, [], ◌∷◌, ◌++◌, Result, Ok, Err, OnOk, Some, length}
+use Rattle.std.specs.Prelude.{◌≡◌, ◌⊎◌, ◌<◌, ◌≤◌, ℕ, false, List, [], ◌∷◌, ◌++◌, Result, Ok, Err, OnOk, Some, length}
 use Rattle.lrc_protocol.specs.declared.event.Event.{Event}
 use Rattle.lrc_protocol.specs.Run.{World as Run, event_on}
 use Rattle.lrc_world.specs.declared.report.TurnFault.{TurnFault}
 use Rattle.lrc_world.specs.declared.report.TurnFault.TheVariants.{Worn, NoMemory}
 use Rattle.lrc_world.specs.declared.report.TheConstants.{MOST_EVENTS}
 use Rattle.lrc_world.specs.declared.rounds.Driver.{Driver}
-use Rattle.lrc_world.specs.declared.rounds.Lead.{Lead}
-use Rattle.lrc_world.specs.declared.rounds.Lead.TheVariants.{Rounds, Random}
+use Rattle.lrc_world.specs.declared.lead.Lead.{Lead}
+use Rattle.lrc_world.specs.declared.lead.Lead.TheVariants.{Rounds, Random}
+use Rattle.lrc_world.specs.declared.turned.Turned.{Turned}
 use Rattle.lrc_world.specs.declared.world.World.{World}
 use Rattle.lrc_world.specs.Led.{Schedule, Led, WearsOut}
 use Rattle.lrc_world.specs.Random.{wandering}
@@ -29,25 +30,28 @@ abbrev pub IsRunOver : ℕ → World → Type 0
 IsRunOver nodes world = (starts : Starts) (run : Run) → Shows starts world run → length run.nodes ≡ nodes → IsOver run
 
 -- What is driven stands here, unless it has as many events as there may be: its events are led so from a world on, and its world
--- shows the run after them and has kept the turns that they made.
-pub record DriverStandsAt (schedule : Schedule) (starts : Starts) (start : Run) (at : schedule.Standing) (driver : Driver) : Type 0 where
+-- shows the run after them and has kept the turns that they made, behind earlier ones.
+pub record DriverStandsAt (schedule : Schedule) (starts : Starts) (start : Run) (earlier : List Turned) (at : schedule.Standing) (driver : Driver)
+    : Type 0 where
   pub run : Run
   pub standing : schedule.Standing
   pub led : Led schedule start driver.events.items run standing
   pub shows : Shows starts driver.world run
-  pub turned : driver.world.turned.items ≡ when_all starts.keep (turned_from (Some start) driver.events.items)
+  pub turned : driver.world.turned.items ≡ earlier ++ when_all starts.keep (turned_from (Some start) driver.events.items)
   pub here : (standing ≡ at) ⊎ (MOST_EVENTS ≤ length driver.events.items)
 
 -- what is driven from one standing to another: events are added, of which there are no more than there may be
 pub record IsDrivenOn (schedule : Schedule) (from to : schedule.Standing) (old new : Driver) : Type 0 where
-  pub drives : (starts : Starts) (start : Run) → DriverStandsAt schedule starts start from old → DriverStandsAt schedule starts start to new
+  pub drives : (starts : Starts) (start : Run) (earlier : List Turned) → DriverStandsAt schedule starts start earlier from old
+      → DriverStandsAt schedule starts start earlier to new
   pub few : length old.events.items ≤ MOST_EVENTS → length new.events.items ≤ MOST_EVENTS
   pub more : length old.events.items ≤ length new.events.items
 
 -- the same, or a number or a message was too large, or no memory is left
 abbrev pub DrivesTo : (schedule : Schedule) → schedule.Standing → schedule.Standing → Driver → Driver → Result (Unit {0}) TurnFault → Type 0
 DrivesTo schedule from to old new (Ok done) = IsDrivenOn schedule from to old new
-DrivesTo schedule from to old new (Err Worn) = (starts : Starts) (start : Run) → DriverStandsAt schedule starts start from old → WearsOut schedule start
+DrivesTo schedule from to old new (Err Worn) =
+    (starts : Starts) (start : Run) (earlier : List Turned) → DriverStandsAt schedule starts start earlier from old → WearsOut schedule start
 DrivesTo schedule from to old new (Err NoMemory) = Unit {0}
 
 -- what leads a run of so many nodes in this order

@@ -58,6 +58,10 @@ when_all Newest items = []
 abbrev pub events_in : List Turned → List Event
 events_in turned = map (λ turn. turn.event) turned
 
+-- none of some events, from a world on, is skipped
+abbrev pub AreTurnedFrom : Run → List Event → Type 0
+AreTurnedFrom start events = events_in (turned_from (Some start) events) ≡ events
+
 -- no event of a program's run is skipped
 abbrev pub AreAllTurned : Program → ℕ → OptionsRecord → List Event → Type 0
 AreAllTurned program nodes options events = events_in (turned_of program nodes options events) ≡ events

@@ -8,6 +8,7 @@ pub mod first;
 mod flying;
 pub mod keep;
 pub mod laws;
+pub mod lead;
 pub mod origins;
 mod random;
 pub mod report;

@@ -6,21 +6,13 @@ ghost use Rattle.lrc_world.specs.Random.{wandering};
 ghost use Rattle.lrc_world.specs.Rounds.{at_node, delivering, schedule_of_rounds};
 ghost use Rattle.lrc_envelope.specs.declared.picker.Picker.{Picker as AnyPicker};
 
+use crate::lead::Lead;
 use crate::random::Random;
 use crate::report::{MOST_EVENTS, TurnFault};
 use crate::world::World;
 use lrc_envelope::Picker;
 use lrc_protocol::Event;
 use std::alloc::Global;
-
-/// What chooses the events of a run, if they are not given.
-#[derive(Clone, Copy)]
-pub(crate) enum Lead {
-    /// The run goes in rounds. The picker chooses the messages to deliver.
-    Rounds(Picker),
-    /// The run goes in a random order, from this seed.
-    Random(u64),
-}
 
 /// The world (all nodes and the messages in flight), and the events so far.
 #[derive(Drop)]

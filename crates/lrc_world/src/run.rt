@@ -1,8 +1,8 @@
 // A run of a program, in whichever order it goes on.
 
-ghost use Rattle.std.specs.Prelude.{◌≡◌, ◌↔◌, ℕ, ◌<◌, [], All, IfErr, IfOk, map, true};
+ghost use Rattle.std.specs.Prelude.{◌≡◌, ◌↔◌, ◌<◌, ◌≤◌, ◌++◌, ℕ, [], All, IfErr, IfOk, map, true};
 ghost use Rattle.lrc_exec.specs.Nodes.{AreNodes};
-ghost use Rattle.lrc_judge.specs.declared.TheConstants.{NODES};
+ghost use Rattle.lrc_protocol.specs.Node.{OptionsRecord};
 ghost use Rattle.lrc_protocol.specs.Run.{World as AnyRun, fresh_world, turns_of_logs};
 ghost use Rattle.lrc_race.specs.Races.{AreRacesOf, AreTracesOf};
 ghost use Rattle.lrc_trace.specs.Conflict.{IsRaceFree};
@@ -10,13 +10,14 @@ ghost use Rattle.lrc_world.specs.Driven.{schedule_of};
 ghost use Rattle.lrc_world.specs.Led.{WearsOut};
 ghost use Rattle.lrc_world.specs.Origins.{AreOriginsOf};
 ghost use Rattle.lrc_world.specs.Report.{IsKeptReport, IsOver, IsWornBy, IsWornFault};
-ghost use Rattle.lrc_world.specs.Runs.{AreLedToEnd, IsRun, IsRunBy, IsTurnFault};
+ghost use Rattle.lrc_world.specs.Runs.{AreFollowed, AreLedToEnd, IsRun, IsRunBy, IsTurnFault, ShowsRun, WearsOutBehind};
 ghost use Rattle.lrc_world.specs.World.{Starts, Shows};
 
 use crate::keep::Keep;
+use crate::lead::Lead;
 use crate::origins::{Origins, origins_of};
 use crate::report::{Report, TurnFault};
-use crate::rounds::{Driver, Lead};
+use crate::rounds::Driver;
 use crate::turned::Turned;
 use crate::world::World;
 use lrc_envelope::Picker;
@@ -41,6 +42,8 @@ pub enum Order<'e> {
     /// and then the deliveries of the messages in flight, oldest first. The next SplitMix64 number, modulo the number
     /// of candidates, chooses one.
     Random(u64),
+    /// The order of these events, and then on, led so: the rounds or the random order begin where the events end.
+    Followed(&'e [Event], Lead),
 }
 
 /// A run of a program: its events and their result.
@@ -62,7 +65,7 @@ pub struct Run {
 /// result also has the events that made them, and the turn, the statement and the time of each act.
 ///
 /// In rounds and at random the run goes on while a node is ready or a message is in flight, and there are fewer than
-/// 100,000,000 events.
+/// 100,000,000 events, those that were given left out.
 pub fn run_in(
     alloc: Global,
     program: &Program,
@@ -79,6 +82,9 @@ pub fn run_in(
         Order::Events(events) => by_events(alloc, program, nodes, &options, events, keep),
         Order::Rounds(picker) => led(alloc, program, nodes, &options, Lead::Rounds(picker), keep),
         Order::Random(seed) => led(alloc, program, nodes, &options, Lead::Random(seed), keep),
+        Order::Followed(events, lead) => {
+            followed(alloc, program, nodes, &options, events, lead, keep)
+        }
     }
 }
 
@@ -97,12 +103,9 @@ fn by_events(
     ensures fault { IfErr result (IsWornFault (IsWornBy program.now nodes options.now events.now)) }
 {
     let code = Code::new(alloc, program)?;
-    let mut world = World::new(alloc, &code, nodes, options, keep)?;
-    for event in events {
-        world.play(*event)?;
-    }
+    let world = world_after(alloc, &code, nodes, options, events, keep)?;
     let played = Vec::from_slice(alloc, events)?;
-    let run = run_after(alloc, program, nodes, keep, world, played)?;
+    let run = run_shown(alloc, program, nodes, keep, world, played)?;
     Ok(run)
 }
 
@@ -122,11 +125,84 @@ fn led(
     ensures fault { IfErr result (IsWornFault (WearsOut (schedule_of nodes lead)
         (fresh_world program.now nodes options.now))) }
 {
+    followed(alloc, program, nodes, options, &[], lead, keep)
+}
+
+// The run of these events that is then led so.
+fn followed(
+    alloc: Global,
+    program: &Program,
+    nodes: u8,
+    options: &Options,
+    before: &[Event],
+    lead: Lead,
+    keep: Keep,
+) -> Result<Run, TurnFault>
+    requires { AreNodes nodes }
+    ensures run { IfOk result (IsRunBy (AreFollowed
+        (schedule_of nodes lead) before.now program.now nodes options.now)
+        program.now nodes options.now keep) }
+    ensures fault { IfErr result (IsWornFault (WearsOutBehind
+        (schedule_of nodes lead) before.now program.now nodes options.now)) }
+{
     let code = Code::new(alloc, program)?;
-    let world = World::new(alloc, &code, nodes, options, keep)?;
+    let world = world_after(alloc, &code, nodes, options, before, keep)?;
     let mut driver = Driver::new(alloc, world);
     driver.lead(nodes, lead)?;
     let Driver { world, events } = driver;
+    let played = all_of(alloc, before, events)?;
+    let run = run_shown(alloc, program, nodes, keep, world, played)?;
+    Ok(run)
+}
+
+// The world after these events.
+fn world_after<'c>(
+    alloc: Global,
+    code: &'c Code<'_>,
+    nodes: u8,
+    options: &Options,
+    events: &[Event],
+    keep: Keep,
+) -> Result<World<'c>, TurnFault>
+    requires few { nodes ≤ 16 }
+    ensures shown { IfOk result (ShowsRun keep code.now nodes options.now events.now) }
+    ensures fault { IfErr result (IsWornFault (IsWornBy code.now nodes options.now events.now)) }
+{
+    let mut world = World::new(alloc, code, nodes, options, keep)?;
+    for event in events {
+        world.play(*event)?;
+    }
+    Ok(world)
+}
+
+// The events before and those that follow.
+fn all_of(alloc: Global, before: &[Event], more: Vec<Event>) -> Result<Vec<Event>, AllocError>
+    ensures { IfOk result (λ all. all.items ≡ before.now ++ more.items) }
+{
+    if before.is_empty() {
+        return Ok(more);
+    }
+    let mut all = Vec::from_slice(alloc, before)?;
+    all.extend_from_slice(more.as_slice())?;
+    Ok(all)
+}
+
+// The run of these events, which the world shows.
+fn run_shown(
+    alloc: Global,
+    program: &Program,
+    nodes: u8,
+    keep: Keep,
+    world: World<'_>,
+    events: Vec<Event>,
+) -> Result<Run, AllocError>
+    requires nodes { AreNodes nodes }
+    requires shown { (options : OptionsRecord)
+        × ShowsRun keep program.now nodes options events.items world }
+    ensures { IfOk result (λ run. (options : OptionsRecord)
+        → ShowsRun keep program.now nodes options events.items world.entry
+        → IsRunBy (λ played. played ≡ events.items) program.now nodes options keep run) }
+{
     let run = run_after(alloc, program, nodes, keep, world, events)?;
     Ok(run)
 }

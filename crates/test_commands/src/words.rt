@@ -3,8 +3,8 @@
 use crate::checks::passes;
 use lrc_cli_args::choice::{
     Asking, ChartedActs, Charting, Choice, ChooseFault, Exploring, ForeignActs, Form, Judging,
-    LinePair, Memory, Part, PlainRun, Racing, Request, RunOptions, Shape, Topic, TraceForm, Way,
-    Witnessing,
+    LinePair, Memory, Part, PlainRun, Racing, Request, RunOptions, Shape, Then, Topic, TraceForm,
+    Way, Witnessing,
 };
 use lrc_cli_args::choose;
 use lrc_envelope::Picker;
@@ -54,8 +54,12 @@ pub enum Wanted {
     Run(Run),
     /// Of so many nodes, where it is given, by pairs or not.
     Judge(&'static str, Option<u32>, bool),
+    /// Against the exact memory with pages of this size, from so many intervals on.
+    JudgeExact(&'static str, Size, u32),
     /// With so many nodes and states, by outcomes or not.
     Explore(&'static str, u32, u32, bool, Memory, Option<u32>),
+    /// The file of a program of which it is asked whether every order can end, and whether races are ignored.
+    Ends(&'static str, bool),
     /// The list of commands.
     Commands,
     /// The help of this command.
@@ -76,9 +80,20 @@ fn are_options(made: &RunOptions<'_>, wanted: &Run) -> bool {
 fn is_same_way(made: Way<'_>, wanted: Way<'_>) -> bool {
     match (made, wanted) {
         (Way::Events(made), Way::Events(wanted)) => made == wanted,
+        (Way::Followed(made, next), Way::Followed(wanted, other)) => {
+            made == wanted && is_same_next(next, other)
+        }
         (Way::Rounds(made), Way::Rounds(wanted)) => made == wanted,
         (Way::Threads(made), Way::Threads(wanted)) => made == wanted,
         (Way::Random(made), Way::Random(wanted)) => made == wanted,
+        _ => false,
+    }
+}
+
+fn is_same_next(made: Then, wanted: Then) -> bool {
+    match (made, wanted) {
+        (Then::Rounds(made), Then::Rounds(wanted)) => made == wanted,
+        (Then::Random(made), Then::Random(wanted)) => made == wanted,
         _ => false,
     }
 }
@@ -125,6 +140,13 @@ fn is_plain(made: &PlainRun<'_>, file: &str, nodes: u32, steps: u32) -> bool {
 
 fn is_judging(made: &Judging<'_>, file: &str, nodes: Option<u32>, pairs: bool) -> bool {
     made.file == file && made.nodes.map(|nodes| nodes.count) == nodes && made.pairs == pairs
+}
+
+fn is_exact(made: &Judging<'_>, size: Size, collect: u32) -> bool {
+    match made.memory {
+        Some(memory) => memory.size == size && memory.collect.count == collect,
+        None => false,
+    }
 }
 
 fn is_exploring(made: &Exploring<'_>, nodes: u32, most: u32, outcomes: bool) -> bool {
@@ -191,12 +213,19 @@ fn is_wanted(made: &Choice<'_>, wanted: &Wanted) -> bool {
                 && is_same_shape(*shape, run.shape)
         }
         (Choice::Judge(made), Wanted::Judge(file, nodes, pairs)) => {
-            is_judging(made, file, *nodes, *pairs)
+            is_judging(made, file, *nodes, *pairs) && made.memory.is_none()
+        }
+        (Choice::Judge(made), Wanted::JudgeExact(file, size, collect)) => {
+            is_judging(made, file, None, false) && is_exact(made, *size, *collect)
         }
         (Choice::Explore(made), Wanted::Explore(file, nodes, most, outcomes, memory, tries)) => {
             made.file == *file
                 && is_exploring(made, *nodes, *most, *outcomes)
                 && is_sought(made, *memory, *tries)
+                && !made.ends
+        }
+        (Choice::Explore(made), Wanted::Ends(file, ignores)) => {
+            made.file == *file && made.ends && made.ignores_races == *ignores
         }
         _ => false,
     }
@@ -345,6 +374,28 @@ const CHOICES: &[Row] = &[
             ..OF_THREE
         }),
     ),
+    // What comes behind events.
+    (
+        "sim a.tm --events=e --then newest",
+        Wanted::Run(Run {
+            way: Way::Followed("e", Then::Rounds(Picker::Newest)),
+            ..A_RUN
+        }),
+    ),
+    (
+        "sim a.tm --then random --seed 7 --events e",
+        Wanted::Run(Run {
+            way: Way::Followed("e", Then::Random(7)),
+            ..A_RUN
+        }),
+    ),
+    (
+        "sim a.tm --then=random --events=e",
+        Wanted::Run(Run {
+            way: Way::Followed("e", Then::Random(0)),
+            ..A_RUN
+        }),
+    ),
     // Random orders and traces.
     (
         "sim a.tm --seed=7 --order=random",
@@ -461,6 +512,14 @@ const CHOICES: &[Row] = &[
         "judge a.acts --nodes 3 --pairs",
         Wanted::Judge("a.acts", Some(3), true),
     ),
+    (
+        "judge a.acts --memory exact",
+        Wanted::JudgeExact("a.acts", Size::Words64, 0),
+    ),
+    (
+        "judge a.acts --memory=exact --page=256 --collect=7",
+        Wanted::JudgeExact("a.acts", Size::Words256, 7),
+    ),
     // What is asked of a run or a program.
     (
         "trace a.tm --messages",
@@ -500,6 +559,11 @@ const CHOICES: &[Row] = &[
     (
         "explore a.tm --memory=lazy --outcomes --tries 50",
         Wanted::Explore("a.tm", 1, 1_000_000, true, Memory::Lazy, Some(50)),
+    ),
+    ("explore a.tm --ends", Wanted::Ends("a.tm", false)),
+    (
+        "explore a.tm --ends --ignore-races",
+        Wanted::Ends("a.tm", true),
     ),
     // What is wrong with texts and traces, and why acts are as they are.
     ("lint a.tm", Wanted::Lint("a.tm")),

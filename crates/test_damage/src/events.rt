@@ -69,7 +69,7 @@ fn join(text: &mut Vec<u8>, parts: &[Vec<u8>]) -> Result<(), AllocError> {
 
 /// Adds what a judge says of acts of three nodes, each of line 1, which are this text; and answers whether he says something.
 fn is_judged(alloc: Global, text: &[u8], said: &mut Vec<u8>) -> bool {
-    match judge(alloc, text, Some(3)) {
+    match judge(alloc, text, Some(3), None) {
         Ok(printout) => join(said, &printout.parts).is_ok(),
         Err(_) => false,
     }

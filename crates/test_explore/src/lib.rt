@@ -7,6 +7,8 @@ mod brute;
 #[cfg(test)]
 mod checks;
 #[cfg(test)]
+mod ends;
+#[cfg(test)]
 mod limits;
 #[cfg(test)]
 mod orders;

@@ -237,7 +237,7 @@ fn run_whole(
     match order {
         Order::Rounds(picker) => drive(alloc, program, 3, &options, picker),
         Order::Random(seed) => wander(alloc, program, 3, &options, seed),
-        Order::Events(_) => Err(SimFault::NoMemory),
+        Order::Events(_) | Order::Followed(_, _) => Err(SimFault::NoMemory),
     }
 }
 

@@ -1,15 +1,9 @@
-use Rattle.std.proofs.Common.{◌≡◌, ◌∙◌, Option, ap, codes, inl, inr, is_some, option_map, refl, sym}
-use Rattle.std.specs.Borrow.{Bor}
-use Rattle.clap.specs.Words.{Text, found_of, rows_of}
+use Rattle.std.proofs.Common.{ap, codes, inl, inr, is_some, refl}
+use Rattle.clap.specs.Words.{found_of, rows_of}
 use Rattle.clap.proofs.WalkLemmas.{first_value-rows}
 use Rattle.lrc_cli_args.specs.CommandLine.{HasWhyMisfit}
-use Rattle.lrc_cli_args.proofs.FoundLemmas.{misfit_up}
+use Rattle.lrc_cli_args.proofs.FoundLemmas.{misfit_up, read_is}
 use Rattle.lrc_cli_args.proofs.why.why_choice.Goals as goal
-
--- what a text that was read is among the rows
-read_is : (got : Option (Bor Text)) (value row : Option Text) (was : Option (Bor Text)) → option_map (λ s. s.now) got ≡ value → value ≡ row → got ≡ was
-    → row ≡ option_map (λ s. s.now) was
-read_is got value row was reads is got_is = sym is ∙ sym reads ∙ ap (option_map (λ s. s.now)) got_is
 
 pub run_choice-requires : goal.run_choice-requires
 run_choice-requires c =

@@ -13,7 +13,8 @@ returns-clause-app c =
     let five = c.taking-command-5.ensures.app _ _ c.flag_option.ensures.local c.flag_option.ensures.rule four in
     let six = c.taking-command-6.ensures.app _ _ c.bare_number.ensures.local c.bare_number.ensures.rule five in
     let seven = c.taking-command-7.ensures.app _ _ c.bare_number-2.ensures.local c.bare_number-2.ensures.rule six in
-    c.taking.ensures.app _ _ c.flag_option-2.ensures.local c.flag_option-2.ensures.rule seven
+    let eight = c.taking-command-8.ensures.app _ _ c.flag_option-2.ensures.local c.flag_option-2.ensures.rule seven in
+    c.taking.ensures.app _ _ c.flag_option-3.ensures.local c.flag_option-3.ensures.rule eight
 
 pub returns-clause-local : goal.returns-clause-local
 returns-clause-local c =
@@ -25,4 +26,5 @@ returns-clause-local c =
     let five = c.taking-command-5.ensures.local c.flag_option.ensures.local four in
     let six = c.taking-command-6.ensures.local c.bare_number.ensures.local five in
     let seven = c.taking-command-7.ensures.local c.bare_number-2.ensures.local six in
-    c.taking.ensures.local c.flag_option-2.ensures.local seven
+    let eight = c.taking-command-8.ensures.local c.flag_option-2.ensures.local seven in
+    c.taking.ensures.local c.flag_option-3.ensures.local eight

@@ -3,7 +3,7 @@ use Rattle.lrc_trace.specs.declared.act.Act.{Act}
 use Rattle.lrc_text.specs.Parts.{whole_text}
 use Rattle.lrc_acts.specs.declared.reading.ActsFault.TheVariants.{NoMemory}
 use Rattle.lrc_judge_text.specs.Judgement.{CountsNodes, MayRunOut}
-use Rattle.lrc_judge_text.proofs.Within.{acts_ranged, as_many, fault_up}
+use Rattle.lrc_judge_text.proofs.Within.{acts_below, acts_ranged, as_many, fault_up}
 use Rattle.lrc_judge_all.specs.JudgesAll.{IsWholeJudgement}
 use Rattle.lrc_judge_all.proofs.judge.judge_all.Goals as goal
 
@@ -14,6 +14,13 @@ nodes_of-count-requires-clause-acts c =
 pub judgement-requires-clause-acts : goal.judgement-requires-clause-acts
 judgement-requires-clause-acts c =
     subst (λ (acts : List Act). All (λ act. act.node < 16) acts) (sym c.deref-2.ensures.value) (acts_ranged c.in_ok-lined.ensures.ok.1)
+
+pub judgement-requires-clause-below : goal.judgement-requires-clause-below
+judgement-requires-clause-below c =
+    let count = c.nodes_of-count.result in
+    let counted = subst (λ (acts : List Act). CountsNodes c.args.nodes acts count) c.deref.ensures.value c.nodes_of-count.ensures.nodes in
+    subst (λ (acts : List Act). All (λ act. act.node < count) acts) (sym c.deref-2.ensures.value)
+    (acts_below c.args.nodes count c.in_ok-lined.ensures.ok.1 counted)
 
 pub judgement-requires-clause-lines : goal.judgement-requires-clause-lines
 judgement-requires-clause-lines c =
@@ -31,8 +38,8 @@ returns-clause-ok c =
       count = count;
       says = c.in_ok-lined.ensures.ok;
       counted = subst (λ (acts : List Act). CountsNodes c.args.nodes acts count) c.deref.ensures.value c.nodes_of-count.ensures.nodes;
-      judgement = subst (λ (acts : List Act). IsWholeJudgement count acts lined.lines.items c.args.pairs out status) c.deref-2.ensures.value
-          (subst (λ (lines : List ℕ). IsWholeJudgement count c.deref-2.result.now lines c.args.pairs out status) c.deref-3.ensures.value
+      judgement = subst (λ (acts : List Act). IsWholeJudgement count c.args.memory acts lined.lines.items c.args.pairs out status) c.deref-2.ensures.value
+          (subst (λ (lines : List ℕ). IsWholeJudgement count c.args.memory c.deref-2.result.now lines c.args.pairs out status) c.deref-3.ensures.value
           c.in_ok-printout.ensures);
     }
 

@@ -3,7 +3,7 @@ use Rattle.lrc_judge_all.proofs.judge.judgement.Goals as goal
 pub returns : goal.returns
 returns c = record {
   holds = c.in_ok-head.head.synchronized;
-  reads = c.in_ok-head.head.lazy;
+  reads = c.in_ok-head.head.reads;
   head = c.in_ok-head.head.text.items;
   races = c.in_ok-races.races.items;
   race = c.in_ok-first.first;

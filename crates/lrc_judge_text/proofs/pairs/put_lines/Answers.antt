@@ -1,4 +1,4 @@
-use Rattle.std.proofs.Common.{◌≡◌, ◌∙◌, ◌+◌, ◌++◌, ℕ, List, ap, drop, subst, sym}
+use Rattle.std.proofs.Common.{◌≡◌, ◌∙◌, ◌+◌, ◌++◌, ℕ, List, drop, subst, sym}
 use Rattle.lrc_judge.specs.declared.lanes.Pair.{Pair}
 use Rattle.lrc_acts.specs.JudgeLines.{pair_line}
 use Rattle.lrc_report.proofs.WriteLemmas.{IsUnderWay, on_err, way_front, way_part, way_stops}

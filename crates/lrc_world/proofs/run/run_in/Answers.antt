@@ -45,3 +45,11 @@ returns-in-Random-clause-run c =
 pub returns-in-Random-clause-fault : goal.returns-in-Random-clause-fault
 returns-in-Random-clause-fault c =
     moved (Fails c.args.program.now c.args.keep c.led-in-Random.result) c.number-nodes.ensures c.options_of-options.ensures c.in-Random.is c.led-in-Random.ensures.fault
+
+pub returns-in-Followed-clause-run : goal.returns-in-Followed-clause-run
+returns-in-Followed-clause-run c =
+    moved (Runs c.args.program.now c.args.keep c.followed.result) c.number-nodes.ensures c.options_of-options.ensures c.in-Followed.is c.followed.ensures.run
+
+pub returns-in-Followed-clause-fault : goal.returns-in-Followed-clause-fault
+returns-in-Followed-clause-fault c =
+    moved (Fails c.args.program.now c.args.keep c.followed.result) c.number-nodes.ensures c.options_of-options.ensures c.in-Followed.is c.followed.ensures.fault

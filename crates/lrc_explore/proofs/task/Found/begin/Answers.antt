@@ -1,5 +1,6 @@
-use Rattle.std.proofs.Common.{subst, sym, ap, ◌∙◌}
+use Rattle.std.proofs.Common.{subst, sym, ap, ◌∙◌, arith}
 use Rattle.lrc_orders.specs.Traps.{has_trap}
+use Rattle.lrc_orders_table.proofs.RowLaws.{row_within}
 use Rattle.lrc_explore.specs.Reached.{IsKeyOf, SettlesStart}
 use Rattle.lrc_explore.specs.Traps.{ShowsStartTrap}
 use Rattle.lrc_explore.proofs.Keys.{start_first, start_reached, has_start}
@@ -38,6 +39,13 @@ returns-clause-start c =
     let s = subst (λ l. SettlesStart task l acts state) c.new-acts.ensures.items c.in_ok-state.ensures.start in
     let k = subst (λ l. IsKeyOf task state l key) c.deref-2.ensures.value c.in_ok-key.ensures in
     has_start task state acts key s k c.add.new.self.table.rows c.in_ok-add.ensures.has
+
+pub returns-clause-some : goal.returns-clause-some
+returns-clause-some c =
+    let has = c.in_ok-add.ensures.has in
+    let all = c.add.new.self.table.rows in
+    let within = row_within all has.0 c.in_ok-key.key has.1 in
+    omega (arith, within)
 
 pub returns-clause-traps : goal.returns-clause-traps
 returns-clause-traps c =

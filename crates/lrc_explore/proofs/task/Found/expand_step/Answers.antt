@@ -20,11 +20,11 @@ returns-clause-after c =
     let all = c.row_after.new.self.table.rows in
     let P : Option Led → Type 0 = λ o. MatchOption o (CannotTakeAt task all c.args.place c.args.step) (λ led. LeadsTo task all c.args.place c.args.step led.row) in
     let n = subst P c.in-Some.is c.in_ok-led.ensures.taken in
-    let e = c.in_ok-put.ensures in
+    let e = c.in_ok-_place.ensures in
     has_after task all c.put.new.self.table.rows c.args.place c.args.step n.key n.from e.more.rows (e.has n.key n.stands)
 
 pub returns-clause-more : goal.returns-clause-more
-returns-clause-more c = more_again c.in_ok-led.ensures.more c.in_ok-put.ensures.more
+returns-clause-more c = more_again c.in_ok-led.ensures.more c.in_ok-_place.ensures.more
 
 pub returns-in_default-clause-traps : goal.returns-in_default-clause-traps
 returns-in_default-clause-traps c =
@@ -38,5 +38,5 @@ returns-clause-traps c =
     let mid = c.row_after.new.self in
     let e = c.in_ok-led.ensures in
     let P : Option Led → Type 0 = λ o. ShowsTrapAt task mid.table.rows place c.args.step (led_traps o) in
-    trap_grown task mid.table.rows c.put.new.self.table.rows place c.args.step c.in-Some.led.traps c.in_ok-put.ensures.more.rows
+    trap_grown task mid.table.rows c.put.new.self.table.rows place c.args.step c.in-Some.led.traps c.in_ok-_place.ensures.more.rows
     (e.found.reached.full place (within_more task c.args.self.now mid place c.requires.found e.more c.requires.within)) (subst P c.in-Some.is e.traps)

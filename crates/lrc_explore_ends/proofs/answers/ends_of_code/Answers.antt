@@ -1,0 +1,29 @@
+use Rattle.std.proofs.Common.{ℕ, false, subst}
+use Rattle.std.specs.Prelude.{IfOk}
+use Rattle.lrc_lang.specs.declared.program.Program.{Program}
+use Rattle.lrc_orders.proofs.Faults.{fault_says}
+use Rattle.lrc_explore.specs.Answers.{FitsSettled}
+use Rattle.lrc_explore.proofs.Answering.{fault_of_task}
+use Rattle.lrc_explore_ends.specs.Answers.{GoesThrough, IsEndAnswer}
+use Rattle.lrc_explore_ends.proofs.answers.ends_of_code.Goals as goal
+
+pub returns-clause-faults : goal.returns-clause-faults
+returns-clause-faults c =
+    let t = c.in_ok-task.ensures in
+    fault_says c.search.result
+    (λ fault is. fault_of_task c.in_ok-task.task c.args.code.now c.args.nodes c.args.most false fault t.task t.program t.flat t.most t.looked t.noting is)
+    c.search.ensures.faults
+
+pub returns-clause-answer : goal.returns-clause-answer
+returns-clause-answer c =
+    let t = c.in_ok-task.ensures in
+    subst (λ (p : Program). IfOk c.search.result (IsEndAnswer p c.args.nodes c.args.races)) t.program
+    (subst (λ (n : ℕ). IfOk c.search.result (IsEndAnswer c.in_ok-task.task.program.now n c.args.races)) t.nodes c.search.ensures.answer)
+
+pub returns-clause-fits : goal.returns-clause-fits
+returns-clause-fits c =
+    let t = c.in_ok-task.ensures in
+    let task = c.in_ok-task.task in
+    let P : Program → ℕ → ℕ → Type 0 = λ p n m. IfOk c.search.result (λ verdict. GoesThrough verdict → FitsSettled p n m) in
+    subst (λ p. P p c.args.nodes c.args.most) t.program
+    (subst (λ n. P task.program.now n c.args.most) t.nodes (subst (P task.program.now task.flat.nodes) t.most c.search.ensures.fits))

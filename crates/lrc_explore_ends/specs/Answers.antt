@@ -1,0 +1,24 @@
+-- What is answered where it is asked whether every order can end.
+use Rattle.std.specs.Prelude.{◌≡◌, ℕ, Bool, true, option_map}
+use Rattle.lrc_lang.specs.declared.program.Program.{Program}
+use Rattle.lrc_consistency_laws.specs.Racing.{HasNoRace}
+use Rattle.lrc_orders.specs.Verdict.{AreFindings, EndsInRace}
+use Rattle.lrc_orders_ends.specs.Ends.{TellsEnd}
+use Rattle.lrc_explore_ends.specs.declared.answers.EndFindings.{EndFindings}
+use Rattle.lrc_explore_ends.specs.declared.answers.EndVerdict.{EndVerdict}
+use Rattle.lrc_explore_ends.specs.declared.answers.EndVerdict.TheVariants.{Through, Racy}
+
+-- what is found of stuck orders, of traps and of ends is so
+pub record AreEndFindings (program : Program) (nodes : ℕ) (found : EndFindings) : Type 0 where
+  pub besides : AreFindings program nodes found.besides
+  pub end : TellsEnd program nodes (option_map (λ order. order.items) found.lost)
+
+-- no order races, if that is looked for, and what is found besides is so. Or the last two acts of the order race
+abbrev pub IsEndAnswer : Program → (nodes : ℕ) → (races : Bool) → EndVerdict → Type 0
+IsEndAnswer program nodes races (Through found) = (races ≡ true → HasNoRace program nodes) × AreEndFindings program nodes found
+IsEndAnswer program nodes races (Racy order) = (races ≡ true) × EndsInRace program nodes order.items
+
+-- the search met all states
+abbrev pub GoesThrough : EndVerdict → Type 0
+GoesThrough (Through found) = Unit {0}
+GoesThrough (Racy order) = ⊥

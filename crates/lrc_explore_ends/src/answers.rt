@@ -1,0 +1,134 @@
+// What is answered of a program, where it is asked whether every order can end.
+
+ghost use Rattle.std.specs.Prelude.{◌≡◌, ◌≢◌, ◌<◌, ◌≤◌, ◌↔◌, IfErr, IfOk, Err, true, false};
+ghost use Rattle.lrc_exec.specs.Nodes.{AreNodes};
+ghost use Rattle.lrc_orders_table.specs.Rows.{row_count};
+ghost use Rattle.lrc_explore.specs.Answers.{AreAllExpanded, FitsSettled, IsEnd, IsFault, IsFaultOf, IsThrough, MetTooMany};
+ghost use Rattle.lrc_explore.specs.Reached.{AreFound, IsTask};
+ghost use Rattle.lrc_explore.specs.declared.task.End.TheVariants.{Meeting};
+ghost use Rattle.lrc_explore_ends.specs.Answers.{GoesThrough, IsEndAnswer};
+
+use crate::lost::lost_order;
+use lrc_exec::code::Code;
+use lrc_explore::answers::{count_of, task_of};
+use lrc_explore::task::{End, Found, Task, Trapping};
+use lrc_lang::program::Program;
+use lrc_orders::search::{ExploreFault, Findings, Verdict};
+use std::alloc::Global;
+
+/// What the search found of the orders of a program, besides races, where it was asked whether every order can end.
+#[derive(Drop)]
+pub struct EndFindings {
+    /// What it found of stuck orders and of traps.
+    pub besides: Findings,
+    /// An order that can no longer end, or none if every order can.
+    pub lost: Option<Vec<usize>>,
+}
+
+/// What the search found.
+#[derive(Drop)]
+pub enum EndVerdict {
+    /// No order races, if that was looked for. These are the findings besides.
+    Through(EndFindings),
+    /// The last two acts of the order given race.
+    Racy { order: Vec<usize> },
+}
+
+/// Searches the settled states of a program on this many nodes. It tells whether an order races, if `races` is true, and
+/// if none does, whether one gets stuck, whether a node traps in one, and whether every order can end. It fails as
+/// `explore` does.
+pub fn explore_ends(
+    alloc: Global,
+    program: &Program,
+    nodes: u32,
+    most: usize,
+    races: bool,
+) -> Result<EndVerdict, ExploreFault>
+    ensures answer { IfOk result (IsEndAnswer program.now nodes races) }
+    ensures fits { IfOk result (λ verdict. GoesThrough verdict
+        → FitsSettled program.now nodes most) }
+    ensures bad_nodes { (result ≡ Err ExploreFault.BadNodes) ↔ (¬ AreNodes nodes) }
+    ensures too_many { IfErr result (λ fault. fault ≡ ExploreFault.TooMany
+        → MetTooMany program.now nodes most false) }
+{
+    let count = count_of(nodes)?;
+    let code = Code::new(alloc, program)?;
+    ends_of_code(alloc, &code, count, most, races)
+}
+
+// The same of a program's flat code.
+fn ends_of_code(
+    alloc: Global,
+    code: &Code<'_>,
+    nodes: u8,
+    most: usize,
+    races: bool,
+) -> Result<EndVerdict, ExploreFault>
+    ensures answer { IfOk result (IsEndAnswer code.now nodes races) }
+    ensures fits { IfOk result (λ verdict. GoesThrough verdict
+        → FitsSettled code.now nodes most) }
+    ensures faults { IfErr result (IsFaultOf code.now nodes most false) }
+{
+    let task = task_of(alloc, code, nodes, most, false)?;
+    search(alloc, &task, races)
+}
+
+// From the settled start on: what is answered.
+fn search(alloc: Global, task: &Task<'_>, races: bool) -> Result<EndVerdict, ExploreFault>
+    requires { IsTask task.now }
+    ensures answer { IfOk result (IsEndAnswer task.now.program.now task.now.flat.nodes races) }
+    ensures fits { IfOk result (λ verdict. GoesThrough verdict
+        → FitsSettled task.now.program.now task.now.flat.nodes task.now.most) }
+    ensures faults { IfErr result (IsFault task.now) }
+{
+    let mut found = Found::none(alloc, task.flat.nodes as usize);
+    let traps = found.begin(alloc, task)?;
+    let end = found.seek(alloc, task, races, traps)?;
+    match end {
+        End::Meeting { place, p, q } => race_of(alloc, task, &found, place, p, q),
+        End::Through { stuck, trap } => through(alloc, task, found, stuck, trap),
+    }
+}
+
+// An order that races.
+fn race_of(
+    alloc: Global,
+    task: &Task<'_>,
+    found: &Found,
+    place: usize,
+    p: usize,
+    q: usize,
+) -> Result<EndVerdict, ExploreFault>
+    requires task { IsTask task.now }
+    requires found { AreFound task.now found.now }
+    requires meeting { IsEnd task.now found.now true (Meeting place p q) }
+    ensures answer { IfOk result (IsEndAnswer task.now.program.now task.now.flat.nodes true) }
+    ensures racy { IfOk result (λ verdict. ¬ GoesThrough verdict) }
+    ensures faults { IfErr result (IsFault task.now) }
+{
+    match found.race_told(alloc, task, place, p, q)? {
+        Verdict::Racy { order } => Ok(EndVerdict::Racy { order }),
+        Verdict::RaceFree(_) => unreachable!(),
+    }
+}
+
+// What was found besides races, past all states.
+fn through(
+    alloc: Global,
+    task: &Task<'_>,
+    found: Found,
+    stuck: Option<usize>,
+    trap: Option<Trapping>,
+) -> Result<EndVerdict, ExploreFault>
+    requires task { IsTask task.now }
+    requires found { AreFound task.now found }
+    requires all { AreAllExpanded task.now found }
+    requires through { IsThrough task.now found false stuck trap }
+    requires some { 0 < row_count found.table.rows }
+    ensures answer { IfOk result (IsEndAnswer task.now.program.now task.now.flat.nodes false) }
+    ensures faults { IfErr result (IsFault task.now) }
+{
+    let besides = found.findings_told(alloc, task, stuck, trap)?;
+    let lost = lost_order(alloc, task, found)?;
+    Ok(EndVerdict::Through(EndFindings { besides, lost }))
+}

@@ -1,0 +1,184 @@
+// Whether every order of a program can end, as it is printed.
+
+ghost use Rattle.std.specs.Prelude.{◌≡◌, ◌≢◌, ◌++◌, false, IfErr, IfOk, map, option_map};
+ghost use Rattle.lrc_labels.specs.Reading.{label_seen};
+ghost use Rattle.lrc_text.specs.Parts.{whole_text};
+ghost use Rattle.lrc_exec.specs.Nodes.{AreNodes};
+ghost use Rattle.lrc_explore.specs.Answers.{FitsSettled, MetTooMany};
+ghost use Rattle.lrc_explore_ends.specs.Answers.{GoesThrough, IsEndAnswer};
+ghost use Rattle.lrc_explore_ends.specs.declared.answers.EndVerdict.TheVariants.{Through};
+ghost use Rattle.lrc_explore_text.specs.Ends.{SaysEnds, TellsEnds, ends_status, first_line};
+ghost use Rattle.lrc_explore_text.specs.Sections.{section_text};
+ghost use Rattle.lrc_orders_ends.specs.Ends.{CannotEnd, EveryOrderCanEnd, TellsEnd};
+
+use crate::explored::Printout;
+use crate::orders::{Section, acts_of, acts_told, ends_told, found_told, line_alone, race_told};
+use lrc_explore_ends::answers::{EndFindings, EndVerdict, explore_ends};
+use lrc_labels::label::Label;
+use lrc_lang::program::Program;
+use lrc_orders::search::ExploreFault;
+use std::alloc::{AllocError, Global};
+
+/// Searches every order in which `nodes` nodes can run a program, and returns what is printed: whether an order races, if
+/// `races` is true, and if none does, whether one gets stuck, whether a node traps in one, and whether every order can
+/// end. The lines of nodes have the labels of words and locks. Fails as `explored` does.
+pub fn explored_ends(
+    alloc: Global,
+    labels: &[Label<'_>],
+    program: &Program,
+    lines: &[u32],
+    nodes: u32,
+    most: usize,
+    races: bool,
+) -> Result<Printout, ExploreFault>
+    requires { AreNodes nodes }
+    ensures ok { IfOk result (λ printout.
+        TellsEnds (map label_seen labels.now) program.now nodes lines.now races
+        (whole_text printout.parts.items) printout.status) }
+    ensures fits { IfOk result (λ printout. printout.status ≢ 3
+        → FitsSettled program.now nodes most) }
+    ensures nodes { IfErr result (λ fault. fault ≢ ExploreFault.BadNodes) }
+    ensures too_many { IfErr result (λ fault. fault ≡ ExploreFault.TooMany
+        → MetTooMany program.now nodes most false) }
+{
+    let verdict = explore_ends(alloc, program, nodes, most, races)?;
+    let printout = answer_told(alloc, labels, program, lines, nodes as u8, races, &verdict)?;
+    Ok(printout)
+}
+
+fn answer_told(
+    alloc: Global,
+    labels: &[Label<'_>],
+    program: &Program,
+    lines: &[u32],
+    nodes: u8,
+    races: bool,
+    verdict: &EndVerdict,
+) -> Result<Printout, AllocError>
+    requires nodes { AreNodes nodes }
+    requires verdict { IsEndAnswer program.now nodes races verdict.now }
+    ensures ok { IfOk result (λ printout.
+        TellsEnds (map label_seen labels.now) program.now nodes lines.now races
+        (whole_text printout.parts.items) printout.status) }
+    ensures free { IfOk result (λ printout. printout.status ≢ 3 → GoesThrough verdict.now) }
+{
+    match verdict {
+        EndVerdict::Through(found) => {
+            through_told(alloc, labels, program, lines, nodes, races, found)
+        }
+        EndVerdict::Racy { order } => race_told(alloc, labels, program, lines, nodes, order),
+    }
+}
+
+// What was found besides races.
+fn through_told(
+    alloc: Global,
+    labels: &[Label<'_>],
+    program: &Program,
+    lines: &[u32],
+    nodes: u8,
+    races: bool,
+    found: &EndFindings,
+) -> Result<Printout, AllocError>
+    requires nodes { AreNodes nodes }
+    requires found { IsEndAnswer program.now nodes races (Through found.now) }
+    ensures { IfOk result (λ printout.
+        TellsEnds (map label_seen labels.now) program.now nodes lines.now races
+        (whole_text printout.parts.items) printout.status) }
+{
+    let head = first_line(races);
+    let besides = found_told(alloc, head, labels, program, lines, nodes, &found.besides)?;
+    let ends = end_section(alloc, labels, program, lines, nodes, &found.lost)?;
+    joined(besides, ends)
+}
+
+// The first line, where races are looked for and none is found.
+fn first_line(races: bool) -> &'static [u8]
+    ensures { result.now ≡ first_line races }
+{
+    if races {
+        b"race free in every order\n"
+    } else {
+        b""
+    }
+}
+
+// A text with a section behind it.
+fn joined(before: Printout, section: Section) -> Result<Printout, AllocError>
+    ensures text { IfOk result (λ printout. whole_text printout.parts.items
+        ≡ whole_text before.parts.items ++ section_text section) }
+    ensures status { IfOk result (λ printout. printout.status
+        ≡ ends_status before.status section.told) }
+{
+    let status = if section.told { 4 } else { before.status };
+    let mut parts = before.parts;
+    parts.push(section.head)?;
+    parts.push(section.acts)?;
+    parts.push(section.ends)?;
+    Ok(Printout { parts, status })
+}
+
+// What is said of ends.
+fn end_section(
+    alloc: Global,
+    labels: &[Label<'_>],
+    program: &Program,
+    lines: &[u32],
+    nodes: u8,
+    lost: &Option<Vec<usize>>,
+) -> Result<Section, AllocError>
+    requires nodes { AreNodes nodes }
+    requires lost { TellsEnd program.now nodes (option_map (λ order. order.items) lost.now) }
+    ensures { IfOk result (λ section. SaysEnds (map label_seen labels.now) program.now nodes
+        lines.now section.told (section_text section)) }
+{
+    match lost {
+        None => all_end(alloc, labels, program, lines, nodes),
+        Some(order) => lost_told(alloc, labels, program, lines, nodes, order),
+    }
+}
+
+// That every order can end.
+fn all_end(
+    alloc: Global,
+    labels: &[Label<'_>],
+    program: &Program,
+    lines: &[u32],
+    nodes: u8,
+) -> Result<Section, AllocError>
+    requires { EveryOrderCanEnd program.now nodes }
+    ensures { IfOk result (λ section. SaysEnds (map label_seen labels.now) program.now nodes
+        lines.now section.told (section_text section)) }
+{
+    // For the proof: the lines are in range, and the labels are those of the others.
+    let _lines = lines;
+    let _labels = labels;
+    let section = line_alone(alloc, b"every order can end\n")?;
+    Ok(section)
+}
+
+// An order that can no longer end, and where it leaves the nodes.
+fn lost_told(
+    alloc: Global,
+    labels: &[Label<'_>],
+    program: &Program,
+    lines: &[u32],
+    nodes: u8,
+    order: &[usize],
+) -> Result<Section, AllocError>
+    requires nodes { AreNodes nodes }
+    requires lost { CannotEnd program.now nodes order.now }
+    ensures { IfOk result (λ section. SaysEnds (map label_seen labels.now) program.now nodes
+        lines.now section.told (section_text section)) }
+{
+    let made = acts_of(alloc, program, nodes, order)?;
+    let head = Vec::from_slice(alloc, b"some order can no longer end:\n")?;
+    let acts = acts_told(alloc, program, lines, nodes, &made)?;
+    let ends = ends_told(alloc, labels, program, lines, nodes, &made)?;
+    Ok(Section {
+        told: true,
+        head,
+        acts,
+        ends,
+    })
+}

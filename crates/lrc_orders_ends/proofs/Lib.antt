@@ -1,0 +1,3 @@
+pub mod Steadily
+pub mod Behind
+pub mod Ending
