@@ -109,6 +109,7 @@ complete -c treadmarks -n '__fish_seen_subcommand_from judge' -l collect -r -f -
 complete -c treadmarks -n '__fish_seen_subcommand_from races' -l as -r -f -a 'std acts' -d 'the form'
 complete -c treadmarks -n '__fish_seen_subcommand_from races' -l group -d 'group races by their locations'
 complete -c treadmarks -n '__fish_seen_subcommand_from races' -l sure -d 'only sure races'
+complete -c treadmarks -n '__fish_seen_subcommand_from races' -l json -d 'print objects'
 complete -c treadmarks -n '__fish_seen_subcommand_from races' -l witness -r -f -d 'show a sure race'
 complete -c treadmarks -n '__fish_seen_subcommand_from explore' -l nodes -r -f -d 'how many nodes'
 complete -c treadmarks -n '__fish_seen_subcommand_from explore' -l most -r -f -d 'how many states the search may meet'

@@ -305,10 +305,13 @@ races_keyed = (
       (
         record { own = refl; acts = inr (inl (refl, lit< tt)) },
         (
-          record { own = refl; acts = inl (refl, lit< tt) },
+          record { own = refl; acts = inr (inl (refl, lit< tt)) },
           (
-            record { own = refl; acts = inr (inr refl) },
-            tt,
+            record { own = refl; acts = inl (refl, lit< tt) },
+            (
+              record { own = refl; acts = inr (inr refl) },
+              tt,
+            ),
           ),
         ),
       ),
@@ -539,6 +542,7 @@ races_taken words none =
       form = level.there (filled trace_form) refl (lit< tt);
       group = flag_taken races_built rows level (codes "group") refl;
       sure = flag_taken races_built rows level (codes "sure") refl;
+      json = flag_taken races_built rows level (codes "json") refl;
     }
 
 why_taken : (words : List Text) → level_fault why_built [] nothing_held words false [] ≡ [] → IsWhyTaken (rows_after why_built.rules [] words)

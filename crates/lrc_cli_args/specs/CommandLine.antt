@@ -198,6 +198,7 @@ pub record IsRacing (rows : List Row) (racing : Racing) : Type 0 where
   pub form : IsTraceForm (first_of (codes "as") rows) racing.form
   pub group : IsFlag (codes "group") racing.group rows
   pub sure : IsFlag (codes "sure") racing.sure rows
+  pub json : IsFlag (codes "json") racing.json rows
   pub plainly : witness_in rows ≡ None
 
 -- Of which two lines it is asked whether they are a sure race. The trace may be read twice, so it is a file.

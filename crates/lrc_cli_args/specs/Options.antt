@@ -172,6 +172,7 @@ pub record IsRacesTaken (rows : List Row) : Type 0 where
   pub form : HasValue (codes "as") rows
   pub group : IsFlagOption (codes "group") rows
   pub sure : IsFlagOption (codes "sure") rows
+  pub json : IsFlagOption (codes "json") rows
 
 -- of `why`: a FILE need not be there
 pub record IsWhyTaken (rows : List Row) : Type 0 where
@@ -456,14 +457,15 @@ HasExactMisfit rows misfit =
     ⊎ ((misfit ≡ unfit.Number) × (first_of (codes "memory") rows ≡ Some (codes "exact"))
     × ((size : Size) × IsPageSize (first_of (codes "page") rows) size) × IsOutOfRange 0 1000000 (collect_in rows))
 
--- neither groups nor the sure races alone are asked for
+-- neither groups, nor the sure races alone, nor objects are asked for
 abbrev pub IsAlone : List Row → Type 0
-IsAlone rows = IsFlag (codes "group") false rows × IsFlag (codes "sure") false rows
+IsAlone rows = IsFlag (codes "group") false rows × IsFlag (codes "sure") false rows × IsFlag (codes "json") false rows
 
 -- where a sure race is to be shown: options that do not stand beside that, or a trace that cannot be read twice; then what are no two lines
 abbrev pub HasWitnessMisfit : List Row → Misfit → List Text → Type 0
 HasWitnessMisfit rows misfit texts =
-    ((misfit ≡ unfit.Witness) × (IsFlag (codes "group") true rows ⊎ IsFlag (codes "sure") true rows ⊎ (first_of (codes "FILE") rows ≡ Some (codes "-"))))
+    ((misfit ≡ unfit.Witness) × (IsFlag (codes "group") true rows ⊎ IsFlag (codes "sure") true rows ⊎ IsFlag (codes "json") true rows
+    ⊎ (first_of (codes "FILE") rows ≡ Some (codes "-"))))
     ⊎ ((misfit ≡ unfit.Lines) × ((lines : LinePair) → ¬ AreLines texts lines))
 
 -- of `races`: no form has the word of the option; then what does not fit where a sure race is to be shown

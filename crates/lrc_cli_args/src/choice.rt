@@ -236,6 +236,8 @@ pub struct Racing<'w> {
     pub group: bool,
     /// Whether only the sure races are reported: those that another trace of the same program shows, too.
     pub sure: bool,
+    /// Whether each line is a JSON object.
+    pub json: bool,
 }
 
 /// The numbers of two lines of a trace, counted from 1, the lesser one first.

@@ -65,7 +65,7 @@ const BAD_LINES: &str =
     "invalid value for '--witness <I> <J>': they are the numbers of two lines, from 1 on, the lesser one first";
 
 const BAD_WITNESS: &str =
-    "the argument '--witness <I> <J>' cannot be used with '--group' or '--sure', or where FILE is '-'";
+    "the argument '--witness <I> <J>' cannot be used with '--group', '--sure' or '--json', or where FILE is '-'";
 
 const SAME_ACT: &str = "the argument '--and <Q>' cannot be the act of '--act <P>'";
 

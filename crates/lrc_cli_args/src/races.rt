@@ -28,6 +28,7 @@ pub(crate) fn races_request<'w>(options: &ArgMatches<'w>) -> Result<Request<'w>,
         form,
         group: is_named(options, "group"),
         sure: is_named(options, "sure"),
+        json: is_named(options, "json"),
     }))
 }
 
@@ -46,7 +47,11 @@ fn witnessing<'w>(
         (map (λ text. text.now) lines.now)) }
 {
     let file = text_of(options, "FILE");
-    if is_named(options, "group") || is_named(options, "sure") || file == "-" {
+    if is_named(options, "group")
+        || is_named(options, "sure")
+        || is_named(options, "json")
+        || file == "-"
+    {
         return Err(Misfit::Witness);
     }
     match line_pair(lines) {

@@ -125,8 +125,27 @@ const GROUP_HELP: &str =
 const SURE_HELP: &str =
     "Tells only the sure races: those of which another trace of the same program shows the two accesses side by side";
 
+const JSON_HELP: &str = "Prints each line as a JSON object";
+
+// What the help of `races` says of traces.
+const TRACE_NOTES: &str = "Operations:
+  r(X), w(X)             read or write the variable X
+  acq(L), rel(L)         acquire or release the lock L
+  post(L), wait(L)       order as rel and acq of L do, and hold nothing
+  fork(T), join(T)       start the thread T, or wait for its end
+  arrive(B), depart(B)   come to the barrier B, or leave it
+  begin, end, enter, exit, req, branch
+                         do nothing
+
+What orders, of two events the earlier before the later:
+  both are of one thread
+  a rel or post, and an acq or wait of the same lock
+  a fork of the later one's thread; a join of the earlier one's thread; a fork and a join of one thread
+  an arrive and a depart in one cycle of a barrier: the first depart closes the cycle
+  and what follows from these step by step";
+
 const WITNESS_HELP: &str =
-    "Shows that the accesses at lines I and J are a sure race: prints the events by way of which they were reached, and then the two. If they are none, says why. I is less than J; not with `--group` or `--sure`, or where FILE is `-`";
+    "Shows that the accesses at lines I and J are a sure race: prints the events by way of which they were reached, and then the two. If they are none, says why. I is less than J; not with `--group`, `--sure` or `--json`, or where FILE is `-`";
 
 // The two lines that `--witness` takes.
 static WITNESS_LINES: [&str; 2] = ["I", "J"];
@@ -424,13 +443,16 @@ fn races_command<'w>(alloc: Global) -> Result<Command<'w>, AllocError>
     ensures app { IfOk result (λ command. app_of command ≡ races_command) }
     ensures local { IfOk result (λ command. (fields_of command).has_globals ≡ false) }
 {
-    let command = Command::new(alloc, "races").about(
-        "Finds the races in a trace of any length and of any number of threads, as it is read",
-    );
+    let command = Command::new(alloc, "races")
+        .about(
+            "Finds the races in a trace of any length and of any number of threads, as it is read",
+        )
+        .after_help(TRACE_NOTES);
     let command = taking(Ok(command), file(alloc, TRACE_HELP));
     let command = taking(command, trace_form(alloc));
     let command = taking(command, flag_option(alloc, "group", GROUP_HELP));
     let command = taking(command, flag_option(alloc, "sure", SURE_HELP));
+    let command = taking(command, flag_option(alloc, "json", JSON_HELP));
     taking(command, line_pair(alloc, "witness", WITNESS_HELP))
 }
 

@@ -17,6 +17,7 @@ use Rattle.lrc_acts_text_laws.proofs.OfRuns.{run_is_of, order_is}
 use Rattle.lrc_acts_text_laws.specs.Traces.{DoesStep, IsWellFormed as WellFormedSteps}
 use Rattle.lrc_acts_text_laws.proofs.WellFormed.{well_formed, keeps_accesses}
 use Rattle.lrc_races_laws.specs.Traces.{AreEvents}
+use Rattle.lrc_races_text.specs.declared.asked.Layout.{Layout}
 use Rattle.lrc_races_text.specs.declared.form.Form.TheVariants.{Std, Acts}
 use Rattle.lrc_races_text.specs.Says.{Said, Say}
 use Rattle.lrc_races_text.specs.Told.{Ends, IsCut, IsWholeOf}
@@ -83,12 +84,12 @@ module _ (program : Program) (nodes : ℕ) (acts : List Act) (lines : List ℕ) 
           λ are. both.1 (of_steps.said_alone lines said are_done does are),
         )
 
-    module _ (group : Bool) (status : ℕ) (told : List ℕ) where
-      pub rapid_told : Ends Std (all_races group) (rapid_text program.locks nodes acts lines) status told → TellsRapid program nodes acts lines group status told
+    module _ (group : Bool) (layout : Layout) (status : ℕ) (told : List ℕ) where
+      pub rapid_told : Ends Std (all_races group layout) (rapid_text program.locks nodes acts lines) status told → TellsRapid program nodes acts lines group layout status told
       rapid_told ends =
           let same = ends_said Std (rapid_text program.locks nodes acts lines) (bodies lines steps done) (steps_said 0 lines steps done) rapid_good
           ends.lines ends.rest ends.said ends.cut ends.says in
-          let whole = subst (λ (s : List Said). IsWholeOf Std (all_races group) s status told) same ends.tells in
+          let whole = subst (λ (s : List Said). IsWholeOf Std (all_races group layout) s status told) same ends.tells in
           let are = of_steps.are_events lines whole.naming whole.events whole.trace are_done in
           let run = run_is_of program nodes is.options is.steps is.world is.runs in
           let of : IsTraceOf nodes is.world.acts (rapid_of program.locks nodes is.world.acts) = record {
@@ -114,12 +115,12 @@ module _ (program : Program) (nodes : ℕ) (acts : List Act) (lines : List ℕ) 
   pub acts_are_good : IsGood Acts (acts_text acts lines) (act_bodies 0 lines acts) (acts_said 0 lines acts)
   acts_are_good = acts_good lines (low program nodes acts lines is) acts (ranged program nodes acts lines is)
 
-  module _ (group : Bool) (status : ℕ) (told : List ℕ) where
-    pub acts_told : Ends Acts (all_races group) (acts_text acts lines) status told → TellsActs acts lines group status told
+  module _ (group : Bool) (layout : Layout) (status : ℕ) (told : List ℕ) where
+    pub acts_told : Ends Acts (all_races group layout) (acts_text acts lines) status told → TellsActs acts lines group layout status told
     acts_told ends =
         let same = ends_said Acts (acts_text acts lines) (act_bodies 0 lines acts) (acts_said 0 lines acts) acts_are_good
         ends.lines ends.rest ends.said ends.cut ends.says in
-        let whole = subst (λ (s : List Said). IsWholeOf Acts (all_races group) s status told) same ends.tells in
+        let whole = subst (λ (s : List Said). IsWholeOf Acts (all_races group layout) s status told) same ends.tells in
         let numbers = of_acts.numbering_of whole.naming in
         let are = of_acts.are_events lines acts whole.naming whole.events whole.trace (ranged program nodes acts lines is) in
         let run : IsRun numbers nodes acts whole.events =

@@ -13,7 +13,7 @@ use Rattle.lrc_races_text.specs.declared.form.Form.{Form}
 use Rattle.lrc_races_text.specs.Sought.{AreSought}
 use Rattle.lrc_races_text.specs.Naming.{Naming}
 use Rattle.lrc_races_text.specs.Says.{Said, Say, blank_line, event_line, IsBad, IsFirstBad}
-use Rattle.lrc_races_text.specs.Spelled.{race_lines, group_lines, fault_line, counts_line}
+use Rattle.lrc_races_text.specs.Layouts.{end_lines, pair_lines}
 use Rattle.lrc_races_text.specs.Told.{IsToldOf, IsWholeOf, Tells, IsBadEvent, Ends, IsBadTrace}
 use Rattle.lrc_races_laws.proofs.Cuts.{one_cut}
 use Rattle.lrc_races_laws.proofs.Sayings.{one_say}
@@ -70,7 +70,7 @@ told_one : {form : Form} {asked : Asked} {said : List Said} {one other : List �
 told_one {form} {asked} {said} a b =
     let (names, events) = one_trace said a.naming b.naming a.events b.events a.trace b.trace in
     let pairs = one_sought asked.sought b.events a.pairs b.pairs (subst (λ es. AreSought asked.sought es a.pairs) events a.are_told) b.are_told in
-    a.text ∙ ap₂ (λ (n : Naming) (ps : List Pair). cond asked.group [] (race_lines form n ps)) names pairs ∙ sym b.text
+    a.text ∙ ap₂ (λ (n : Naming) (ps : List Pair). cond asked.group [] (pair_lines asked.layout form n ps)) names pairs ∙ sym b.text
 
 whole_one : {form : Form} {asked : Asked} {said : List Said} {one other : List ℕ} {status code : ℕ} → IsWholeOf form asked said status one
     → IsWholeOf form asked said code other → (one ≡ other) × (status ≡ code)
@@ -82,7 +82,7 @@ whole_one {form} {asked} {said} a b =
     let fault = one_fault b.events (length b.events) a.fault b.fault
     (subst (λ es. IsFirstFault es (length es) a.fault) events a.first_fault) b.first_fault in
     let text : Naming → List Pair → List Group → Option IllFormed → List Event → List ℕ =
-    λ n ps gs f es. cond asked.group [] (race_lines form n ps) ++ (group_lines form n gs ++ (fault_line n f ++ counts_line n (length ps) (length es))) in (
+    λ n ps gs f es. cond asked.group [] (pair_lines asked.layout form n ps) ++ end_lines asked.layout form n gs f (length ps) (length es) in (
       a.text
           ∙ ap₂ (λ n ps. text n ps a.groups a.fault a.events) names pairs
           ∙ ap₂ (λ gs f. text b.naming b.pairs gs f a.events) groups fault

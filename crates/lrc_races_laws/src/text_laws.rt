@@ -7,6 +7,7 @@ ghost use Rattle.lrc_trace.specs.declared.act.Act.{Act};
 ghost use Rattle.lrc_acts_text.specs.ActsText.{acts_text};
 ghost use Rattle.lrc_acts_text.specs.Rapid.{rapid_of, rapid_text};
 ghost use Rattle.lrc_races_text.specs.declared.asked.Asked.{Asked};
+ghost use Rattle.lrc_races_text.specs.declared.asked.Layout.{Layout};
 ghost use Rattle.lrc_races_text.specs.declared.form.Form.TheVariants.{Acts, Std};
 ghost use Rattle.lrc_races_text.specs.Says.{Said, Say};
 ghost use Rattle.lrc_races_text.specs.Told.{Ends, IsBadEvent, IsBadTrace, IsCut};
@@ -25,10 +26,10 @@ pub fn rapid_text_of_every_run_is_told()
         → IsCut (rapid_text program.locks nodes acts lines) parts rest
         → Say Std 1 parts said ↔ AreSaid lines (rapid_of program.locks nodes acts) said }
     ensures told { (program : Program) (nodes : ℕ) (acts : List Act) (lines : List ℕ) (group : Bool)
-        (status : ℕ) (told : List ℕ)
+        (layout : Layout) (status : ℕ) (told : List ℕ)
         → IsLinedRun program nodes acts lines → length acts < 2 ^ 64
-        → Ends Std (all_races group) (rapid_text program.locks nodes acts lines) status told
-        → TellsRapid program nodes acts lines group status told }
+        → Ends Std (all_races group layout) (rapid_text program.locks nodes acts lines) status told
+        → TellsRapid program nodes acts lines group layout status told }
     ensures good { (program : Program) (nodes : ℕ) (acts : List Act) (lines front more : List ℕ)
         (asked : Asked) (line : ℕ) (told : List ℕ)
         → IsLinedRun program nodes acts lines → length acts < 2 ^ 64
@@ -49,9 +50,9 @@ pub fn acts_text_of_every_run_is_told()
         → IsLinedRun program nodes acts lines → IsCut (acts_text acts lines) parts rest
         → Say Acts 1 parts said ↔ (said ≡ acts_said 0 lines acts) }
     ensures told { (program : Program) (nodes : ℕ) (acts : List Act) (lines : List ℕ) (group : Bool)
-        (status : ℕ) (told : List ℕ)
-        → IsLinedRun program nodes acts lines → Ends Acts (all_races group) (acts_text acts lines) status told
-        → TellsActs acts lines group status told }
+        (layout : Layout) (status : ℕ) (told : List ℕ)
+        → IsLinedRun program nodes acts lines → Ends Acts (all_races group layout) (acts_text acts lines) status told
+        → TellsActs acts lines group layout status told }
     ensures good { (program : Program) (nodes : ℕ) (acts : List Act) (lines front more : List ℕ)
         (asked : Asked) (line : ℕ) (told : List ℕ)
         → IsLinedRun program nodes acts lines → acts_text acts lines ≡ front ++ more

@@ -1,5 +1,5 @@
 -- What is kept of the first lines of a trace answers the question about two of them.
-use Rattle.std.proofs.Common.{◌≡◌, ℕ, ◌+◌, ◌<◌, ◌≤◌, List, [], ◌∷◌, ◌++◌, Bool, zero, suc, true, false, Option, None, Some, length, refl, sym, subst, ap, ◌∙◌, arith}
+use Rattle.std.proofs.Common.{◌≡◌, ℕ, ◌+◌, ◌<◌, ◌≤◌, List, [], ◌∷◌, ◌++◌, Bool, zero, suc, true, false, Option, None, Some, sym, subst, ap, ◌∙◌, arith}
 use Rattle.std.specs.Prelude.{Contains, IfNone, MatchOption}
 use Rattle.std.specs.declared.io.ErrorKind.{ErrorKind}
 use Rattle.lrc_races_trace.specs.declared.event.Event.{Event}
@@ -10,7 +10,7 @@ use Rattle.lrc_races_text.specs.Session.{Text}
 use Rattle.lrc_races_text.specs.Tables.{naming_of}
 use Rattle.lrc_races_text.specs.declared.fault.Fault.{Fault}
 use Rattle.lrc_races_text.specs.declared.form.Form.{Form}
-use Rattle.lrc_races_front.specs.Front.{HasAll, HasCome, HasKept, HasRead}
+use Rattle.lrc_races_front.specs.Front.{HasKept, HasRead}
 use Rattle.lrc_races_front.specs.Steps.{HasEnded, HasGoneOn, IsBadEnd, IsStopped}
 use Rattle.lrc_races_front.specs.declared.front.Front.{Front}
 use Rattle.lrc_races_front.specs.declared.kept.Kept.{Kept}

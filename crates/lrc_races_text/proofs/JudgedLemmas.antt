@@ -3,6 +3,7 @@ use Rattle.std.proofs.Common.{◌≡◌, ℕ, zero, suc, ◌+◌, ◌^◌, ◌<�
 use Rattle.std.specs.Prelude.{Option, Some, None, Contains, slice_get, unwrap_or, codes, if◌then◌else◌}
 use Rattle.std.proofs.lemmas.List.Concat.{flat_map-append}
 use Rattle.std.proofs.lemmas.Bool.{eqb-true, eq-eqb}
+use Rattle.lrc_json.specs.Spelling.{quoted}
 use Rattle.lrc_races_trace.specs.declared.event.Event.{Event}
 use Rattle.lrc_races_trace.specs.declared.event.Pair.{Pair}
 use Rattle.lrc_races_trace.specs.declared.event.Operation.{Operation}
@@ -19,6 +20,8 @@ use Rattle.lrc_races_detector.specs.Finding.{HasLooked}
 use Rattle.lrc_races_detector.specs.Grouping.{AreGrouped}
 use Rattle.lrc_races_lines.specs.declared.line.Kind.{Kind}
 use Rattle.lrc_races_text.specs.declared.asked.Asked.{Asked}
+use Rattle.lrc_races_text.specs.declared.asked.Layout.{Layout}
+use Rattle.lrc_races_text.specs.declared.asked.Layout.TheVariants.{Words, Objects}
 use Rattle.lrc_races_text.specs.declared.asked.Sought.{Sought}
 use Rattle.lrc_races_text.specs.declared.asked.Sought.TheVariants.{AllRaces, SureRaces}
 use Rattle.lrc_races_text.specs.declared.form.Form.{Form}
@@ -31,7 +34,9 @@ use Rattle.lrc_races_text.specs.Detecting.{HasTaken, position_of}
 use Rattle.lrc_races_text.specs.Naming.{Numbers, Naming, IsNaming, IsOperation, IsLocated, IsEvent, AreEvents, no_events, event_more}
 use Rattle.lrc_races_text.specs.Naming.{read, write, acquire, release, post, wait, fork, join, arrive, depart, idle}
 use Rattle.lrc_races_text.specs.Tables.{naming_of, MentionsAll}
-use Rattle.lrc_races_text.specs.Spelled.{name_at, variable_of, place_name, together, access_parts, race_line, race_lines, group_lines, fault_line, counts_line, variable_word}
+use Rattle.lrc_races_text.specs.Spelled.{name_at, variable_of, place_name, together, access_parts, race_line, race_lines, variable_word}
+use Rattle.lrc_races_text.specs.Objects.{access_object, place_value, race_object, race_objects}
+use Rattle.lrc_races_text.specs.Layouts.{end_lines, pair_lines}
 use Rattle.lrc_races_text.specs.Told.{IsToldOf}
 use Rattle.lrc_races_text.specs.Judged.{HasJudged, HasJudgedOne, HasToldAll, IsTelling}
 use Rattle.lrc_races_text.proofs.SoughtLemmas.{sought-push, sought-nothing, sought-told}
@@ -77,6 +82,22 @@ same_variable k (arrive n) (v, h) = elim h [ inl e ↦ let never : ⊥ = cc in a
 same_variable k (depart n) (v, h) = elim h [ inl e ↦ let never : ⊥ = cc in absurd never | inr e ↦ let never : ⊥ = cc in absurd never ]
 same_variable k idle (v, h) = elim h [ inl e ↦ let never : ⊥ = cc in absurd never | inr e ↦ let never : ⊥ = cc in absurd never ]
 
+same_value : {before after : Naming} (location : List ℕ) (place : Option ℕ) → KeepsAll before after → IsLocated before.locations location place
+    → place_value before place ≡ place_value after place
+same_value location None k is = refl
+same_value location (Some number) k (some, n) = ap quoted (same_name k.locations n)
+
+same_access_object : {before after : Naming} {one : Said} {event : Event} → KeepsAll before after → IsEvent before one event
+    → access_object before event ≡ access_object after event
+same_access_object {before} {after} {one} {event} k is =
+    let thread = same_name k.threads is.thread in
+    let place = same_value one.saying.location event.location k is.location in
+    rw (thread, place) refl
+
+-- the object of a pair, of its parts
+object_of : List ℕ → List ℕ → List ℕ → List ℕ
+object_of variable first second = together (codes "{\"race\":{\"variable\":" ∷ quoted variable ∷ codes ",\"first\":" ∷ first ∷ codes ",\"second\":" ∷ second ∷ codes "}}\n" ∷ [])
+
 -- a line of a pair, of its parts
 line_of : Form → List ℕ → List ℕ → List ℕ → List ℕ
 line_of form variable first second = together (codes "race " ∷ variable_word form ∷ variable ∷ codes ": " ∷ first ∷ codes ", " ∷ second ∷ codes "\n" ∷ [])
@@ -99,6 +120,28 @@ module _ (form : Form) {before after : Naming} {said : List Said} {events : List
       ∙ ap (λ x. line_of form (name_at after.variables (variable_of pair.earlier.event.operation)) x second_before) a
       ∙ ap (λ x. line_of form (name_at after.variables (variable_of pair.earlier.event.operation)) first_after x) b
 
+  same_object : (pair : Pair) → IsTold events pair → race_object before pair ≡ race_object after pair
+  unfolding object_of race_object
+  same_object pair t =
+      let (one, first) = named_event are pair.earlier.position pair.earlier.event t.first.is in
+      let (other, second) = named_event are pair.later.position pair.later.event t.second.is in
+      let is = At-one t.races.first t.first in
+      let accessed : Accesses pair.earlier.event t.races.conflict.variable
+      = subst (λ e. Accesses e t.races.conflict.variable) is t.races.conflict.first in
+      let a = same_access_object k first in
+      let b = same_access_object k second in
+      let v = same_variable k first.operation (t.races.conflict.variable, accessed) in
+      ap (λ x. object_of x (access_object before pair.earlier.event) (access_object before pair.later.event)) v
+      ∙ ap (λ x. object_of (name_at after.variables (variable_of pair.earlier.event.operation)) x (access_object before pair.later.event)) a
+      ∙ ap (λ x. object_of (name_at after.variables (variable_of pair.earlier.event.operation)) (access_object after pair.earlier.event) x) b
+
+  same_objects_of : (pairs : List Pair) → ((pair : Pair) → Contains pairs pair → IsTold events pair) → race_objects before pairs ≡ race_objects after pairs
+  same_objects_of [] told = refl
+  same_objects_of (pair ∷ pairs) told =
+      let first = same_object pair (told pair (0, omega arith, refl)) in
+      let rest = same_objects_of pairs (λ p (at, lt, is). told p (suc at, omega arith, is)) in
+      ap (λ t. t ++ race_objects before pairs) first ∙ ap (λ t. race_object after pair ++ t) rest
+
   same_lines_of : (pairs : List Pair) → ((pair : Pair) → Contains pairs pair → IsTold events pair) → race_lines form before pairs ≡ race_lines form after pairs
   same_lines_of [] told = refl
   same_lines_of (pair ∷ pairs) told =
@@ -106,22 +149,29 @@ module _ (form : Form) {before after : Naming} {said : List Said} {events : List
       let rest = same_lines_of pairs (λ p (at, lt, is). told p (suc at, omega arith, is)) in
       ap (λ t. t ++ race_lines form before pairs) first ∙ ap (λ t. race_line form after pair ++ t) rest
 
-  pub same_lines : (sought : Sought) (pairs : List Pair) → AreSought sought events pairs → race_lines form before pairs ≡ race_lines form after pairs
-  same_lines sought pairs t = same_lines_of pairs (sought-told sought events pairs t)
+  pub same_lines : (layout : Layout) (sought : Sought) (pairs : List Pair) → AreSought sought events pairs
+      → pair_lines layout form before pairs ≡ pair_lines layout form after pairs
+  same_lines Words sought pairs t = same_lines_of pairs (sought-told sought events pairs t)
+  same_lines Objects sought pairs t = same_objects_of pairs (sought-told sought events pairs t)
 
 -- ---- one event more
 
-shown-append : (form : Form) (group : Bool) (naming : Naming) (xs ys : List Pair)
-    → (if group then [] else race_lines form naming xs) ++ (if group then [] else race_lines form naming ys)
-    ≡ (if group then [] else race_lines form naming (xs ++ ys))
-shown-append form true naming xs ys = refl
-shown-append form false naming xs ys = sym (flat_map-append (race_line form naming) xs ys)
+pair_lines-append : (layout : Layout) (form : Form) (naming : Naming) (xs ys : List Pair)
+    → pair_lines layout form naming xs ++ pair_lines layout form naming ys ≡ pair_lines layout form naming (xs ++ ys)
+pair_lines-append Words form naming xs ys = sym (flat_map-append (race_line form naming) xs ys)
+pair_lines-append Objects form naming xs ys = sym (flat_map-append (race_object naming) xs ys)
 
-shown-same : (form : Form) (sought : Sought) (group : Bool) {before after : Naming} {said : List Said} {events : List Event} (pairs : List Pair)
-    → KeepsAll before after → AreEvents before said events → AreSought sought events pairs
-    → (if group then [] else race_lines form before pairs) ≡ (if group then [] else race_lines form after pairs)
-shown-same form sought true pairs k are t = refl
-shown-same form sought false pairs k are t = same_lines form k are sought pairs t
+shown-append : (layout : Layout) (form : Form) (group : Bool) (naming : Naming) (xs ys : List Pair)
+    → (if group then [] else pair_lines layout form naming xs) ++ (if group then [] else pair_lines layout form naming ys)
+    ≡ (if group then [] else pair_lines layout form naming (xs ++ ys))
+shown-append layout form true naming xs ys = refl
+shown-append layout form false naming xs ys = pair_lines-append layout form naming xs ys
+
+shown-same : (layout : Layout) (form : Form) (sought : Sought) (group : Bool) {before after : Naming} {said : List Said} {events : List Event}
+    (pairs : List Pair) → KeepsAll before after → AreEvents before said events → AreSought sought events pairs
+    → (if group then [] else pair_lines layout form before pairs) ≡ (if group then [] else pair_lines layout form after pairs)
+shown-same layout form sought true pairs k are t = refl
+shown-same layout form sought false pairs k are t = same_lines form k are layout sought pairs t
 
 -- the detector counts the events
 taken-position : (sought : Sought) (events : List Event) (n : ℕ) (detector : RaceDetector) → HasTaken sought events n detector → position_of detector ≡ n
@@ -137,7 +187,7 @@ module _ {form : Form} {asked : Asked} (before after : Judged) (one : Said) (eve
     → HasTaken sought events (n + 1) after.detector × AreSoughtAt sought events n after.told.items)
     (looks : (events : List Event) (n : ℕ) → n + 1 < 2 ^ 64 → At events n event → HasLooked events n before.finder → HasLooked events (n + 1) after.finder)
     (races : after.races ≡ before.races + length after.told.items)
-    (tells : IsTelling form asked.group (naming_of after.names) after.told.items before.groups after.groups old new) where
+    (tells : IsTelling form asked (naming_of after.names) after.told.items before.groups after.groups old new) where
   pub judged_one : HasJudgedOne form asked one before old after new
   judged_one said told h =
       let k = keeps_names mentioned in
@@ -150,7 +200,7 @@ module _ {form : Form} {asked : Asked} (before after : Judged) (one : Said) (eve
       let small_here : length events + 1 < 2 ^ 64 = omega (arith, position, small) in
       let longer_by : length events + 1 ≡ length next = omega (arith, long) in
       let are_told = sought-push asked.sought events event h.pairs after.told.items h.are_told (both []).1 in (
-        (if asked.group then [] else race_lines form (naming_of after.names) after.told.items),
+        (if asked.group then [] else pair_lines asked.layout form (naming_of after.names) after.told.items),
         tells.text,
         record {
           naming = naming_more one h.naming mentioned;
@@ -165,9 +215,9 @@ module _ {form : Form} {asked : Asked} (before after : Judged) (one : Said) (eve
           are_told = are_told;
           counted = races ∙ ap (λ n. n + length after.told.items) h.counted ∙ sym (length-append h.pairs after.told.items);
           grouped = tells.grouped h.pairs h.grouped;
-          text = ap (λ t. t ++ (if asked.group then [] else race_lines form (naming_of after.names) after.told.items))
-              (h.text ∙ shown-same form asked.sought asked.group h.pairs k h.are h.are_told)
-              ∙ shown-append form asked.group (naming_of after.names) h.pairs after.told.items;
+          text = ap (λ t. t ++ (if asked.group then [] else pair_lines asked.layout form (naming_of after.names) after.told.items))
+              (h.text ∙ shown-same asked.layout form asked.sought asked.group h.pairs k h.are h.are_told)
+              ∙ shown-append asked.layout form asked.group (naming_of after.names) h.pairs after.told.items;
         },
       )
 
@@ -177,16 +227,16 @@ few : (group : Bool) (pairs : List Pair) → length pairs < 2 ^ 64 → length (i
 few true pairs small = small
 few false pairs small = omega arith
 
-pub told_all : (form : Form) (judged : Judged) (groups : List Group) (fault : Option IllFormed) (count : ℕ) (old new : List ℕ)
-    (status : ℕ) → count ≡ position_of judged.detector
-    → new ≡ old ++ (group_lines form (naming_of judged.names) groups ++ (fault_line (naming_of judged.names) fault
-    ++ counts_line (naming_of judged.names) judged.races count))
+pub told_all : (form : Form) (asked : Asked) (judged : Judged) (groups : List Group) (fault : Option IllFormed) (count : ℕ)
+    (old new : List ℕ) (status : ℕ) → count ≡ position_of judged.detector
+    → new ≡ old ++ end_lines asked.layout form (naming_of judged.names) groups fault judged.races count
     → ((pairs : List Pair) → length pairs < 2 ^ 64 → AreGrouped pairs judged.groups → AreGroups pairs groups)
     → ((events : List Event) (n : ℕ) → HasLooked events n judged.finder → IsFirstFault events n fault)
-    → judged.races < 2 ^ 64 → status ≡ (if judged.races == 0 then 0 else 3) → HasToldAll form judged old new status
-told_all form judged groups fault count old new status count_is is lists finds small gives asked said told h =
+    → judged.races < 2 ^ 64 → status ≡ (if judged.races == 0 then 0 else 3) → HasToldAll form asked judged old new status
+told_all form asked judged groups fault count old new status count_is is lists finds small gives said told h =
     let naming = naming_of judged.names in
-    let more = group_lines form naming groups ++ (fault_line naming fault ++ counts_line naming judged.races count) in
+    let more = end_lines asked.layout form naming groups fault judged.races count in
+    let front = if asked.group then [] else pair_lines asked.layout form naming h.pairs in
     let position = count_is ∙ taken-position asked.sought _ _ judged.detector (h.taken []) in
     let small_pairs : length h.pairs < 2 ^ 64 = omega (arith, h.counted, small) in
     let all : h.events ++ [] ≡ h.events = append-nil h.events in (
@@ -202,10 +252,9 @@ told_all form judged groups fault count old new status count_is is lists finds s
         are_told = h.are_told;
         are_groups = lists _ (few asked.group h.pairs small_pairs) h.grouped;
         first_fault = subst (λ es. IsFirstFault es (length h.events) fault) all (finds _ _ (h.looked []));
-        text = ap (λ t. t ++ more) h.text ∙ ap (λ n. (if asked.group then [] else race_lines form naming h.pairs)
-            ++ (group_lines form naming groups ++ (fault_line naming fault ++ counts_line naming n count))) h.counted
-            ∙ ap (λ n. (if asked.group then [] else race_lines form naming h.pairs)
-            ++ (group_lines form naming groups ++ (fault_line naming fault ++ counts_line naming (length h.pairs) n))) position;
+        text = ap (λ t. t ++ more) h.text
+            ∙ ap (λ n. front ++ end_lines asked.layout form naming groups fault n count) h.counted
+            ∙ ap (λ n. front ++ end_lines asked.layout form naming groups fault (length h.pairs) n) position;
         answer = gives ∙ ap (λ n. if n == 0 then 0 else 3) h.counted;
       },
     )
@@ -223,11 +272,11 @@ told_of {judged = judged} h = record {
 }
 
 -- before any event
-pub judged_none : (form : Form) (sought : Sought) (group : Bool) (judged : Judged)
+pub judged_none : (form : Form) (asked : Asked) (judged : Judged)
     → naming_of judged.names ≡ record { threads = []; variables = []; locks = []; barriers = []; locations = [] }
-    → ((events : List Event) → HasTaken sought events 0 judged.detector) → ((events : List Event) → HasLooked events 0 judged.finder)
-    → AreGrouped [] judged.groups → judged.races ≡ 0 → HasJudged form (record { sought = sought; group = group }) [] [] judged
-judged_none form sought group judged names taken looked grouped races = record {
+    → ((events : List Event) → HasTaken asked.sought events 0 judged.detector) → ((events : List Event) → HasLooked events 0 judged.finder)
+    → AreGrouped [] judged.groups → judged.races ≡ 0 → HasJudged form asked [] [] judged
+judged_none form asked judged names taken looked grouped races = record {
   naming = subst (λ n. IsNaming [] n) (sym names) (record {
     threads = nothing_named;
     variables = nothing_named;
@@ -240,19 +289,20 @@ judged_none form sought group judged names taken looked grouped races = record {
   taken = taken;
   looked = looked;
   pairs = [];
-  are_told = sought-nothing sought;
+  are_told = sought-nothing asked.sought;
   counted = races;
-  grouped = no_pairs group;
-  text = no_text group;
+  grouped = no_pairs asked.group;
+  text = no_text asked.group asked.layout;
 }
   where
     no_pairs : (g : Bool) → AreGrouped (let none : List Pair = [] in if g then none else none) judged.groups
     no_pairs true = grouped
     no_pairs false = grouped
 
-    no_text : (g : Bool) → (let none : List ℕ = [] in none) ≡ (if g then [] else race_lines form (naming_of judged.names) [])
-    no_text true = refl
-    no_text false = refl
+    no_text : (g : Bool) (layout : Layout) → (let none : List ℕ = [] in none) ≡ (if g then [] else pair_lines layout form (naming_of judged.names) [])
+    no_text true layout = refl
+    no_text false Words = refl
+    no_text false Objects = refl
 
 abbrev status_of : ℕ → ℕ
 status_of n = if n == 0 then 0 else 3
@@ -267,9 +317,9 @@ status_some n some = go (n == 0) refl
     go true e = absurd (some (eqb-true n 0 e))
     go false e = refl
 
-pub telling_as : {form : Form} {group : Bool} {naming : Naming} {xs ys : List Pair} {before after : Groups} {old new : List ℕ} → xs ≡ ys
-    → IsTelling form group naming xs before after old new → IsTelling form group naming ys before after old new
-telling_as {form} {group} {naming} {xs} {ys} {before} {after} {old} {new} e t = subst (λ ts. IsTelling form group naming ts before after old new) e t
+pub telling_as : {form : Form} {asked : Asked} {naming : Naming} {xs ys : List Pair} {before after : Groups} {old new : List ℕ} → xs ≡ ys
+    → IsTelling form asked naming xs before after old new → IsTelling form asked naming ys before after old new
+telling_as {form} {asked} {naming} {xs} {ys} {before} {after} {old} {new} e t = subst (λ ts. IsTelling form asked naming ts before after old new) e t
 
 pub written : (out text start x next slice : List ℕ) → next ≡ out ++ slice → slice ≡ text → text ≡ start ++ x → start ≡ [] → next ≡ out ++ x
 written out text start x next slice a b c d = a ∙ ap (λ t. out ++ t) (b ∙ c ∙ ap (λ t. t ++ x) d)

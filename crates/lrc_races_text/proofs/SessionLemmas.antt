@@ -397,13 +397,14 @@ module _ (before session : Session) (block left old mid : List ℕ) (i : Invaria
 -- ---- the end
 
 pub ended_well : (before mid : Session) (old between new : List ℕ) (status : ℕ) → HasCompleted before [] old between mid
-    → HasToldAll mid.form mid.judged between new status → HasEnded before old new status
+    → HasToldAll mid.form mid.asked mid.judged between new status → HasEnded before old new status
 ended_well before mid old between new status completes all form asked bytes told h =
     let l = h.has_lines in
     let t = completes form asked l.lines l.rest told l.at in
     let a = t.2 in
-    let all_here = subst (λ x. HasToldAll x mid.judged between new status) a.same_form all in
-    let e = all_here asked a.said (told ++ t.0) a.judged in (
+    let all_here = subst (λ x. HasToldAll form x mid.judged between new status) a.same_asked
+    (subst (λ x. HasToldAll x mid.asked mid.judged between new status) a.same_form all) in
+    let e = all_here a.said (told ++ t.0) a.judged in (
       t.0 ++ e.0,
       e.1 ∙ ap (λ x. x ++ e.0) t.1 ∙ append_assoc old t.0 e.0,
       record {

@@ -33,6 +33,15 @@ pub two : {old now next : List ℕ} {parts : List (List ℕ)} → Pushed old par
     → Pushed old (parts ++ a ∷ b ∷ []) next
 two {now = now} p a b e = more p (a ∷ b ∷ []) (e ∙ append_assoc now a b ∙ ap (λ t. now ++ (a ++ t)) (sym (append-nil b)))
 
+-- the same, where the last part is known by another term
+pub one_as : {old now next : List ℕ} {parts : List (List ℕ)} → Pushed old parts now → (a same : List ℕ) → a ≡ same → next ≡ now ++ a
+    → Pushed old (parts ++ same ∷ []) next
+one_as {now = now} p a same is e = one p same (e ∙ ap (λ t. now ++ t) is)
+
+pub two_as : {old now next : List ℕ} {parts : List (List ℕ)} → Pushed old parts now → (a b same : List ℕ) → b ≡ same → next ≡ now ++ a ++ b
+    → Pushed old (parts ++ a ∷ same ∷ []) next
+two_as {now = now} p a b same is e = two p a same (e ∙ ap (λ t. now ++ a ++ t) is)
+
 -- the words of a reason
 pub reasoned : (naming : Naming) (thread : ℕ) (old next : List ℕ) {reason same : Reason} → reason ≡ same
     → Pushed old (reason_parts naming thread same) next → next ≡ old ++ together (reason_parts naming thread reason)

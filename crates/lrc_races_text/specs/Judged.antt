@@ -1,5 +1,5 @@
 -- What is kept of the events of a trace, and what is told by it.
-use Rattle.std.specs.Prelude.{◌≡◌, ℕ, Bool, if◌then◌else◌, List, [], ◌∷◌, ◌++◌, length}
+use Rattle.std.specs.Prelude.{◌≡◌, ℕ, if◌then◌else◌, List, [], ◌∷◌, ◌++◌, length}
 use Rattle.lrc_races_trace.specs.declared.event.Event.{Event}
 use Rattle.lrc_races_trace.specs.declared.event.Pair.{Pair}
 use Rattle.lrc_races_detector.specs.declared.groups.Groups.{Groups}
@@ -13,7 +13,7 @@ use Rattle.lrc_races_text.specs.Sought.{AreSought}
 use Rattle.lrc_races_text.specs.Detecting.{HasTaken}
 use Rattle.lrc_races_text.specs.Naming.{Naming, IsNaming, AreEvents}
 use Rattle.lrc_races_text.specs.Tables.{naming_of}
-use Rattle.lrc_races_text.specs.Spelled.{race_lines}
+use Rattle.lrc_races_text.specs.Layouts.{pair_lines}
 use Rattle.lrc_races_text.specs.Told.{IsWholeOf}
 
 -- These events are judged, and this is told of them.
@@ -27,12 +27,13 @@ pub record HasJudged (form : Form) (asked : Asked) (said : List Said) (told : Li
   pub are_told : AreSought asked.sought events pairs
   pub counted : judged.races ≡ length pairs
   pub grouped : AreGrouped (if asked.group then pairs else []) judged.groups
-  pub text : told ≡ (if asked.group then [] else race_lines form (naming_of judged.names) pairs)
+  pub text : told ≡ (if asked.group then [] else pair_lines asked.layout form (naming_of judged.names) pairs)
 
 -- The pairs that are told of an event are put into their groups, or their lines are added.
-pub record IsTelling (form : Form) (group : Bool) (naming : Naming) (told : List Pair) (before after : Groups) (old new : List ℕ) : Type 0 where
-  pub grouped : (pairs : List Pair) → AreGrouped (if group then pairs else []) before → AreGrouped (if group then pairs ++ told else []) after
-  pub text : new ≡ old ++ (if group then [] else race_lines form naming told)
+pub record IsTelling (form : Form) (asked : Asked) (naming : Naming) (told : List Pair) (before after : Groups) (old new : List ℕ) : Type 0 where
+  pub grouped : (pairs : List Pair) → AreGrouped (if asked.group then pairs else []) before
+      → AreGrouped (if asked.group then pairs ++ told else []) after
+  pub text : new ≡ old ++ (if asked.group then [] else pair_lines asked.layout form naming told)
 
 -- One event more is judged, and this is told more.
 abbrev pub HasJudgedOne : Form → Asked → Said → Judged → List ℕ → Judged → List ℕ → Type 0
@@ -40,6 +41,6 @@ HasJudgedOne form asked one before old after new = (said : List Said) (told : Li
     → (more : List ℕ) × (new ≡ old ++ more) × HasJudged form asked (said ++ one ∷ []) (told ++ more) after
 
 -- All is told, and this is the status.
-abbrev pub HasToldAll : Form → Judged → List ℕ → List ℕ → ℕ → Type 0
-HasToldAll form judged old new status = (asked : Asked) (said : List Said) (told : List ℕ) → HasJudged form asked said told judged
+abbrev pub HasToldAll : Form → Asked → Judged → List ℕ → List ℕ → ℕ → Type 0
+HasToldAll form asked judged old new status = (said : List Said) (told : List ℕ) → HasJudged form asked said told judged
     → (more : List ℕ) × (new ≡ old ++ more) × IsWholeOf form asked said status (told ++ more)

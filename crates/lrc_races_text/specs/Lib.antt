@@ -5,6 +5,8 @@ pub mod Detecting
 pub mod Naming
 pub mod Tables
 pub mod Spelled
+pub mod Objects
+pub mod Layouts
 pub mod Told
 pub mod Judged
 pub mod Session

@@ -15,7 +15,7 @@ use Rattle.lrc_races_text.specs.declared.fault.Fault.TheVariants.{BadEvent, NoMe
 use Rattle.lrc_races_text.specs.Says.{Said, Say, IsFirstBad, IsWhyText}
 use Rattle.lrc_races_text.specs.Naming.{Naming, IsTrace}
 use Rattle.lrc_races_text.specs.Sought.{AreSought}
-use Rattle.lrc_races_text.specs.Spelled.{race_lines, group_lines, fault_line, counts_line}
+use Rattle.lrc_races_text.specs.Layouts.{end_lines, pair_lines}
 
 -- the text has no line feed, and none of the lines has
 abbrev pub IsOneLine : List ℕ → Type 0
@@ -42,7 +42,7 @@ pub record IsToldOf (form : Form) (asked : Asked) (said : List Said) (told : Lis
   pub pairs : List Pair
   pub trace : IsTrace said naming events
   pub are_told : AreSought asked.sought events pairs
-  pub text : told ≡ (if asked.group then [] else race_lines form naming pairs)
+  pub text : told ≡ (if asked.group then [] else pair_lines asked.layout form naming pairs)
 
 -- When these bytes have come, and none of their lines is bad, this is told.
 pub record Tells (form : Form) (asked : Asked) (bytes told : List ℕ) : Type 0 where
@@ -92,8 +92,8 @@ pub record IsWholeOf (form : Form) (asked : Asked) (said : List Said) (status : 
   pub are_told : AreSought asked.sought events pairs
   pub are_groups : AreGroups (if asked.group then pairs else []) groups
   pub first_fault : IsFirstFault events (length events) fault
-  pub text : told ≡ (if asked.group then [] else race_lines form naming pairs) ++ (group_lines form naming groups ++ (fault_line naming fault
-      ++ counts_line naming (length pairs) (length events)))
+  pub text : told ≡ (if asked.group then [] else pair_lines asked.layout form naming pairs)
+      ++ end_lines asked.layout form naming groups fault (length pairs) (length events)
   pub answer : status ≡ (if length pairs == 0 then 0 else 3)
 
 -- The bytes are a whole trace: what stands behind their last line feed is a line too.

@@ -9,6 +9,15 @@ pub enum Sought {
     SureRaces,
 }
 
+/// How the lines of the report are written.
+#[derive(Clone, Copy, PartialEq, Eq)]
+pub enum Layout {
+    /// In words.
+    Words,
+    /// Each as a JSON object.
+    Objects,
+}
+
 /// What is asked of a trace.
 #[derive(Clone, Copy, PartialEq, Eq)]
 pub struct Asked {
@@ -16,4 +25,6 @@ pub struct Asked {
     pub sought: Sought,
     /// Whether they are reported by groups, after the trace has ended.
     pub group: bool,
+    /// How the lines of the report are written.
+    pub layout: Layout,
 }

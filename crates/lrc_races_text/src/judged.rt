@@ -1,7 +1,8 @@
 // A trace as it is judged, one event after another.
-ghost use Rattle.std.specs.Prelude.{◌≡◌, ◌+◌, [], Bool, IfErr, IfOk, OnErr, OnOk};
+ghost use Rattle.std.specs.Prelude.{◌≡◌, ◌+◌, [], IfErr, IfOk, OnErr, OnOk};
 ghost use Rattle.lrc_races_lines.specs.Line.{saying_of};
 ghost use Rattle.lrc_races_text.specs.declared.fault.Fault.TheVariants.{NoMemory};
+ghost use Rattle.lrc_races_text.specs.declared.asked.Asked.{Asked as AnyAsked};
 ghost use Rattle.lrc_races_text.specs.declared.form.Form.{Form as AnyForm};
 ghost use Rattle.lrc_races_text.specs.Tables.{naming_of};
 ghost use Rattle.lrc_races_text.specs.Judged.{HasJudged, HasJudgedOne, HasToldAll, IsTelling};
@@ -9,9 +10,9 @@ ghost use Rattle.lrc_races_text.specs.Judged.{HasJudged, HasJudgedOne, HasToldAl
 use crate::asked::{Asked, Sought};
 use crate::fault::Fault;
 use crate::form::Form;
+use crate::layouts::{push_end_lines, push_pair_lines};
 use crate::naming::Names;
 use crate::race_detector::RaceDetector;
-use crate::spelling::{push_end, push_pairs};
 use lrc_races_detector::fault_finder::FaultFinder;
 use lrc_races_detector::groups::Groups;
 use lrc_races_lines::line::Named;
@@ -39,20 +40,20 @@ fn tell(
     text: &mut Vec<u8>,
     out: &mut Vec<u8>,
     form: Form,
-    group: bool,
+    asked: Asked,
     names: &Names,
     told: &[Pair],
 ) -> Result<(), AllocError>
-    ensures ok { OnOk result (IsTelling form group
+    ensures ok { OnOk result (IsTelling form asked
         (naming_of names.now) told.now groups.old groups.new out.old.items out.new.items) }
     ensures err { OnErr result (out.new.items ≡ out.old.items) }
 {
-    if group {
+    if asked.group {
         groups.take(told)?;
         return Ok(());
     }
     text.clear();
-    push_pairs(text, form, names, told)?;
+    push_pair_lines(text, asked.layout, form, names, told)?;
     out.extend_from_slice(text.as_slice())?;
     Ok(())
 }
@@ -71,8 +72,8 @@ fn sum(one: u64, other: u64) -> Result<u64, Fault>
 impl Judged {
     /// Creates the state before any event.
     pub fn new(alloc: Global, sought: Sought) -> Judged
-        ensures { (form : AnyForm) (group : Bool)
-            → HasJudged form (record { sought = sought; group = group }) [] [] result }
+        ensures { (form : AnyForm) (asked : AnyAsked) → asked.sought ≡ sought
+            → HasJudged form asked [] [] result }
     {
         Judged {
             names: Names::new(alloc),
@@ -113,7 +114,7 @@ impl Judged {
             &mut self.text,
             out,
             form,
-            asked.group,
+            asked,
             &self.names,
             self.told.as_slice(),
         )?;
@@ -122,14 +123,15 @@ impl Judged {
 
     /// Adds what is reported at the end: the groups, what is not well formed, and the last line. Returns the program's
     /// exit status: 3 if a race was reported, else 0. On error `out` does not change.
-    pub fn end(&mut self, form: Form, out: &mut Vec<u8>) -> Result<u8, AllocError>
-        ensures ok { IfOk result (HasToldAll form self.old out.old.items out.new.items) }
+    pub fn end(&mut self, form: Form, asked: Asked, out: &mut Vec<u8>) -> Result<u8, AllocError>
+        ensures ok { IfOk result (HasToldAll form asked self.old out.old.items out.new.items) }
         ensures err { OnErr result (out.new.items ≡ out.old.items) }
     {
         let races = self.races;
         self.text.clear();
-        push_end(
+        push_end_lines(
             &mut self.text,
+            asked.layout,
             form,
             &self.names,
             self.groups.list(),

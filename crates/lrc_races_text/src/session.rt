@@ -172,7 +172,7 @@ impl Session {
             Ok(()) => {}
             Err(fault) => return Err(fault),
         }
-        match self.judged.end(self.form, out) {
+        match self.judged.end(self.form, self.asked, out) {
             Ok(status) => Ok(status),
             Err(_) => Err(Fault::NoMemory),
         }

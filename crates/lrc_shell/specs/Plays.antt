@@ -17,6 +17,8 @@ use Rattle.lrc_cli_args.specs.declared.choice.TraceForm.TheVariants as args
 use Rattle.lrc_cli_args.specs.declared.choice.Witnessing.{Witnessing}
 use Rattle.lrc_cli.specs.Performance.{IsWritten, Performs}
 use Rattle.lrc_races_text.specs.declared.asked.Asked.{Asked}
+use Rattle.lrc_races_text.specs.declared.asked.Layout.{Layout}
+use Rattle.lrc_races_text.specs.declared.asked.Layout.TheVariants.{Objects, Words}
 use Rattle.lrc_races_text.specs.declared.asked.Sought.{Sought}
 use Rattle.lrc_races_text.specs.declared.asked.Sought.TheVariants.{AllRaces, SureRaces}
 use Rattle.lrc_races_text.specs.declared.form.Form.{Form}
@@ -96,9 +98,14 @@ abbrev pub sought_of : Bool → Sought
 sought_of true = SureRaces
 sought_of false = AllRaces
 
+-- in which layout they are told
+abbrev pub layout_of : Bool → Layout
+layout_of true = Objects
+layout_of false = Words
+
 -- what they ask of the trace
 abbrev pub asked_of : Racing → Asked
-asked_of racing = record { sought = sought_of racing.sure; group = racing.group }
+asked_of racing = record { sought = sought_of racing.sure; group = racing.group; layout = layout_of racing.json }
 
 -- What comes of the words: they ask for nothing, and nothing is printed, or what comes of the topic, the trace or the choice that they
 -- ask for.

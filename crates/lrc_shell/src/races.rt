@@ -3,11 +3,11 @@
 ghost use Rattle.std.specs.Prelude.{◌≡◌};
 ghost use Rattle.lrc_races_stream.specs.Plays.{IsRacesPlayed};
 ghost use Rattle.lrc_races_stream.specs.Witness.{IsWitnessPlayed};
-ghost use Rattle.lrc_shell.specs.Plays.{asked_of, form_of, sought_of};
+ghost use Rattle.lrc_shell.specs.Plays.{asked_of, form_of, layout_of, sought_of};
 
 use lrc_cli_args::choice::{Racing, TraceForm, Witnessing};
 use lrc_races_stream::{play_races, play_witness};
-use lrc_races_text::asked::{Asked, Sought};
+use lrc_races_text::asked::{Asked, Layout, Sought};
 use lrc_races_text::form::Form;
 use lrc_shell_sources::sources::Sources;
 use std::alloc::Global;
@@ -75,7 +75,14 @@ fn asked_of(racing: &Racing<'_>) -> Asked
     Asked {
         sought: sought_of(racing.sure),
         group: racing.group,
+        layout: layout_of(racing.json),
     }
+}
+
+fn layout_of(json: bool) -> Layout
+    ensures { result ≡ layout_of json }
+{
+    if json { Layout::Objects } else { Layout::Words }
 }
 
 fn sought_of(sure: bool) -> Sought

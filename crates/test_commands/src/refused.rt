@@ -196,6 +196,8 @@ const REFUSED: &[Row] = &[
     ("races t --witness 1 2 --witness 1 2", Wanted::Usage),
     ("races t --witness 1 2 --sure", Wanted::Usage),
     ("races t --group --witness 1 2", Wanted::Usage),
+    ("races t --json --witness 1 2", Wanted::Usage),
+    ("races t --json=1", Wanted::Usage),
     ("races - --witness 1 2", Wanted::Usage),
     ("help plan", Wanted::Usage),
     ("help Sim", Wanted::Usage),

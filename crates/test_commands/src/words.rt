@@ -38,8 +38,8 @@ pub struct Run {
 #[derive(Clone, Copy)]
 pub enum Wanted {
     Lint(&'static str),
-    /// The races of a trace, in the form of acts or not, by groups or not.
-    Races(&'static str, bool, bool),
+    /// The races of a trace, in the form of acts or not, by groups or not, as objects or not.
+    Races(&'static str, bool, bool, bool),
     /// Of a trace, in the form of acts or not: the two lines of which it is asked.
     Witness(&'static str, bool, u64, u64),
     /// Of a run: of which act it is asked, and of which other.
@@ -243,7 +243,9 @@ fn is_wanted_request(made: &Request<'_>, wanted: &Wanted) -> bool {
     match made {
         Request::About(topic) => is_wanted_topic(topic, wanted),
         Request::Races(racing) => match wanted {
-            Wanted::Races(file, acts, group) => is_racing(racing, file, *acts, *group),
+            Wanted::Races(file, acts, group, json) => {
+                is_racing(racing, file, *acts, *group) && racing.json == *json
+            }
             _ => false,
         },
         Request::Witness(made) => match wanted {
@@ -568,14 +570,18 @@ const CHOICES: &[Row] = &[
     // What is wrong with texts and traces, and why acts are as they are.
     ("lint a.tm", Wanted::Lint("a.tm")),
     ("lint -", Wanted::Lint("-")),
-    ("races -", Wanted::Races("-", false, false)),
+    ("races -", Wanted::Races("-", false, false, false)),
     (
         "races t.std --as std --group",
-        Wanted::Races("t.std", false, true),
+        Wanted::Races("t.std", false, true, false),
     ),
     (
         "races --as=acts t.acts",
-        Wanted::Races("t.acts", true, false),
+        Wanted::Races("t.acts", true, false, false),
+    ),
+    (
+        "races --json t.std",
+        Wanted::Races("t.std", false, false, true),
     ),
     (
         "races t.std --witness 3 18446744073709551615",

@@ -1,6 +1,6 @@
 // What is printed of traces, in blocks of any size.
 
-use lrc_races_text::asked::{Asked, Sought};
+use lrc_races_text::asked::{Asked, Layout, Sought};
 use lrc_races_text::fault::Fault;
 use lrc_races_text::form::Form;
 use lrc_races_text::session::Session;
@@ -9,16 +9,25 @@ use std::alloc::Global;
 const ALL: Asked = Asked {
     sought: Sought::AllRaces,
     group: false,
+    layout: Layout::Words,
 };
 
-const ALL_BY_GROUP: Asked = Asked {
-    sought: Sought::AllRaces,
-    group: true,
-};
+const ALL_BY_GROUP: Asked = Asked { group: true, ..ALL };
 
 const SURE: Asked = Asked {
     sought: Sought::SureRaces,
-    group: false,
+    ..ALL
+};
+
+const OBJECTS: Asked = Asked {
+    layout: Layout::Objects,
+    ..ALL
+};
+
+const SURE_OBJECTS_BY_GROUP: Asked = Asked {
+    sought: Sought::SureRaces,
+    group: true,
+    layout: Layout::Objects,
 };
 
 // A trace, how it is read, and what is printed of it, with the status or the fault.
@@ -102,6 +111,38 @@ const ROWS: &[Row] = &[
         asked: SURE,
         trace: b"A|acq(m)|7\nA|r(p)|7\nA|w(o)|8\nA|w(p)|9\nA|rel(m)|10\nB|r(p)|5\nB|r(o)|12\n",
         printed: b"race p: line 4 A write at 9, line 6 B read at 5\nraces 1, events 7, threads 2, variables 2, locks 1, barriers 0\n",
+        end: Ok(3),
+    },
+    Row {
+        name: "a race as an object, and no location",
+        form: Form::Std,
+        asked: OBJECTS,
+        trace: b"T1|w(x)|a:1\nT2|r(x)\n",
+        printed: b"{\"race\":{\"variable\":\"x\",\"first\":{\"line\":1,\"thread\":\"T1\",\"kind\":\"write\",\"location\":\"a:1\"},\"second\":{\"line\":2,\"thread\":\"T2\",\"kind\":\"read\",\"location\":null}}}\n{\"races\":1,\"events\":2,\"threads\":2,\"variables\":1,\"locks\":0,\"barriers\":0}\n",
+        end: Ok(3),
+    },
+    Row {
+        name: "what no program gives, as an object, with signs that are spelled",
+        form: Form::Std,
+        asked: OBJECTS,
+        trace: b"T1|rel(\"l\")\nT1|w(x)\n",
+        printed: b"{\"ill\":{\"line\":1,\"reason\":\"lock \\\"l\\\" is not held by thread T1\"}}\n{\"races\":0,\"events\":2,\"threads\":1,\"variables\":1,\"locks\":1,\"barriers\":0}\n",
+        end: Ok(0),
+    },
+    Row {
+        name: "of acts an object has the numbers alone",
+        form: Form::Acts,
+        asked: OBJECTS,
+        trace: b"0 write 7 1 # line 3\n1 read 7 1\n",
+        printed: b"{\"race\":{\"variable\":\"7\",\"first\":{\"line\":1,\"thread\":\"0\",\"kind\":\"write\",\"location\":\"3\"},\"second\":{\"line\":2,\"thread\":\"1\",\"kind\":\"read\",\"location\":null}}}\n{\"races\":1,\"events\":2,\"threads\":2,\"variables\":1,\"locks\":0,\"barriers\":0}\n",
+        end: Ok(3),
+    },
+    Row {
+        name: "sure races in groups, as objects",
+        form: Form::Std,
+        asked: SURE_OBJECTS_BY_GROUP,
+        trace: b"T1|w(x)|a\nT1|w(f)|b\nT2|r(f)|c\nT2|r(x)|d\n",
+        printed: b"{\"races\":{\"first\":{\"location\":\"b\",\"kind\":\"write\"},\"second\":{\"location\":\"c\",\"kind\":\"read\"},\"count\":1,\"variable\":\"f\",\"lines\":[2,3]}}\n{\"races\":1,\"events\":4,\"threads\":2,\"variables\":2,\"locks\":0,\"barriers\":0}\n",
         end: Ok(3),
     },
     Row {

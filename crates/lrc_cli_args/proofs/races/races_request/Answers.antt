@@ -44,6 +44,7 @@ returns-clause-ok c =
         form = form_is;
         group = c.is_named.ensures;
         sure = c.is_named-2.ensures;
+        json = c.is_named-3.ensures;
         plainly = sym (raw_values-rows (found_of c.args.options.now) (codes "witness")) ∙ sym c.get_strs.ensures
             ∙ ap (option_map (λ s. map (λ text. text.now) s.now)) c.in_default.is;
       },

@@ -5,18 +5,20 @@ use Rattle.lrc_cli_words.proofs.commands.races_command.Goals as goal
 
 pub returns-clause-app : goal.returns-clause-app
 returns-clause-app c =
-    let about_is : app_of c.about-command.result ≡ new_app (codes "races") = ap app_of_fields c.about-command.ensures ∙ c.new.ensures.app in
+    let about_is : app_of c.after_help-command.result ≡ new_app (codes "races") = ap app_of_fields c.after_help-command.ensures ∙ ap app_of_fields c.about.ensures ∙ c.new.ensures.app in
     let one = c.taking-command.ensures.app (new_app (codes "races")) _ c.file.ensures.local c.file.ensures.rule about_is in
     let two = c.taking-command-2.ensures.app _ _ c.trace_form.ensures.local c.trace_form.ensures.rule one in
     let three = c.taking-command-3.ensures.app _ _ c.flag_option.ensures.local c.flag_option.ensures.rule two in
     let four = c.taking-command-4.ensures.app _ _ c.flag_option-2.ensures.local c.flag_option-2.ensures.rule three in
-    c.taking.ensures.app _ _ c.line_pair.ensures.local c.line_pair.ensures.rule four
+    let five = c.taking-command-5.ensures.app _ _ c.flag_option-3.ensures.local c.flag_option-3.ensures.rule four in
+    c.taking.ensures.app _ _ c.line_pair.ensures.local c.line_pair.ensures.rule five
 
 pub returns-clause-local : goal.returns-clause-local
 returns-clause-local c =
-    let about_is = ap (λ f. f.has_globals) c.about-command.ensures ∙ c.new.ensures.local in
+    let about_is = ap (λ f. f.has_globals) c.after_help-command.ensures ∙ ap (λ f. f.has_globals) c.about.ensures ∙ c.new.ensures.local in
     let one = c.taking-command.ensures.local c.file.ensures.local about_is in
     let two = c.taking-command-2.ensures.local c.trace_form.ensures.local one in
     let three = c.taking-command-3.ensures.local c.flag_option.ensures.local two in
     let four = c.taking-command-4.ensures.local c.flag_option-2.ensures.local three in
-    c.taking.ensures.local c.line_pair.ensures.local four
+    let five = c.taking-command-5.ensures.local c.flag_option-3.ensures.local four in
+    c.taking.ensures.local c.line_pair.ensures.local five

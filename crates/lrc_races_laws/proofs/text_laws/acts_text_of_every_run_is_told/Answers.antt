@@ -12,7 +12,7 @@ returns-clause-read c = λ program nodes acts lines parts rest said is cut.
     parts rest said cut
 
 pub returns-clause-told : goal.returns-clause-told
-returns-clause-told c = λ program nodes acts lines group status told is ends. acts_told program nodes acts lines is group status told ends
+returns-clause-told c = λ program nodes acts lines group layout status told is ends. acts_told program nodes acts lines is group layout status told ends
 
 pub returns-clause-good : goal.returns-clause-good
 returns-clause-good c = λ program nodes acts lines front more asked line told is e bad.

@@ -10,8 +10,8 @@ pub returns-clause-read : goal.returns-clause-read
 returns-clause-read c = λ program nodes acts lines parts rest said is short cut. rapid_said program nodes acts lines is short parts rest said cut
 
 pub returns-clause-told : goal.returns-clause-told
-returns-clause-told c = λ program nodes acts lines group status told is short ends.
-    rapid_told program nodes acts lines is short group status told ends
+returns-clause-told c = λ program nodes acts lines group layout status told is short ends.
+    rapid_told program nodes acts lines is short group layout status told ends
 
 pub returns-clause-good : goal.returns-clause-good
 returns-clause-good c = λ program nodes acts lines front more asked line told is short e bad.

@@ -1,10 +1,11 @@
-use Rattle.std.proofs.Common.{Bool, ap}
+use Rattle.std.proofs.Common.{Bool, ap₂}
 use Rattle.lrc_races_text.specs.declared.asked.Asked.{Asked}
+use Rattle.lrc_races_text.specs.declared.asked.Layout.{Layout}
 use Rattle.lrc_races_text.specs.declared.asked.Sought.{Sought}
 use Rattle.lrc_shell.proofs.races.asked_of.Goals as goal
 
-abbrev made : Bool → Sought → Asked
-made group sought = record { sought = sought; group = group }
+abbrev made : Bool → Sought → Layout → Asked
+made group sought layout = record { sought = sought; group = group; layout = layout }
 
 pub returns : goal.returns
-returns c = ap (made c.args.racing.now.group) c.sought_of.ensures
+returns c = ap₂ (made c.args.racing.now.group) c.sought_of.ensures c.layout_of.ensures
