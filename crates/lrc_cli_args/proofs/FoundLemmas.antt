@@ -146,6 +146,11 @@ module _ (found : Option (Text × List Row)) (rows : List Row) (held : option_ma
   pub chart_rows : option_map (λ p. p.0) found ≡ Some (codes "chart") → IsChartTaken rows
   chart_rows named = named_rows found (codes "chart") rows named held (inr (inr (inr taken)))
 
+-- the rows of the command that looks for races
+pub races_rows : (found : Option (Text × List Row)) (rows : List Row) → option_map (λ p. p.1) found ≡ Some rows → IsRequestTaken found
+    → option_map (λ p. p.0) found ≡ Some (codes "races") → IsRacesTaken rows
+races_rows found rows held taken named = named_rows found (codes "races") rows named held taken
+
 -- a command that shows something of a run is one of all commands
 pub show_taken : (found : Option (Text × List Row)) → IsSomeAnd found IsShowTaken → IsCommandTaken found
 show_taken None shows = absurd shows

@@ -1,10 +1,11 @@
-use Rattle.std.proofs.Common.{◌≡◌, rules, Option, None, Some, Result, Ok, Err, IfErr, IsSomeAnd, List, codes, inl, inr, refl, subst, sym}
+use Rattle.std.proofs.Common.{◌≡◌, ◌∙◌, rules, Option, None, Some, Result, Ok, Err, IfErr, IsSomeAnd, List, codes, inl, inr, refl, subst, sym}
 use Rattle.clap.specs.Words.{Row, Text, found_of, rows_of, subcommand_rows_of}
+use Rattle.clap.specs.declared.parser.matches.ArgMatches.TheViews.{out-ArgMatches}
 use Rattle.lrc_cli_args.specs.CommandLine.{HasAnswerMisfit, HasRequestMisfit}
 use Rattle.lrc_cli_args.specs.declared.choice.Request.{Request}
 use Rattle.lrc_cli_args.specs.declared.misfit.Misfit.{Misfit}
 use Rattle.lrc_cli_args.specs.Options.{HasRacesMisfit}
-use Rattle.lrc_cli_args.proofs.FoundLemmas.{misfit_up}
+use Rattle.lrc_cli_args.proofs.FoundLemmas.{misfit_up, name_before, races_rows}
 use Rattle.lrc_cli_args.proofs.command_line.request_from.Goals as goal
 
 -- what does not fit in an answer does not fit
@@ -30,3 +31,9 @@ pub returns-in-Some-subcommand_matches-clause-err : goal.returns-in-Some-subcomm
 returns-in-Some-subcommand_matches-clause-err c =
     of_races (subcommand_rows_of c.args.matches.now) (rows_of (found_of c.in-Some-subcommand_matches.options.now)) c.races_request.result
     (search rules) c.races_request.ensures.err
+
+pub races_request-requires : goal.races_request-requires
+races_request-requires c =
+    races_rows (subcommand_rows_of c.args.matches.now) (rows_of (found_of c.in-Some-subcommand_matches.options.now))
+    c.in-Some-subcommand_matches.ensures.rows c.requires
+    (name_before (out-ArgMatches c.args.matches.now).subcommand ∙ c.in-Some-subcommand_matches.ensures.found.0 refl)
