@@ -13,6 +13,12 @@ use Rattle.lrc_named_constants.specs.Layout.{HaveSizes, no_size, one_size, Decla
 use Rattle.lrc_named_constants.specs.Layout.{Declares, a_node_count, shared_items, locks, a_function}
 use Rattle.lrc_named_constants.specs.Layout as layout
 
+same_parameters : (m : Option Meaning) (ps qs : List Named) (one other : Expression) → m ≡ Some (Meaning.function ps one) → m ≡ Some (Meaning.function qs other) → qs ≡ ps
+same_parameters m ps qs one other e f = cc
+
+same_body : (m : Option Meaning) (ps qs : List Named) (one other : Expression) → m ≡ Some (Meaning.function ps one) → m ≡ Some (Meaning.function qs other) → other ≡ one
+same_body m ps qs one other e f = cc
+
 mutual
   pub one_constancy : {declared : List Declared} {known : List Known} {e : Expression} {v w : Constancy}
       → IsConstancy declared known e v → IsConstancy declared known e w → v ≡ w
@@ -35,7 +41,16 @@ mutual
   one_constancy (a_shared_item e h) (a_private_name f g) = refl
   one_constancy (a_shared_item e h) (a_constant f g) = cc
   one_constancy (a_shared_item e h) (a_shared_item f g) = refl
-  one_constancy {declared = d} (a_call {named = named} e arguments inside) (a_call f others body) = called_alike d named e f arguments others inside body
+  one_constancy {declared = d} (a_call {named = named} {parameters = ps} {body = one} {ws = vs} {w = v} e arguments inside)
+      (a_call {parameters = qs} {body = other} {ws = ws} {w = w} f others body) =
+      let p : qs ≡ ps = same_parameters (meaning_of d named.bytes) ps qs one other e f in
+      let b : other ≡ one = same_body (meaning_of d named.bytes) ps qs one other e f in
+      let l : ws ≡ vs = sym (constancies_alike arguments others) in
+      let k : bound qs ws ≡ bound ps vs = ap (λ z. bound z ws) p ∙ ap (λ z. bound ps z) l in
+      let same : IsConstancy d (bound ps vs) other w = subst (λ z. IsConstancy d z other w) k body in
+      let whole : IsConstancy d (bound ps vs) one w = subst (λ z. IsConstancy d (bound ps vs) z w) b same in
+      let last : v ≡ w = one_constancy inside whole in
+      ap (λ z. called z v) (sym l) ∙ ap (λ z. called ws z) last
   one_constancy (parentheses e) (parentheses f) = one_constancy e f
   one_constancy (a_negation e) (a_negation f) = ap negated (one_constancy e f)
   one_constancy (a_binary {o = o} {wl = x} {wr = y} l r) (a_binary {wl = z} {wr = u} m s) =
@@ -44,20 +59,6 @@ mutual
       ap (λ w. both_of w y) (one_constancy l m) ∙ ap (λ w. both_of z w) (one_constancy r s)
   one_constancy (either {wl = x} {wr = y} l r) (either {wl = z} {wr = u} m s) =
       ap (λ w. either_of w y) (one_constancy l m) ∙ ap (λ w. either_of z w) (one_constancy r s)
-
-  called_alike : (declared : List Declared) (named : Named) {known : List Known} {arguments : Expressions} {ps qs : List Named} {one other : Expression}
-      {vs ws : List Constancy} {v w : Constancy} → meaning_of declared named.bytes ≡ Some (Meaning.function ps one) → meaning_of declared named.bytes ≡ Some (Meaning.function qs other)
-      → AreConstancies declared known arguments vs → AreConstancies declared known arguments ws
-      → IsConstancy declared (bound ps vs) one v → IsConstancy declared (bound qs ws) other w → called vs v ≡ called ws w
-  called_alike declared named {ps = ps} {qs = qs} {one = one} {other = other} {vs = vs} {ws = ws} {v = v} {w = w} e f xs ys x y =
-      let p : qs ≡ ps = cc in
-      let b : other ≡ one = cc in
-      let l : ws ≡ vs = sym (constancies_alike xs ys) in
-      let k : bound qs ws ≡ bound ps vs = ap (λ z. bound z ws) p ∙ ap (λ z. bound ps z) l in
-      let same : IsConstancy declared (bound ps vs) other w = subst (λ z. IsConstancy declared z other w) k y in
-      let whole : IsConstancy declared (bound ps vs) one w = subst (λ z. IsConstancy declared (bound ps vs) z w) b same in
-      let last : v ≡ w = one_constancy x whole in
-      ap (λ z. called z v) (sym l) ∙ ap (λ z. called ws z) last
 
   constancies_alike : {declared : List Declared} {known : List Known} {es : Expressions} {vs ws : List Constancy}
       → AreConstancies declared known es vs → AreConstancies declared known es ws → vs ≡ ws

@@ -9,7 +9,7 @@ use Rattle.lrc_named_constants.specs.declared.constancy.Constancy.TheVariants.{V
 use Rattle.lrc_named_constants.specs.Combine.{joined, negated, both_of, either_of, called}
 use Rattle.lrc_named_constants.specs.View.{known_of}
 use Rattle.lrc_named_constants.specs.Constant.{IsConstancy, a_number, me, nodes, a_call, parentheses, a_negation, a_binary, both, either}
-use Rattle.lrc_named_constants.specs.Constant.{AreConstancies, no_expression, bound, known_as, names_of}
+use Rattle.lrc_named_constants.specs.Constant.{AreConstancies, no_expression, bound, names_of}
 use Rattle.lrc_named_constants.specs.Well.{IsWell, AreWell, Takes, bytes_of, count}
 use Rattle.lrc_named_constants.proofs.Among.{function_takes, length_of_constancies, names_of-bound, takes_all}
 use Rattle.lrc_named_constants.proofs.Each.{constancies_step, element_is, smaller_at, well_at}
