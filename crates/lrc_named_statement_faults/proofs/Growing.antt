@@ -4,12 +4,12 @@ use Rattle.std.specs.Prelude.{Result, Ok, Err, OnOk}
 use Rattle.std.proofs.Math.Seq.{take-suc}
 
 -- one of the items, seen so
+seen_last : {A B : Type 0} (f : A → B) (old : List A) (x : A) → map f (old ++ x ∷ []) ≡ map f old ++ f x ∷ []
+seen_last f [] x = refl
+seen_last f (y ∷ ys) x = ap (λ l. f y ∷ l) (seen_last f ys x)
+
 pub seen_push : {A B : Type 0} (f : A → B) (old new : List A) (x : A) → new ≡ old ++ x ∷ [] → map f new ≡ map f old ++ f x ∷ []
 seen_push f old new x grown = ap (map f) grown ∙ seen_last f old x
-  where
-    seen_last : {A B : Type 0} (f : A → B) (old : List A) (x : A) → map f (old ++ x ∷ []) ≡ map f old ++ f x ∷ []
-    seen_last f [] x = refl
-    seen_last f (y ∷ ys) x = ap (λ l. f y ∷ l) (seen_last f ys x)
 
 -- a list that has a piece for each item
 pub record IsPieced {A B : Type 0} (f : List A → List B) (g : A → List B) : Type 0 where

@@ -1,6 +1,6 @@
 // The names of statements, and those that are private.
 
-ghost use Rattle.std.specs.Prelude.{◌≡◌, ◌++◌, [], ◌∷◌, IfOk, OnOk, map};
+ghost use Rattle.std.specs.Prelude.{◌≡◌, ◌++◌, [], ◌∷◌, ◌&&◌, ◌==◌, not, IfOk, OnOk, if◌then◌else◌, length, map};
 ghost use Rattle.lrc_named_tree.specs.View.{expression_of, expressions_of, named_of};
 ghost use Rattle.lrc_named_expression_faults.specs.Fault.{IsFirstOf};
 ghost use Rattle.lrc_named_expression_faults.specs.Scope.{sense_of};
@@ -142,6 +142,22 @@ fn is_private(scope: &Scope<'_, '_>, name: &[u8]) -> bool
     }
 }
 
+// Adds a name, if it is private.
+fn push_private<'p>(
+    scope: &Scope<'_, 'p>,
+    all: &mut Vec<Name<'p>>,
+    name: Name<'p>,
+) -> Result<(), AllocError>
+    ensures { OnOk result (map named_of all.new.items
+        ≡ map named_of all.old.items ++ private_names (scope_of scope.now) (named_of name.entry ∷ [])) }
+{
+    if is_private(scope, name.bytes) {
+        push(all, name)
+    } else {
+        Ok(())
+    }
+}
+
 // Those of the names that are private.
 fn private_ones<'p>(scope: &Scope<'_, 'p>, names: &[Name<'p>]) -> Result<Vec<Name<'p>>, AllocError>
     ensures { IfOk result (λ all. map named_of all.items
@@ -149,12 +165,31 @@ fn private_ones<'p>(scope: &Scope<'_, 'p>, names: &[Name<'p>]) -> Result<Vec<Nam
 {
     let mut all = Vec::new(scope.alloc);
     for name in names {
-        let is = is_private(scope, name.bytes);
-        if is {
-            all.push(*name)?;
-        }
+        push_private(scope, &mut all, *name)?;
     }
     Ok(all)
+}
+
+// How many names these are.
+fn count_of(names: &[Name<'_>]) -> usize
+    ensures { result ≡ length names.now }
+{
+    names.len()
+}
+
+// Whether a name is one too many, where so many stand before it.
+fn is_over(known: bool, before: usize) -> bool
+    ensures { result ≡ (not known && (before == 32)) }
+{
+    !known && before == 32
+}
+
+// Adds a name, unless it is known.
+fn push_unless<'p>(names: &mut Vec<Name<'p>>, name: Name<'p>, known: bool) -> Result<(), AllocError>
+    ensures { OnOk result (map named_of names.new.items
+        ≡ map named_of names.old.items ++ (if known then [] else named_of name.entry ∷ [])) }
+{
+    if known { Ok(()) } else { push(names, name) }
 }
 
 // The fault of the 33rd different one of these names, if there are so many.
@@ -163,12 +198,11 @@ fn one_too_many(alloc: Global, names: &[Name<'_>]) -> Result<Option<Fault>, Allo
 {
     let mut seen = Vec::new(alloc);
     for name in names {
-        if !is_one_of(&seen, name.bytes) {
-            if seen.len() == 32 {
-                return Ok(Some(Fault::at_token(name.at, FaultKind::TooManyNames)));
-            }
-            seen.push(*name)?;
+        let known = is_one_of(&seen, name.bytes);
+        if is_over(known, count_of(&seen)) {
+            return Ok(Some(Fault::at_token(name.at, FaultKind::TooManyNames)));
         }
+        push_unless(&mut seen, *name, known)?;
     }
     Ok(None)
 }

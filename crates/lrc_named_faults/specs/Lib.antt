@@ -1,0 +1,2 @@
+pub mod Declarations
+pub mod Program
