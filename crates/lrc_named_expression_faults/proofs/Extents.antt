@@ -134,7 +134,7 @@ call_extent d ps named arguments close own body inside deep joined x is all one 
       ];
       varies_only = λ h. v ∙ jv ∙ elim (call_varies h) [
         | inl g ↦ or_left inside.varies deep.varies (all.varies_only g)
-        | inr g ↦ or_right inside.varies deep.varies (one.varies_only (body_alike d named own g.0 body g.1 is g.2.0 g.2.1))
+        | inr g ↦ or_right inside.varies deep.varies (one.varies_only (body_alike d named own g.0 body g.1 is g.2 g.3))
       ];
       count = 1 + (all.count + one.count);
       weighs = a_call all.weigh is one.weighs;

@@ -70,13 +70,13 @@ pub beyond_not : (IsInside : Fault → Type 0) (scope : Scope) (e : Expression) 
     → value < size → IsFirstOf (λ f. IsBeyond IsInside scope e size f) None
 beyond_not IsInside scope e size value is under =
     when_not (IsNone IsInside × ((v : ℕ) × IsConstancy scope.declared scope.known e (Value v) × (size ≤ v))) (fault_at (first_of e) IndexOutOfRange)
-    (λ h. let same : h.1.0 ≡ value = value_alike (one_constancy h.1.1.0 is) in let over : size ≤ h.1.0 = h.1.1.1 in omega arith)
+    (λ h. let same : h.1.0 ≡ value = value_alike (one_constancy h.1.1 is) in let over : size ≤ h.1.0 = h.1.2 in omega arith)
 
 pub beyond_none : (IsInside : Fault → Type 0) (scope : Scope) (e : Expression) (size : ℕ) → IsValueOf scope e None
     → IsFirstOf (λ f. IsBeyond IsInside scope e size f) None
 beyond_none IsInside scope e size no =
     when_not (IsNone IsInside × ((v : ℕ) × IsConstancy scope.declared scope.known e (Value v) × (size ≤ v))) (fault_at (first_of e) IndexOutOfRange)
-    (λ h. no h.1.0 h.1.1.0)
+    (λ h. no h.1.0 h.1.1)
 
 -- a number of indices, wrong and right
 pub wrong_first : (named : Named) (indices : Expressions) (sizes : List ℕ) (token : ℕ) → Some token ≡ miscounted named.at indices sizes
@@ -84,12 +84,12 @@ pub wrong_first : (named : Named) (indices : Expressions) (sizes : List ℕ) (to
 wrong_first named indices sizes token is =
     same_first (λ f. f ≡ fault_at token WrongIndices) (λ f. AreWrongIndices named indices sizes f) (Some (fault_at token WrongIndices))
     (λ f e. (token, sym is, e))
-    (λ f h. let t : h.0 ≡ token = cc in h.1.1 ∙ ap (λ n. fault_at n WrongIndices) t)
+    (λ f h. let e = h.1 in let t : h.0 ≡ token = cc in h.2 ∙ ap (λ n. fault_at n WrongIndices) t)
     (one_first (fault_at token WrongIndices))
 
 pub right_first : (named : Named) (indices : Expressions) (sizes : List ℕ) → None ≡ miscounted named.at indices sizes
     → IsFirstOf (λ f. AreWrongIndices named indices sizes f) None
-right_first named indices sizes is = λ f h. absurd (cc)
+right_first named indices sizes is = λ f h. let e = h.1 in absurd (cc)
 
 -- a number of arguments, wrong and right
 pub wrong_call_first : (arguments : Expressions) (close wanted token : ℕ) → Some token ≡ miscalled close arguments wanted
@@ -97,12 +97,12 @@ pub wrong_call_first : (arguments : Expressions) (close wanted token : ℕ) → 
 wrong_call_first arguments close wanted token is =
     same_first (λ f. f ≡ fault_at token WrongArguments) (λ f. AreWrongArguments arguments close wanted f) (Some (fault_at token WrongArguments))
     (λ f e. (token, sym is, e))
-    (λ f h. let t : h.0 ≡ token = cc in h.1.1 ∙ ap (λ n. fault_at n WrongArguments) t)
+    (λ f h. let e = h.1 in let t : h.0 ≡ token = cc in h.2 ∙ ap (λ n. fault_at n WrongArguments) t)
     (one_first (fault_at token WrongArguments))
 
 pub right_call_first : (arguments : Expressions) (close wanted : ℕ) → None ≡ miscalled close arguments wanted
     → IsFirstOf (λ f. AreWrongArguments arguments close wanted f) None
-right_call_first arguments close wanted is = λ f h. absurd (cc)
+right_call_first arguments close wanted is = λ f h. let e = h.1 in absurd (cc)
 
 pub indexed_not : (xs : List code_expression.Expression) (named : Named) → length xs ≡ 0
     → IsFirstOf (λ f. AreSome (expressions_of xs) × IsWrongUse named f) None

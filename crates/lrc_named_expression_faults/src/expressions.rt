@@ -165,7 +165,7 @@ impl<'p> Scope<'_, 'p> {
             → meaning_of (declared_of self.now.names.now) name.entry.bytes.now ≡ Some (function own body)
             → IsFirstOf (λ f. ((self.now.is_constant ≡ true)
             × Varies (before (declared_of self.now.names.now) name.entry.bytes.now) (bytes_of own) body)
-            × (f ≡ fault_at name.at NotConstant)) result }
+            × (f ≡ fault_at name.entry.at NotConstant)) result }
     {
         if self.is_constant {
             let body = self.body_extent(name.bytes);

@@ -38,7 +38,7 @@ IsInName table others named fault =
 -- parameters, in front of which these names stand
 abbrev pub IsInParameters : List Declared → List (List ℕ) → List Named → Fault → Type 0
 IsInParameters table before [] fault = ⊥
-IsInParameters table before (named ∷ others) fault = IsInName table before named fault ⊎ IsInParameters table (named.bytes ∷ before) others fault
+IsInParameters table before (named ∷ others) fault = IsInName table before named fault ⊎ IsInParameters table (before ++ named.bytes ∷ []) others fault
 
 -- ---- constants, sizes and bodies
 

@@ -94,8 +94,8 @@ up_to_it front back named new all =
 pub none_too_many : (names : List Named) → different (bytes_of names) ≤ 32 → IsFirstOf (λ f. IsOneTooMany names f) None
 none_too_many names few =
     λ f h.
-    let e = ap (λ l. different (bytes_of l)) h.1.1.1.0.0 in
-    let many = up_to_it h.0 h.1.1.0 h.1.0 h.1.1.1.0.1.0 h.1.1.1.0.1.1 in
+    let e = ap (λ l. different (bytes_of l)) h.3.0 in
+    let many = up_to_it h.0 h.2 h.1 h.3.1 h.3.2 in
     absurd (omega (arith, e, many, few))
 
 -- two places in a list: the same, or one in front of the other
@@ -120,15 +120,15 @@ pub this_too_many : (names front back : List Named) (named : Named) → names �
 this_too_many names front back named is new all = (
   (front, named, back, ((is, new, all), refl)),
   λ g h.
-      let e = h.1.1.1.0.0 in
-      let same : named ≡ h.1.0 = elim (two_places front h.0 back h.1.1.0 named h.1.0 (sym is ∙ e)) [
+      let e = h.3.0 in
+      let same : named ≡ h.1 = elim (two_places front h.0 back h.2 named h.1 (sym is ∙ e)) [
         | inl s ↦ s
         | inr other ↦ elim other [
-          | inl m ↦ let many = up_to_it front m.0 named new all in let k = ap (λ l. different (bytes_of l)) m.1 in let other_all = h.1.1.1.0.1.1 in absurd (omega (arith, many, k, other_all))
-          | inr m ↦ let many = up_to_it h.0 m.0 h.1.0 h.1.1.1.0.1.0 h.1.1.1.0.1.1 in let k = ap (λ l. different (bytes_of l)) m.1 in absurd (omega (arith, many, k, all))
+          | inl m ↦ let many = up_to_it front m.0 named new all in let k = ap (λ l. different (bytes_of l)) m.1 in let other_all = h.3.2 in absurd (omega (arith, many, k, other_all))
+          | inr m ↦ let many = up_to_it h.0 m.0 h.1 h.3.1 h.3.2 in let k = ap (λ l. different (bytes_of l)) m.1 in absurd (omega (arith, many, k, all))
         ]
       ] in
-      subst (λ x. ComesFirst (fault_at named.at TooManyNames) x) (sym (h.1.1.1.1 ∙ ap (λ (n : Named). fault_at n.at TooManyNames) (sym same)))
+      subst (λ x. ComesFirst (fault_at named.at TooManyNames) x) (sym (h.4 ∙ ap (λ (n : Named). fault_at n.at TooManyNames) (sym same)))
       (first_same (fault_at named.at TooManyNames)),
 )
 

@@ -7,4 +7,4 @@ pub mod parts;
 mod privates;
 mod statements;
 
-pub use statements::first_fault;
+pub use statements::{first_fault, reserved};

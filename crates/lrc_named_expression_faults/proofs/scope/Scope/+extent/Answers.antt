@@ -61,11 +61,11 @@ extent-returns-in-Call t c =
     let e : expression_of c.args.expression.now ≡ call named es c.in-Call.field-2 =
     ap expression_of c.in-Call.is ∙ ap (λ l. call named l c.in-Call.field-2) (row_of_hidden c.in-Call.arguments ∙ ap expressions_of (sym c.deref-in-Call.ensures.value)) in
     let well : IsWell d ps (length d) (call named es c.in-Call.field-2) = subst (λ x. IsWell d ps (length d) x) e c.requires.well in
-    let f = called_function (meaning_of d named.bytes) (count es) well.1.0 in
-    let body = c.body_extent-body.ensures f.0 f.1.0 f.1.1 in
+    let f = called_function (meaning_of d named.bytes) (count es) well.1 in
+    let body = c.body_extent-body.ensures f.0 f.1 f.2 in
     subst (λ x. IsExtent d ps x c.and_one.result) (sym e)
-    (call_extent d ps named es c.in-Call.field-2 f.0 f.1.0 c.extent_of_all-inside-in-Call.result c.body_extent-body.result c.and-in-Call.result c.and_one.result
-    f.1.1 c.extent_of_all-inside-in-Call.ensures body.1 body.0 c.and-in-Call.ensures.varies c.and-in-Call.ensures.weight c.and_one.ensures.varies c.and_one.ensures.weight)
+    (call_extent d ps named es c.in-Call.field-2 f.0 f.1 c.extent_of_all-inside-in-Call.result c.body_extent-body.result c.and-in-Call.result c.and_one.result
+    f.2 c.extent_of_all-inside-in-Call.ensures body.1 body.0 c.and-in-Call.ensures.varies c.and-in-Call.ensures.weight c.and_one.ensures.varies c.and_one.ensures.weight)
 
 pub extent-returns-in-Group : goal.extent-returns-in-Group
 extent-returns-in-Group t c =

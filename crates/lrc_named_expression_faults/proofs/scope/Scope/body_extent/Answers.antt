@@ -15,7 +15,7 @@ returns-in-Some c =
     let h = c.requires (place_of declared c.args.name.now) own body means in
     let found = c.in-Some.ensures ∙ ap (λ n. slice_get c.args.self.now.extents.now n) c.place.ensures in
     same_extent (before declared c.args.name.now) (bytes_of own) body h.0 c.in-Some.extent
-    (same_there (slice_get c.args.self.now.extents.now (place_of declared c.args.name.now)) h.0 c.in-Some.extent h.1.0 found) h.1.1.0 h.1.1.1
+    (same_there (slice_get c.args.self.now.extents.now (place_of declared c.args.name.now)) h.0 c.in-Some.extent h.1 found) h.2 h.3
 
 pub returns-in-None : goal.returns-in-None
 returns-in-None c =
@@ -23,4 +23,4 @@ returns-in-None c =
     let declared = declared_of c.args.self.now.names.now in
     let h = c.requires (place_of declared c.args.name.now) own body means in
     let found = c.in-None.ensures ∙ ap (λ n. slice_get c.args.self.now.extents.now n) c.place.ensures in
-    absurd (nothing_there (slice_get c.args.self.now.extents.now (place_of declared c.args.name.now)) h.0 h.1.0 found)
+    absurd (nothing_there (slice_get c.args.self.now.extents.now (place_of declared c.args.name.now)) h.0 h.1 found)
