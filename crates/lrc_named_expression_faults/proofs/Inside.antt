@@ -74,9 +74,9 @@ beyond_not IsInside scope e size value is under =
 
 pub beyond_none : (IsInside : Fault → Type 0) (scope : Scope) (e : Expression) (size : ℕ) → IsValueOf scope e None
     → IsFirstOf (λ f. IsBeyond IsInside scope e size f) None
-beyond_none IsInside scope e size no =
+beyond_none IsInside scope e size nothing =
     when_not (IsNone IsInside × ((v : ℕ) × IsConstancy scope.declared scope.known e (Value v) × (size ≤ v))) (fault_at (first_of e) IndexOutOfRange)
-    (λ h. no h.1.0 h.1.1)
+    (λ h. nothing h.1.0 h.1.1)
 
 -- a number of indices, wrong and right
 pub wrong_first : (named : Named) (indices : Expressions) (sizes : List ℕ) (token : ℕ) → Some token ≡ miscounted named.at indices sizes

@@ -1,10 +1,10 @@
 -- The code's statements as the definitions see them: those in a tree are those of its lists.
 use Rattle.std.proofs.Common.{◌≡◌, List, [], ◌∷◌, ◌++◌, Vec, refl, sym, ap, ◌∙◌, append_assoc, append-nil}
 use Rattle.std.specs.declared.alloc.Global.{Global}
-use Rattle.lrc_named_tree.specs.declared.tree.Arm.{Arm, Arm'}
+use Rattle.lrc_named_tree.specs.declared.tree.Arm.{Arm}
 use Rattle.lrc_named_tree.specs.declared.tree.Expression as code_expression
 use Rattle.lrc_named_tree.specs.declared.tree.Statement.{Statement, Row_of-Statement, end_of-Statement, more_of-Statement, Row_of-Arm, end_of-Arm, more_of-Arm}
-use Rattle.lrc_named_tree.specs.declared.tree.Statement.{items-the_row-Statement, items_hidden-the_row-Statement-0, items-the_row-Arm, items_hidden-the_row-Arm-1}
+use Rattle.lrc_named_tree.specs.declared.tree.Statement.{items-the_row-Statement, items_hidden-the_row-Statement-0, items_shown-the_row-Statement-0, items-the_row-Arm, items_hidden-the_row-Arm-1}
 use Rattle.lrc_named_tree.specs.declared.tree.Statement.TheBlock.{hidden-the_row-Statement-0, hidden-the_row-Arm-1}
 use Rattle.lrc_named_tree.specs.Tree.{Arms, Block, next, arm, no_arm}
 use Rattle.lrc_named_tree.specs.View.{arm_row, block_of, block_row, expression_of, expressions_of, statement_of}
@@ -21,7 +21,9 @@ block_row_hidden v = block_row_is (hidden-the_row-Statement-0 v) ∙ ap block_of
 
 arm_row_is : {m : _} (row : Row_of-Arm m) → arm_row row ≡ arms_of (items-the_row-Arm m row)
 arm_row_is end_of-Arm = refl
-arm_row_is (more_of-Arm at condition p row rest) = ap (λ l. arm at (expression_of condition) (block_row row) l) (arm_row_is rest)
+arm_row_is (more_of-Arm at condition p row rest) =
+    ap (λ b. arm at (expression_of condition) b (arm_row rest)) (block_row_is row ∙ ap block_of (sym (items_shown-the_row-Statement-0 p row)))
+    ∙ ap (λ l. arm at (expression_of condition) _ l) (arm_row_is rest)
 
 -- each `else if` of a statement
 pub arm_row_hidden : (v : Vec Arm Global) → arm_row (hidden-the_row-Arm-1 v) ≡ arms_of v.items
@@ -34,8 +36,8 @@ pub blocks_pieced : IsPieced (λ (xs : List Statement). parts_of_block (block_of
 blocks_pieced = record { nothing = refl; next = λ x xs. refl }
 
 arm_and_others : (x : Arm) (others : Arms) → parts_of_arms (with_arm x others) ≡ parts_of_arms (with_arm x no_arm) ++ parts_of_arms others
-arm_and_others (Arm' at condition p row) others =
-    ap (λ l. value (expression_of condition) ∷ (l ++ parts_of_arms others)) (sym (append-nil (parts_of_block (block_row row))))
+arm_and_others a others =
+    ap (λ l. value (expression_of a.condition) ∷ (l ++ parts_of_arms others)) (sym (append-nil (parts_of_block (block_of a.block.items))))
 
 pub arms_pieced : IsPieced (λ (xs : List Arm). parts_of_arms (arms_of xs)) (λ x. parts_of_arms (with_arm x no_arm))
 arms_pieced = record { nothing = refl; next = λ x xs. arm_and_others x (arms_of xs) }

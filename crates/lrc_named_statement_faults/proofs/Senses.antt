@@ -1,6 +1,6 @@
 -- The faults of a name, by what it means, and the first faults of parts.
 use Rattle.std.proofs.Common.{◌≡◌, ◌≤◌, ◌⊎◌, inl, inr, ℕ, suc, Bool, true, false, List, [], ◌∷◌, map, length, drop, get_or, refl, sym, ap, subst, ◌∙◌, arith}
-use Rattle.std.specs.Prelude.{Option, Some, None}
+use Rattle.std.specs.Prelude.{Option, Some, None, slice_get, ◌==◌}
 use Rattle.std.proofs.Math.Seq.{drop-cons, drop-length}
 use Rattle.lrc_named_tree.specs.declared.tree.Expression as code_expression
 use Rattle.lrc_named_tree.specs.Tree.{Named, Expressions, Place}
@@ -12,7 +12,7 @@ use Rattle.lrc_named_expression_faults.specs.Scope.{Scope, Sense, lock_sizes, se
 use Rattle.lrc_named_expression_faults.proofs.First.{earlier_first, nothing_first}
 use Rattle.lrc_named_statement_faults.specs.declared.parts.Part as code_part
 use Rattle.lrc_named_statement_faults.specs.Parts.{part_seen, lock_place, target}
-use Rattle.lrc_named_statement_faults.specs.Statements.{IsInCounter, IsInLock, IsInPart, IsInParts, IsInTarget, IsReserved, IsReservedTarget}
+use Rattle.lrc_named_statement_faults.specs.Statements.{IsInCounter, IsInLock, IsInPart, IsInParts, IsInTarget, IsReserved, IsReservedTarget, is_reserved}
 
 pub target_as : (named : Named) (indices : Expressions) (s t : Sense) (found : Option Fault) → s ≡ t
     → IsFirstOf (λ f. IsInTarget t named indices f) found → IsFirstOf (λ f. IsInTarget s named indices f) found
@@ -75,3 +75,12 @@ parts_step scope xs i k d one first found next lt is a b =
     let cut : drop k xs ≡ get_or xs k d ∷ drop i xs = drop-cons xs k d (omega arith) ∙ ap (λ n. get_or xs k d ∷ drop n xs) next in
     subst (λ l. IsFirstOf (λ f. IsInParts scope (map part_seen l) f) found) (sym cut)
     (joined (λ f. IsInPart scope (part_seen (get_or xs k d)) f) (λ f. IsInParts scope (map part_seen (drop i xs)) f) one first found is a b)
+
+-- whether a name begins with `_`
+pub reserved_some : (name : List ℕ) (first : ℕ) → Some first ≡ slice_get name 0 → (first == 95) ≡ is_reserved name
+reserved_some [] first e = absurd (cc)
+reserved_some (b ∷ name) first e = let same : first ≡ b = cc in ap (λ x. x == 95) same
+
+pub reserved_none : (name : List ℕ) → None ≡ slice_get name 0 → false ≡ is_reserved name
+reserved_none [] e = refl
+reserved_none (b ∷ name) e = absurd (cc)

@@ -1,12 +1,11 @@
 -- The parts of statements in which names stand, in the order of the text.
 use Rattle.std.specs.Prelude.{ℕ, List, [], ◌∷◌, ◌++◌, map}
 use Rattle.lrc_named_tree.specs.declared.tree.Arm as code_arm
-use Rattle.lrc_named_tree.specs.declared.tree.Arm.{Arm'}
-use Rattle.lrc_named_tree.specs.View.{block_row, expression_of, named_of, place_of}
+use Rattle.lrc_named_tree.specs.View.{block_of, expression_of, named_of, place_of}
 use Rattle.lrc_named_tree.specs.Tree.{Named, Expression, Expressions, none, more, Place, Statement, Block, Arms, empty, next, no_arm, arm}
 use Rattle.lrc_named_tree.specs.Tree.{assign, acquire, release, with_do, barrier, print, assert, if_else, while_do, for_do}
-use Rattle.lrc_named_expression_faults.specs.declared.parts.Part as code_part
-use Rattle.lrc_named_expression_faults.specs.declared.parts.Part.TheVariants.{Target, Lock, Counter, Value}
+use Rattle.lrc_named_statement_faults.specs.declared.parts.Part as code_part
+use Rattle.lrc_named_statement_faults.specs.declared.parts.Part.TheVariants.{Target, Lock, Counter, Value}
 
 -- a place that is set, a lock behind `acquire`, `release` or `with`, a name behind `for`, or an expression
 pub data Part : Type 0 where
@@ -49,7 +48,7 @@ abbrev mutual
 
 -- each `else if` of the code
 abbrev pub with_arm : code_arm.Arm → Arms → Arms
-with_arm (Arm' at condition p row) others = arm at (expression_of condition) (block_row row) others
+with_arm a others = arm a.at (expression_of a.condition) (block_of a.block.items) others
 
 abbrev pub arms_of : List code_arm.Arm → Arms
 arms_of [] = no_arm

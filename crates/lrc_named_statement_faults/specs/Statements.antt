@@ -7,7 +7,7 @@ use Rattle.lrc_named_expression_faults.specs.declared.fault.Fault.{Fault}
 use Rattle.lrc_named_expression_faults.specs.declared.fault.FaultKind.TheVariants.{ReservedName, TooManyNames, UnknownName}
 use Rattle.lrc_named_expression_faults.specs.Expressions.{AreSome, AreWrongIndices, IsInExpression, IsInIndices, IsWrongUse}
 use Rattle.lrc_named_expression_faults.specs.Fault.{fault_at}
-use Rattle.lrc_named_expression_faults.specs.Parts.{Part, target, lock_place, counter, value, parts_of_block}
+use Rattle.lrc_named_statement_faults.specs.Parts.{Part, target, lock_place, counter, value, parts_of_block}
 use Rattle.lrc_named_expression_faults.specs.Scope.{Scope, Sense, parameter, declared, private_name, unknown, lock_sizes, sense_of, shared_sizes}
 
 -- whether a name begins with `_`

@@ -3,7 +3,7 @@
 ghost use Rattle.std.specs.Prelude.{◌≡◌, ◌++◌, OnOk, [], ◌∷◌, map};
 ghost use Rattle.lrc_named_tree.specs.Tree.{no_arm};
 ghost use Rattle.lrc_named_tree.specs.View.{block_of, expressions_of, statement_of};
-ghost use Rattle.lrc_named_expression_faults.specs.Parts.{arms_of, part_seen, parts_of, parts_of_arms, parts_of_block, parts_of_values, with_arm};
+ghost use Rattle.lrc_named_statement_faults.specs.Parts.{arms_of, part_seen, parts_of, parts_of_arms, parts_of_block, parts_of_values, with_arm};
 
 use lrc_named_tree::tree::{Arm, Expression, Name, Place, Statement};
 use std::alloc::AllocError;

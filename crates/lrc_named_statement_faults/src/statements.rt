@@ -1,6 +1,6 @@
 // The faults of statements.
 
-ghost use Rattle.std.specs.Prelude.{◌≡◌, IfOk, map, true};
+ghost use Rattle.std.specs.Prelude.{◌≡◌, IfOk, map, slice_get, true};
 ghost use Rattle.lrc_named_tree.specs.View.{block_of, expressions_of, named_of, place_of};
 ghost use Rattle.lrc_named_names.specs.View.{declared_of};
 ghost use Rattle.lrc_named_constants.specs.Well.{IsSound};
@@ -20,13 +20,20 @@ use lrc_named_names::names::{Meaning, Names};
 use lrc_named_tree::tree::{Expression, Name, Place, Statement};
 use std::alloc::{AllocError, Global};
 
+// The first byte, if there is one.
+fn first_byte(name: &[u8]) -> Option<u8>
+    ensures { result ≡ slice_get name.now 0 }
+{
+    name.first().copied()
+}
+
 /// Returns whether a name begins with `_`.
 pub fn is_reserved(name: &[u8]) -> bool
     ensures { result ≡ is_reserved name.now }
 {
-    match name {
-        [] => false,
-        [first, ..] => *first == b'_',
+    match first_byte(name) {
+        Some(first) => first == b'_',
+        None => false,
     }
 }
 

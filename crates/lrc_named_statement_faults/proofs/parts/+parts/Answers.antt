@@ -1,8 +1,9 @@
 -- The list grows by the parts of each form of a statement.
-use Rattle.std.proofs.Common.{◌≡◌, List, [], ◌∷◌, ◌++◌, map, sym, ap, ◌∙◌}
+use Rattle.std.proofs.Common.{◌≡◌, List, [], ◌∷◌, ◌++◌, append-nil, map, sym, ap, ◌∙◌}
+use Rattle.lrc_named_tree.specs.Tree.{no_arm}
 use Rattle.lrc_named_tree.specs.View.{arm_row, block_of, block_row, expression_of, expressions_of, named_of, place_of, statement_of}
 use Rattle.lrc_named_tree.specs.declared.tree.Statement.TheBlock.{hidden-the_row-Statement-0, hidden-the_row-Arm-1}
-use Rattle.lrc_named_statement_faults.specs.Parts.{arms_of, counter, lock_place, part_seen, parts_of, parts_of_arms, parts_of_block, parts_of_values, target, value}
+use Rattle.lrc_named_statement_faults.specs.Parts.{arms_of, counter, lock_place, part_seen, parts_of, parts_of_arms, parts_of_block, parts_of_values, target, value, with_arm}
 use Rattle.lrc_named_statement_faults.proofs.Growing.{four_pieces, piece_step, two_pieces, well}
 use Rattle.lrc_named_statement_faults.proofs.Rows.{arm_row_hidden, arms_pieced, block_row_hidden, blocks_pieced}
 use Rattle.lrc_named_statement_faults.proofs.parts.+parts.Goals as goal
@@ -132,3 +133,15 @@ push_statement-returns-in_ok-push-in-For-3 t c =
     well (new ≡ three ++ inside) (new ≡ old ++ parts_of (statement_of c.args.statement.now)) c.push_parts-in-For.result
     (λ h. four_pieces old one two three new (a ∷ []) (b ∷ []) (d ∷ []) inside c.in_ok-push-in-For.ensures c.in_ok-push-in-For-2.ensures c.in_ok-push-in-For-3.ensures h
     ∙ ap (λ l. old ++ l) (sym is)) c.push_parts-in-For.ensures
+
+pub push_arm-returns : goal.push_arm-returns
+push_arm-returns t c =
+    let old = map part_seen c.args.parts.now.items in
+    let one = map part_seen c.push.new.parts.items in
+    let new = map part_seen c.push_parts.new.parts.items in
+    let head = value (expression_of c.args.arm.now.condition) in
+    let inside = parts_of_block (block_of c.deref.result.now) in
+    let is : parts_of_arms (with_arm c.args.arm.now no_arm) ≡ head ∷ inside =
+    ap (λ l. head ∷ l) (append-nil (parts_of_block (block_of c.args.arm.now.block.items))) ∙ ap (λ l. head ∷ parts_of_block (block_of l)) (sym c.deref.ensures.value) in
+    well (new ≡ one ++ inside) (new ≡ old ++ parts_of_arms (with_arm c.args.arm.now no_arm)) c.push_parts.result
+    (λ h. two_pieces old one new (head ∷ []) inside c.in_ok-push.ensures h ∙ ap (λ l. old ++ l) (sym is)) c.push_parts.ensures

@@ -12,7 +12,7 @@ returns-in-empty c =
     let old = map named_of c.args.names.now.items in
     let new = map named_of c.push.new.names.items in
     let named = named_of c.in-Target.place.now.name in
-    let none : length c.as_slice.result.now ≡ 0 = search rules in
+    let none : length c.as_slice.result.now ≡ 0 = omega arith in
     let none_there : length c.in-Target.place.now.indices.items ≡ 0 = ap length (sym c.as_slice.ensures.value) ∙ none in
     let is : set_in (part_seen c.args.part) ≡ named ∷ [] = ap (λ p. set_in (part_seen p)) c.in-Target.is ∙ set_without c.in-Target.place.now.indices.items named none_there in
     well (new ≡ old ++ named ∷ []) (new ≡ old ++ set_in (part_seen c.args.part)) c.push.result (λ h. h ∙ ap (λ l. old ++ l) (sym is)) c.push.ensures

@@ -1,9 +1,11 @@
 -- The first fault of each form of an expression is the first one of its parts.
-use Rattle.std.proofs.Common.{◌≡◌, ◌-◌, ◌<◌, ◌≤◌, suc, length, drop, sym, ap, subst, ◌∙◌, arith, refl}
+use Rattle.std.proofs.Common.{◌≡◌, ◌-◌, ◌+◌, ◌<◌, ◌≤◌, suc, length, drop, sym, ap, subst, ◌∙◌, arith, refl}
 use Rattle.std.specs.Prelude.{Some, None, slice_get}
 use Rattle.lrc_named_tree.specs.Tree.{call, element, group, me, negation, nodes, number, binary, both, either}
 use Rattle.lrc_named_tree.specs.View.{expression_of, expressions_of, named_of, row_of}
 use Rattle.lrc_named_tree.specs.declared.tree.Expression.TheBlock.{hidden-the_row-Expression-0}
+use Rattle.lrc_named_constants.proofs.Each.{smaller_at}
+use Rattle.lrc_named_constants.proofs.Measure.{size, sizes}
 use Rattle.lrc_named_constants.proofs.Rows.{row_of_hidden}
 use Rattle.lrc_named_expression_faults.specs.Expressions.{IsInExpression, IsInIndex, IsInIndices}
 use Rattle.lrc_named_expression_faults.specs.Fault.{IsFirstOf}
@@ -11,6 +13,31 @@ use Rattle.lrc_named_expression_faults.specs.View.{scope_of, sense_seen}
 use Rattle.lrc_named_expression_faults.proofs.Inside.{indices_step}
 use Rattle.lrc_named_expression_faults.proofs.Whole.{binary_first, both_first, call_first, either_first, element_first, first_seen, me_first, no_index_left, nodes_first, number_first}
 use Rattle.lrc_named_expression_faults.proofs.scope.Scope.+expression.Goals as goal
+
+pub expression-indices-requires : goal.expression-indices-requires
+expression-indices-requires t c =
+    let e : row_of (hidden-the_row-Expression-0 c.in-Element.indices) ≡ expressions_of c.deref-in-Element.result.now =
+    row_of_hidden c.in-Element.indices ∙ ap expressions_of (sym c.deref-in-Element.ensures.value) in
+    let m : size (expression_of c.args.expression.now) ≡ 1 + sizes (expressions_of c.deref-in-Element.result.now) =
+    ap (λ x. size (expression_of x)) c.in-Element.is ∙ ap (λ l. 1 + sizes l) e in
+    (omega (arith, m), (c.requires.table, c.requires.extents))
+
+pub expression-indices-requires-in-Call : goal.expression-indices-requires-in-Call
+expression-indices-requires-in-Call t c =
+    let e : row_of (hidden-the_row-Expression-0 c.in-Call.arguments) ≡ expressions_of c.deref-in-Call-2.result.now =
+    row_of_hidden c.in-Call.arguments ∙ ap expressions_of (sym c.deref-in-Call-2.ensures.value) in
+    let m : size (expression_of c.args.expression.now) ≡ 2 + sizes (expressions_of c.deref-in-Call-2.result.now) =
+    ap (λ x. size (expression_of x)) c.in-Call.is ∙ ap (λ l. 2 + sizes l) e in
+    (omega (arith, m), (c.requires.table, c.requires.extents))
+
+pub indices-expression-requires : goal.indices-expression-requires
+indices-expression-requires t c =
+    let xs = c.args.indices.now in
+    let y = c.index-indices-i.result in
+    let lt : c.loop-i.i - 1 < length xs = omega (arith, c.loop-i-test.true) in
+    let h : size (expression_of y) < sizes (expressions_of xs) =
+    subst (λ z. size (expression_of z) < sizes (expressions_of xs)) (sym c.index-indices-i.is) (smaller_at xs (c.loop-i.i - 1) y lt) in
+    (omega (arith, h), (c.requires.table, c.requires.extents))
 
 pub expression-returns-in-Number : goal.expression-returns-in-Number
 expression-returns-in-Number t c =
@@ -60,13 +87,13 @@ pub expression-returns-in_ok-found-in-Group : goal.expression-returns-in_ok-foun
 expression-returns-in_ok-found-in-Group t c =
     let scope = scope_of c.args.self.now in
     let inside = subst (λ x. IsFirstOf (λ f. IsInExpression scope (expression_of x) f) c.in_ok-found-in-Group.found) c.deref-in-Group.ensures c.in_ok-found-in-Group.ensures in
-    first_seen scope c.args.expression.now (group c.in-Group.field-0 (expression_of c.in-Group.inside.now) c.in-Group.field-2) c.in_ok-found-in-Group.found (ap expression_of c.in-Group.is) inside
+    first_seen scope c.args.expression.now (group c.in-Group.field-0 (expression_of c.in-Group.inside.value) c.in-Group.field-2) c.in_ok-found-in-Group.found (ap expression_of c.in-Group.is) inside
 
 pub expression-returns-in_ok-found-in-Not : goal.expression-returns-in_ok-found-in-Not
 expression-returns-in_ok-found-in-Not t c =
     let scope = scope_of c.args.self.now in
     let inside = subst (λ x. IsFirstOf (λ f. IsInExpression scope (expression_of x) f) c.in_ok-found-in-Not.found) c.deref-in-Not.ensures c.in_ok-found-in-Not.ensures in
-    first_seen scope c.args.expression.now (negation c.in-Not.field-0 (expression_of c.in-Not.operand.now)) c.in_ok-found-in-Not.found (ap expression_of c.in-Not.is) inside
+    first_seen scope c.args.expression.now (negation c.in-Not.field-0 (expression_of c.in-Not.operand.value)) c.in_ok-found-in-Not.found (ap expression_of c.in-Not.is) inside
 
 pub expression-returns-in_ok-other-in-Binary : goal.expression-returns-in_ok-other-in-Binary
 expression-returns-in_ok-other-in-Binary t c =
@@ -74,7 +101,7 @@ expression-returns-in_ok-other-in-Binary t c =
     let l = expression_of c.deref-in-Binary.result.now in
     let r = expression_of c.deref-in-Binary-2.result.now in
     let e : expression_of c.args.expression.now ≡ binary l c.in-Binary.field-1 r =
-    ap expression_of c.in-Binary.is ∙ ap (λ x. binary (expression_of x) c.in-Binary.field-1 _) (sym c.deref-in-Binary.ensures) ∙ ap (λ x. binary l c.in-Binary.field-1 (expression_of x)) (sym c.deref-in-Binary-2.ensures) in
+    ap expression_of c.in-Binary.is ∙ ap (λ x. binary (expression_of x) c.in-Binary.field-1 (expression_of c.in-Binary.right.value)) (sym c.deref-in-Binary.ensures) ∙ ap (λ x. binary l c.in-Binary.field-1 (expression_of x)) (sym c.deref-in-Binary-2.ensures) in
     first_seen scope c.args.expression.now (binary l c.in-Binary.field-1 r) c.earlier-in-Binary.result e
     (binary_first scope l r c.in-Binary.field-1 c.in_ok-one-in-Binary.one c.in_ok-other-in-Binary.other c.earlier-in-Binary.result c.in_ok-one-in-Binary.ensures c.in_ok-other-in-Binary.ensures c.earlier-in-Binary.ensures)
 
@@ -84,7 +111,7 @@ expression-returns-in_ok-other-in-And t c =
     let l = expression_of c.deref-in-And.result.now in
     let r = expression_of c.deref-in-And-2.result.now in
     let e : expression_of c.args.expression.now ≡ both l r =
-    ap expression_of c.in-And.is ∙ ap (λ x. both (expression_of x) _) (sym c.deref-in-And.ensures) ∙ ap (λ x. both l (expression_of x)) (sym c.deref-in-And-2.ensures) in
+    ap expression_of c.in-And.is ∙ ap (λ x. both (expression_of x) (expression_of c.in-And.right.value)) (sym c.deref-in-And.ensures) ∙ ap (λ x. both l (expression_of x)) (sym c.deref-in-And-2.ensures) in
     first_seen scope c.args.expression.now (both l r) c.earlier-in-And.result e
     (both_first scope l r c.in_ok-one-in-And.one c.in_ok-other-in-And.other c.earlier-in-And.result c.in_ok-one-in-And.ensures c.in_ok-other-in-And.ensures c.earlier-in-And.ensures)
 
@@ -94,7 +121,7 @@ expression-returns-in_ok-other-in-Or t c =
     let l = expression_of c.deref-in-Or.result.now in
     let r = expression_of c.deref-in-Or-2.result.now in
     let e : expression_of c.args.expression.now ≡ either l r =
-    ap expression_of c.in-Or.is ∙ ap (λ x. either (expression_of x) _) (sym c.deref-in-Or.ensures) ∙ ap (λ x. either l (expression_of x)) (sym c.deref-in-Or-2.ensures) in
+    ap expression_of c.in-Or.is ∙ ap (λ x. either (expression_of x) (expression_of c.in-Or.right.value)) (sym c.deref-in-Or.ensures) ∙ ap (λ x. either l (expression_of x)) (sym c.deref-in-Or-2.ensures) in
     first_seen scope c.args.expression.now (either l r) c.earlier-in-Or.result e
     (either_first scope l r c.in_ok-one-in-Or.one c.in_ok-other-in-Or.other c.earlier-in-Or.result c.in_ok-one-in-Or.ensures c.in_ok-other-in-Or.ensures c.earlier-in-Or.ensures)
 

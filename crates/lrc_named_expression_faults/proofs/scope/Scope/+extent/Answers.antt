@@ -1,5 +1,5 @@
 -- The extent of each form of an expression is that of its parts.
-use Rattle.std.proofs.Common.{◌≡◌, ◌-◌, ◌<◌, ◌≤◌, suc, length, drop, map, sym, ap, subst, ◌∙◌, arith}
+use Rattle.std.proofs.Common.{◌≡◌, ◌-◌, ◌+◌, ◌<◌, ◌≤◌, suc, length, drop, map, sym, ap, subst, ◌∙◌, arith}
 use Rattle.std.proofs.Math.Seq.{drop-length}
 use Rattle.lrc_named_tree.specs.Tree.{Expressions, call, element, group, me, negation, nodes, number, binary, both, either}
 use Rattle.lrc_named_tree.specs.View.{expression_of, expressions_of, named_of, row_of}
@@ -9,6 +9,8 @@ use Rattle.lrc_named_names.specs.View.{declared_of}
 use Rattle.lrc_named_constants.specs.Constant.{names_of}
 use Rattle.lrc_named_constants.specs.View.{known_of}
 use Rattle.lrc_named_constants.specs.Well.{AreWell, IsWell, Takes, count}
+use Rattle.lrc_named_constants.proofs.Each.{smaller_at, well_at}
+use Rattle.lrc_named_constants.proofs.Measure.{size, sizes}
 use Rattle.lrc_named_constants.proofs.Rows.{row_of_hidden}
 use Rattle.lrc_named_expression_faults.specs.Extent.{AreExtent, IsExtent}
 use Rattle.lrc_named_expression_faults.specs.Scope.{is_shared}
@@ -16,6 +18,41 @@ use Rattle.lrc_named_expression_faults.specs.View.{scope_of}
 use Rattle.lrc_named_expression_faults.proofs.Extents.{binary_extent, both_extent, called_function, call_extent, either_extent, element_extent, extent_step, me_extent, negation_extent}
 use Rattle.lrc_named_expression_faults.proofs.Extents.{no_extent, nodes_extent, number_extent, parentheses_extent, sides}
 use Rattle.lrc_named_expression_faults.proofs.scope.Scope.+extent.Goals as goal
+
+pub extent-extent_of_all-inside-requires : goal.extent-extent_of_all-inside-requires
+extent-extent_of_all-inside-requires t c =
+    let d = declared_of c.args.self.now.names.now in
+    let ps = names_of (map known_of c.args.self.now.known.now) in
+    let es = expressions_of c.deref.result.now in
+    let e : row_of (hidden-the_row-Expression-0 c.in-Element.indices) ≡ es = row_of_hidden c.in-Element.indices ∙ ap expressions_of (sym c.deref.ensures.value) in
+    let well = subst (λ x. IsWell d ps (length d) (expression_of x)) c.in-Element.is c.requires.well in
+    let w : AreWell d ps (length d) es = subst (λ l. AreWell d ps (length d) l) e well.1 in
+    let m : size (expression_of c.args.expression.now) ≡ 1 + sizes es = ap (λ x. size (expression_of x)) c.in-Element.is ∙ ap (λ l. 1 + sizes l) e in
+    (omega (arith, m), (c.requires.extents, w))
+
+pub extent-extent_of_all-inside-requires-in-Call : goal.extent-extent_of_all-inside-requires-in-Call
+extent-extent_of_all-inside-requires-in-Call t c =
+    let d = declared_of c.args.self.now.names.now in
+    let ps = names_of (map known_of c.args.self.now.known.now) in
+    let es = expressions_of c.deref-in-Call.result.now in
+    let e : row_of (hidden-the_row-Expression-0 c.in-Call.arguments) ≡ es = row_of_hidden c.in-Call.arguments ∙ ap expressions_of (sym c.deref-in-Call.ensures.value) in
+    let well = subst (λ x. IsWell d ps (length d) (expression_of x)) c.in-Call.is c.requires.well in
+    let w : AreWell d ps (length d) es = subst (λ l. AreWell d ps (length d) l) e well.2 in
+    let m : size (expression_of c.args.expression.now) ≡ 2 + sizes es = ap (λ x. size (expression_of x)) c.in-Call.is ∙ ap (λ l. 2 + sizes l) e in
+    (omega (arith, m), (c.requires.extents, w))
+
+pub extent_of_all-extent-one-requires : goal.extent_of_all-extent-one-requires
+extent_of_all-extent-one-requires t c =
+    let d = declared_of c.args.self.now.names.now in
+    let ps = names_of (map known_of c.args.self.now.known.now) in
+    let xs = c.args.expressions.now in
+    let y = c.index-expressions-i.result in
+    let lt : c.loop-i.i - 1 < length xs = omega (arith, c.loop-i-test.true) in
+    let h : size (expression_of y) < sizes (expressions_of xs) =
+    subst (λ z. size (expression_of z) < sizes (expressions_of xs)) (sym c.index-expressions-i.is) (smaller_at xs (c.loop-i.i - 1) y lt) in
+    let w : IsWell d ps (length d) (expression_of y) =
+    subst (λ z. IsWell d ps (length d) (expression_of z)) (sym c.index-expressions-i.is) (well_at d ps (length d) xs (c.loop-i.i - 1) y lt c.requires.well) in
+    (omega (arith, h), (c.requires.extents, w))
 
 pub extent-returns-in-Number : goal.extent-returns-in-Number
 extent-returns-in-Number t c =
