@@ -1,7 +1,6 @@
 -- Names among parameters.
-use Rattle.std.proofs.Common.{◌≡◌, ℕ, suc, ◌+◌, cond, not, ◌||◌, Bool, true, false, List, [], ◌∷◌, map, length, refl, sym, ap, ◌∙◌, arith}
+use Rattle.std.proofs.Common.{◌≡◌, ℕ, suc, ◌+◌, cond, not, ◌||◌, true, false, List, [], ◌∷◌, length, refl, sym, ap, ◌∙◌, arith}
 use Rattle.std.specs.Prelude.{Option, Some, None, option_map, slice_get, is_some}
-use Rattle.std.specs.List.{position_or_len}
 use Rattle.std.specs.Str.{bytes_eq}
 use Rattle.lrc_named_tree.specs.Tree.{Named, Expressions}
 use Rattle.lrc_named_names.specs.Names.{Declared, Meaning, constant, shared, lock, function, IsFunction}

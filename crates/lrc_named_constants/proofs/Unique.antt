@@ -1,17 +1,14 @@
 -- One thing is known of an expression.
-use Rattle.std.proofs.Common.{◌≡◌, ℕ, List, [], ◌∷◌, refl, sym, ap, subst, ◌∙◌}
-use Rattle.std.specs.Prelude.{Option, Some, None}
-use Rattle.lrc_lang.specs.declared.program.Operator.{Operator}
-use Rattle.lrc_named_tree.specs.Tree.{Named, Expression, Expressions, Place, Declaration}
+use Rattle.std.proofs.Common.{◌≡◌, ℕ, List, ◌∷◌, refl, sym, ap, subst, ◌∙◌}
+use Rattle.std.specs.Prelude.{Option, Some}
+use Rattle.lrc_named_tree.specs.Tree.{Named, Expression, Expressions}
 use Rattle.lrc_named_names.specs.Names.{Declared, Meaning, meaning_of}
 use Rattle.lrc_named_constants.specs.declared.constancy.Constancy.{Constancy}
 use Rattle.lrc_named_constants.specs.declared.constancy.Constancy.TheVariants.{Value}
 use Rattle.lrc_named_constants.specs.Combine.{joined, negated, both_of, either_of, called}
-use Rattle.lrc_named_constants.specs.Constant.{Known, bound, known_as, IsConstancy, a_number, me, nodes, a_parameter, a_private_name, a_constant, a_shared_item}
+use Rattle.lrc_named_constants.specs.Constant.{Known, bound, IsConstancy, a_number, me, nodes, a_parameter, a_private_name, a_constant, a_shared_item}
 use Rattle.lrc_named_constants.specs.Constant.{a_call, parentheses, a_negation, a_binary, both, either, AreConstancies, no_expression, one_expression}
-use Rattle.lrc_named_constants.specs.Layout.{HaveSizes, no_size, one_size, DeclareShared, no_more_shared, one_more_shared, DeclareLocks, no_more_lock, one_more_lock}
-use Rattle.lrc_named_constants.specs.Layout.{Declares, a_node_count, shared_items, locks, a_function}
-use Rattle.lrc_named_constants.specs.Layout as layout
+use Rattle.lrc_named_constants.specs.Layout.{HaveSizes, no_size, one_size}
 
 same_parameters : (m : Option Meaning) (ps qs : List Named) (one other : Expression) → m ≡ Some (Meaning.function ps one) → m ≡ Some (Meaning.function qs other) → qs ≡ ps
 same_parameters m ps qs one other e f = cc

@@ -3,7 +3,7 @@ use Rattle.std.specs.Prelude.{◌≡◌, ◌+◌, ◌<◌, ℕ, Bool, true, fals
 use Rattle.std.specs.List.{list_any}
 use Rattle.std.specs.Str.{bytes_eq}
 use Rattle.lrc_named_tree.specs.Tree.{Named, Expression, Expressions, number, me, nodes, element, call, group, negation, binary, both, either, none, more}
-use Rattle.lrc_named_names.specs.Names.{Meaning, constant, shared, lock, function, Declared, place_of, meaning_at, meaning_of, IsFunction}
+use Rattle.lrc_named_names.specs.Names.{Meaning, constant, shared, lock, function, Declared, place_of, meaning_at, meaning_of}
 
 -- what has a value of its own: a private name, a constant and a shared item, but no lock and no function
 abbrev pub HasValue : Option Meaning → Type 0

@@ -1,17 +1,17 @@
 -- In an expression without a fault names are used as what they are, also where more is declared behind.
-use Rattle.std.proofs.Common.{◌≡◌, ◌<◌, ℕ, Bool, true, false, List, [], ◌∷◌, ◌++◌, length, append-nil, refl, sym, ap, subst, ◌∙◌, inl, inr, arith}
+use Rattle.std.proofs.Common.{◌≡◌, ◌<◌, ℕ, Bool, true, false, List, [], ◌++◌, length, append-nil, refl, sym, subst, inl, inr, arith}
 use Rattle.std.specs.Prelude.{Option, Some, None, slice_get, drop}
 use Rattle.lrc_named_tree.specs.Tree.{Named, Expression, Expressions, number, me, nodes, element, call, group, negation, binary, both, either, none, more}
-use Rattle.lrc_named_names.specs.Names.{Item, Declared, Meaning, constant, shared, lock, function, meaning_of, place_of}
+use Rattle.lrc_named_names.specs.Names.{Declared, Meaning, constant, shared, lock, function, meaning_of, place_of}
 use Rattle.lrc_named_constants.specs.Constant.{names_of}
 use Rattle.lrc_named_constants.specs.Well.{AreWell, HasValue, IsWell, Takes, ValueUnless, count, is_among}
 use Rattle.lrc_named_expression_faults.specs.declared.fault.FaultKind.TheVariants.{UnknownName, WrongArguments, WrongUse}
 use Rattle.lrc_named_expression_faults.specs.declared.fault.Fault.{Fault}
 use Rattle.lrc_named_expression_faults.specs.Expressions.{IsInCall, IsInElement, IsInExpression, IsInIndex, IsInIndices}
 use Rattle.lrc_named_expression_faults.specs.Fault.{IsNone, fault_at}
-use Rattle.lrc_named_expression_faults.specs.Scope.{Scope, Sense, private_name, sense_by, sense_of, shared_sizes}
+use Rattle.lrc_named_expression_faults.specs.Scope.{Scope, private_name, sense_by, sense_of, shared_sizes}
 use Rattle.lrc_named_expression_faults.proofs.Counting.{count_is_wanted}
-use Rattle.lrc_named_expression_faults.proofs.Places.{IsKept, kept}
+use Rattle.lrc_named_expression_faults.proofs.Places.{kept}
 
 -- a name without arguments
 value_by : (a : Bool) (m : Option Meaning) (s k : Bool) (named : Named) (indices : Expressions) (whole : Option Meaning)

@@ -1,5 +1,5 @@
 -- Where the number of indices or arguments goes wrong.
-use Rattle.std.proofs.Common.{◌≡◌, ◌≤◌, ◌<◌, ◌+◌, ◌-◌, ℕ, zero, suc, max, min, Some, None, List, [], ◌∷◌, length, get_or, refl, sym, ap, ◌∙◌, arith}
+use Rattle.std.proofs.Common.{◌≡◌, ◌≤◌, ◌<◌, ◌+◌, ◌-◌, ℕ, zero, suc, max, min, Some, None, List, [], ◌∷◌, length, get_or, refl, ap, ◌∙◌, arith}
 use Rattle.lrc_named_tree.specs.declared.tree.Expression as code_expression
 use Rattle.lrc_named_tree.specs.Tree.{Expressions, none, more}
 use Rattle.lrc_named_tree.specs.Ends.{last_of}

@@ -1,5 +1,5 @@
 -- The extent of an expression, by the extents of its parts.
-use Rattle.std.proofs.Common.{◌≡◌, ◌≤◌, ◌+◌, ◌⊎◌, inl, inr, ◌||◌, ℕ, suc, min, Bool, true, false, Option, Some, None, List, [], ◌∷◌, length, drop, get_or, refl, sym, ap, subst, ◌∙◌, arith}
+use Rattle.std.proofs.Common.{◌≡◌, ◌≤◌, ◌+◌, ◌⊎◌, inl, inr, ◌||◌, ℕ, suc, min, Bool, true, false, Option, Some, None, List, ◌∷◌, length, drop, get_or, refl, sym, ap, subst, ◌∙◌, arith}
 use Rattle.std.proofs.Math.Seq.{drop-cons}
 use Rattle.lrc_lang.specs.declared.program.Operator.{Operator}
 use Rattle.lrc_named_tree.specs.declared.tree.Expression as code_expression
@@ -11,9 +11,9 @@ use Rattle.lrc_named_constants.specs.Well.{Takes, bytes_of, count, is_among}
 use Rattle.lrc_named_expression_faults.specs.declared.extent.Extent.{Extent}
 use Rattle.lrc_named_expression_faults.specs.Extent.{Varies, me, nodes, a_shared_item, in_an_index, in_an_argument, in_a_body, in_parentheses, in_a_negation, left, right}
 use Rattle.lrc_named_expression_faults.specs.Extent.{left_of_both, right_of_both, left_of_either, right_of_either, OneVaries, this, another, before}
-use Rattle.lrc_named_expression_faults.specs.Extent.{Weighs, a_number, the_node, the_nodes, an_element, a_call, parentheses, a_negation, a_binary, both, either, Weigh, nothing, one_of}
+use Rattle.lrc_named_expression_faults.specs.Extent.{Weighs, a_number, the_node, the_nodes, an_element, a_call, parentheses, a_negation, a_binary, both, either, nothing, one_of}
 use Rattle.lrc_named_expression_faults.specs.Extent.{IsExtent, AreExtent}
-use Rattle.lrc_named_expression_faults.specs.Scope.{Scope, Sense, is_shared, sense_by, sense_of}
+use Rattle.lrc_named_expression_faults.specs.Scope.{Scope, is_shared, sense_by, sense_of}
 
 or_cases : (a b : Bool) → (a || b) ≡ true → (a ≡ true) ⊎ (b ≡ true)
 or_cases true b e = inl refl

@@ -1,10 +1,9 @@
 -- The first of faults.
 use Rattle.std.specs.Prelude.{Result, Ok, Err, IfOk}
-use Rattle.std.proofs.Common.{◌≡◌, ◌≤◌, ◌⊎◌, inl, inr, ℕ, Bool, true, false, Option, Some, None, if◌then◌else◌, ◌==◌, ◌&&◌, ◌||◌, nat_lt, refl, sym, subst, arith, ◌∙◌}
+use Rattle.std.proofs.Common.{◌≡◌, ◌≤◌, ◌⊎◌, inl, inr, ℕ, Bool, true, false, Option, Some, None, if◌then◌else◌, ◌==◌, ◌&&◌, ◌||◌, nat_lt, refl, sym, subst, arith}
 use Rattle.std.proofs.lemmas.Bool.Decides.{nat_tests}
-use Rattle.lrc_named_expression_faults.specs.declared.fault.FaultKind.{FaultKind}
 use Rattle.lrc_named_expression_faults.specs.declared.fault.Fault.{Fault}
-use Rattle.lrc_named_expression_faults.specs.Fault.{ComesFirst, IsFirstOf, IsNone, earlier, fault_at, precedes, rank_of}
+use Rattle.lrc_named_expression_faults.specs.Fault.{ComesFirst, IsFirstOf, IsNone, earlier, precedes, rank_of}
 
 by_numbers : (a b r s : ℕ) → (nat_lt a b || ((a == b) && nat_lt r s)) ≡ true → (a ≤ b) × (b ≤ a → r ≤ s)
 by_numbers a b r s e = (grind (arith, nat_tests), λ h. grind (arith, nat_tests))

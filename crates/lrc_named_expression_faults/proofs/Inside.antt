@@ -1,9 +1,9 @@
 -- The first fault of indices, and of an index.
-use Rattle.std.proofs.Common.{◌≡◌, ◌≤◌, ◌<◌, ◌+◌, ◌⊎◌, inl, inr, ℕ, zero, suc, Bool, true, false, List, [], ◌∷◌, length, drop, get_or, refl, sym, ap, subst, ◌∙◌, arith}
+use Rattle.std.proofs.Common.{◌≡◌, ◌≤◌, ◌<◌, inl, inr, ℕ, zero, suc, Bool, List, [], ◌∷◌, length, drop, get_or, refl, sym, ap, subst, ◌∙◌, arith}
 use Rattle.std.specs.Prelude.{Option, Some, None, slice_get}
 use Rattle.std.proofs.Math.Seq.{drop-cons}
 use Rattle.lrc_named_tree.specs.declared.tree.Expression as code_expression
-use Rattle.lrc_named_tree.specs.Tree.{Named, Expression, Expressions, none, more}
+use Rattle.lrc_named_tree.specs.Tree.{Named, Expression, Expressions}
 use Rattle.lrc_named_tree.specs.Ends.{first_of}
 use Rattle.lrc_named_tree.specs.View.{expression_of, expressions_of}
 use Rattle.lrc_named_constants.specs.declared.constancy.Constancy.{Constancy}

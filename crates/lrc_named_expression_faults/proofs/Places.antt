@@ -1,6 +1,6 @@
 -- The place of a name among what is declared, and more behind it.
 use Rattle.std.proofs.Common.{◌≡◌, ◌<◌, ◌+◌, ℕ, suc, cond, not, Bool, true, false, List, [], ◌∷◌, ◌++◌, length, refl, sym, ap, ◌∙◌, arith}
-use Rattle.std.specs.Prelude.{Option, Some, None, option_map, slice_get}
+use Rattle.std.specs.Prelude.{Some, option_map, slice_get}
 use Rattle.std.specs.Str.{bytes_eq}
 use Rattle.lrc_named_names.specs.Names.{Declared, Meaning, meaning_at, meaning_of, place_of}
 

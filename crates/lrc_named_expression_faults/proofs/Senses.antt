@@ -1,5 +1,5 @@
 -- What a name means, by how the code finds it.
-use Rattle.std.proofs.Common.{◌≡◌, ◌<◌, ◌≤◌, ◌+◌, ◌||◌, ℕ, Bool, true, false, List, [], ◌∷◌, map, length, drop, get_or, refl, sym, ap, subst, ◌∙◌, arith, add-one}
+use Rattle.std.proofs.Common.{◌≡◌, ◌<◌, ◌≤◌, ◌+◌, ◌||◌, ℕ, Bool, true, false, List, [], ◌∷◌, map, length, drop, get_or, sym, ap, ◌∙◌, add-one}
 use Rattle.std.specs.Prelude.{Option, Some, None}
 use Rattle.std.specs.Str.{bytes_eq}
 use Rattle.std.proofs.Math.Seq.{drop-cons}
@@ -9,7 +9,7 @@ use Rattle.lrc_named_tree.specs.View.{named_of}
 use Rattle.lrc_named_names.specs.Names.{Meaning, meaning_of}
 use Rattle.lrc_named_constants.specs.Constant.{names_of}
 use Rattle.lrc_named_constants.specs.Well.{bytes_of, is_among}
-use Rattle.lrc_named_expression_faults.specs.Scope.{Scope, Sense, parameter, declared, private_name, unknown, sense_by, sense_of, undeclared_sense}
+use Rattle.lrc_named_expression_faults.specs.Scope.{Scope, parameter, declared, sense_by, sense_of, undeclared_sense}
 
 pub is_parameter : (a : Bool) (o : Option Meaning) (s : Bool) → a ≡ true → parameter ≡ sense_by a o s
 is_parameter a o s e = ap (λ x. sense_by x o s) (sym e)

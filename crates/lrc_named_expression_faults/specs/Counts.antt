@@ -1,6 +1,6 @@
 -- At which token the number of indices or arguments goes wrong.
 use Rattle.std.specs.Prelude.{ℕ, zero, suc, ◌+◌, Option, Some, None, List, [], ◌∷◌}
-use Rattle.lrc_named_tree.specs.Tree.{Expression, Expressions, none, more}
+use Rattle.lrc_named_tree.specs.Tree.{Expressions, none, more}
 use Rattle.lrc_named_tree.specs.Ends.{last_of}
 
 -- of indices behind a token: the `[` of the first one too many, or the token behind the last one, where some are missing

@@ -1,8 +1,8 @@
 -- The faults of an expression, by the scope in which it stands.
-use Rattle.std.specs.Prelude.{◌≡◌, ◌+◌, ◌≤◌, ◌⊎◌, ℕ, Bool, true, false, Option, Some, None, List, [], ◌∷◌, length, drop, slice_get}
+use Rattle.std.specs.Prelude.{◌≡◌, ◌≤◌, ◌⊎◌, ℕ, Bool, true, Option, Some, None, List, [], length, drop, slice_get}
 use Rattle.lrc_named_tree.specs.Tree.{Named, Expression, Expressions, number, me, nodes, element, call, group, negation, binary, both, either, none, more}
 use Rattle.lrc_named_tree.specs.Ends.{first_of}
-use Rattle.lrc_named_names.specs.Names.{Item, Meaning, constant, shared, lock, function}
+use Rattle.lrc_named_names.specs.Names.{constant, shared, lock, function}
 use Rattle.lrc_named_constants.specs.declared.constancy.Constancy.TheVariants.{Value}
 use Rattle.lrc_named_constants.specs.Constant.{IsConstancy}
 use Rattle.lrc_named_constants.specs.Well.{bytes_of}

@@ -1,6 +1,5 @@
 -- Faults, and which one of several is told.
-use Rattle.std.specs.Prelude.{◌≡◌, ◌≤◌, ◌⊎◌, ℕ, Bool, ◌&&◌, ◌||◌, ◌==◌, Option, Some, None, if◌then◌else◌, List, codes, nat_lt}
-use Rattle.lrc_named_expression_faults.specs.declared.fault.Limit.TheVariants.{NodeCount, Body, Division, Size, Words, Locks}
+use Rattle.std.specs.Prelude.{◌≤◌, ℕ, Bool, ◌&&◌, ◌||◌, ◌==◌, Option, Some, None, if◌then◌else◌, List, codes, nat_lt}
 use Rattle.lrc_named_expression_faults.specs.declared.fault.FaultKind.{FaultKind}
 use Rattle.lrc_named_expression_faults.specs.declared.fault.FaultKind.TheVariants.{DeclaredTwice, ReservedName, UnknownName, WrongUse, WrongIndices, WrongArguments}
 use Rattle.lrc_named_expression_faults.specs.declared.fault.FaultKind.TheVariants.{NotConstant, OverLimit, IndexOutOfRange, TooManyNames}

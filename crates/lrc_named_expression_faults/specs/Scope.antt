@@ -1,6 +1,6 @@
 -- What a name means where it is used.
 use Rattle.std.specs.Prelude.{ℕ, Bool, true, false, Option, Some, None, List, []}
-use Rattle.lrc_named_names.specs.Names.{Item, Meaning, constant, shared, lock, function, Declared, meaning_of}
+use Rattle.lrc_named_names.specs.Names.{Meaning, constant, shared, lock, function, Declared, meaning_of}
 use Rattle.lrc_named_constants.specs.Constant.{Known, names_of}
 use Rattle.lrc_named_constants.specs.Well.{is_among}
 

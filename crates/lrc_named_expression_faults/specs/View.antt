@@ -1,5 +1,5 @@
 -- The code's scope as the definitions see it.
-use Rattle.std.specs.Prelude.{List, map}
+use Rattle.std.specs.Prelude.{map}
 use Rattle.lrc_named_tree.specs.View.{named_of}
 use Rattle.lrc_named_names.specs.View.{declared_of, meaning_seen}
 use Rattle.lrc_named_constants.specs.View.{known_of}

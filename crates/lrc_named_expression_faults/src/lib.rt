@@ -1,6 +1,6 @@
-//! The faults of named programs that the grammar does not tell: names that are declared twice, unknown or wrongly used,
-//! wrong numbers of indices and arguments, constants that are none, and limits. The crate says of expressions and
-//! statements, by what is declared before them, which of their faults comes first.
+//! The faults of the expressions of a named program: names that are unknown or wrongly used, wrong numbers of indices and
+//! arguments, indices that are out of range, and what is not constant where it has to be. The crate says of an expression,
+//! by what is declared before it, which of its faults comes first.
 #![tactic(auto)]
 
 mod counts;

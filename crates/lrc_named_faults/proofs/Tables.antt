@@ -1,15 +1,15 @@
 -- The table of what is declared, with one name more.
-use Rattle.std.proofs.Common.{◌≡◌, ◌≤◌, ◌<◌, ◌+◌, ◌⊎◌, inl, inr, ℕ, zero, suc, List, [], ◌∷◌, ◌++◌, length, take, drop, map, Bool, true, false, refl, sym, ap, subst, ◌∙◌, arith, append-nil}
+use Rattle.std.proofs.Common.{◌≡◌, ◌≤◌, ◌<◌, ◌+◌, ◌⊎◌, inl, inr, ℕ, zero, suc, List, [], ◌∷◌, ◌++◌, length, take, drop, Bool, true, false, refl, sym, ap, subst, ◌∙◌, arith}
 use Rattle.std.specs.Prelude.{Option, Some, None, slice_get}
 use Rattle.std.proofs.lemmas.List.{take-append-drop}
 use Rattle.lrc_named_tree.specs.Tree.{Named, Expression}
 use Rattle.lrc_named_names.specs.Names.{Declared, Meaning, function, meaning_at, meaning_of}
-use Rattle.lrc_named_constants.specs.Constant.{Known, names_of}
+use Rattle.lrc_named_constants.specs.Constant.{names_of}
 use Rattle.lrc_named_constants.specs.Layout.{as_meaning, locks_in, locks_of, words_in, words_of}
-use Rattle.lrc_named_constants.specs.Well.{HasValue, IsSound, IsWell, bytes_of, is_among}
+use Rattle.lrc_named_constants.specs.Well.{IsSound, IsWell, bytes_of, is_among}
 use Rattle.lrc_named_expression_faults.specs.declared.extent.Extent.{Extent}
 use Rattle.lrc_named_expression_faults.specs.Extent.{AreExtents, IsExtent}
-use Rattle.lrc_named_expression_faults.specs.Scope.{Scope, private_name, sense_by, sense_of}
+use Rattle.lrc_named_expression_faults.specs.Scope.{private_name, sense_by, sense_of}
 use Rattle.lrc_named_expression_faults.proofs.Clean.{clean_is_well}
 use Rattle.lrc_named_faults.specs.Declarations.{IsClean, body_scope, varying}
 use Rattle.lrc_named_faults.specs.Layout.{AreBodiesClean}
@@ -22,8 +22,9 @@ at_append [] d (suc place) m is = absurd (cc)
 at_append (x ∷ table) d zero m is = inl (omega arith, is)
 at_append (x ∷ table) d (suc place) m is =
     elim (at_append table d place m is) [
-      inl h ↦ let lt = h.0 in inl (omega arith, h.1)
-      | inr h ↦ inr (ap suc h.0, h.1) ]
+      | inl h ↦ let lt = h.0 in inl (omega arith, h.1)
+      | inr h ↦ inr (ap suc h.0, h.1)
+    ]
 
 pub take_before : (table : List Declared) (d : Declared) (place : ℕ) → place ≤ length table → take place (table ++ d ∷ []) ≡ take place table
 take_before table d zero le = refl
@@ -48,10 +49,11 @@ pub bodies_more : (table : List Declared) (named : Named) (m : Meaning) → AreB
     → AreBodiesClean (table ++ as_meaning named m ∷ [])
 bodies_more table named m clean last place own body is =
     elim (at_append table (as_meaning named m) place (function own body) is) [
-      inl h ↦ let lt = h.0 in subst (λ l. IsClean (body_scope l own) body) (sym (take_before table (as_meaning named m) place (omega arith))) (clean place own body h.1)
+      | inl h ↦ let lt = h.0 in subst (λ l. IsClean (body_scope l own) body) (sym (take_before table (as_meaning named m) place (omega arith))) (clean place own body h.1)
       | inr h ↦ let all = h.0 in
-        subst (λ l. IsClean (body_scope l own) body)
-        (sym (take_before table (as_meaning named m) place (omega arith) ∙ ap (λ n. take n table) all ∙ take_whole table)) (last own body h.1) ]
+          subst (λ l. IsClean (body_scope l own) body)
+          (sym (take_before table (as_meaning named m) place (omega arith) ∙ ap (λ n. take n table) all ∙ take_whole table)) (last own body h.1)
+    ]
 
 slice_get-append : (xs : List Extent) (x : Extent) (i : ℕ) (y : Extent) → slice_get xs i ≡ Some y → slice_get (xs ++ x ∷ []) i ≡ Some y
 slice_get-append [] x i y is = absurd (cc)
@@ -70,17 +72,24 @@ pub extents_more : (table : List Declared) (named : Named) (m : Meaning) (xs : L
     → AreExtents (table ++ as_meaning named m ∷ []) (xs ++ x ∷ [])
 extents_more table named m xs x same extents last place own body is =
     elim (at_append table (as_meaning named m) place (function own body) is) [
-      inl h ↦
-        let lt = h.0 in
-        let e = extents place own body h.1 in
-        (e.0, slice_get-append xs x place e.0 e.1, e.2,
-        subst (λ l. IsExtent l (bytes_of own) body e.0) (sym (take_before table (as_meaning named m) place (omega arith))) e.3)
+      | inl h ↦
+          let lt = h.0 in
+          let e = extents place own body h.1 in (
+            e.0,
+            slice_get-append xs x place e.0 e.1,
+            e.2,
+            subst (λ l. IsExtent l (bytes_of own) body e.0) (sym (take_before table (as_meaning named m) place (omega arith))) e.3,
+          )
       | inr h ↦
-        let all = h.0 in
-        let e = last own body h.1 in
-        (x, slice_get-last xs x place (omega arith), e.0,
-        subst (λ l. IsExtent l (bytes_of own) body x)
-        (sym (take_before table (as_meaning named m) place (omega arith) ∙ ap (λ n. take n table) all ∙ take_whole table)) e.1) ]
+          let all = h.0 in
+          let e = last own body h.1 in (
+            x,
+            slice_get-last xs x place (omega arith),
+            e.0,
+            subst (λ l. IsExtent l (bytes_of own) body x)
+                (sym (take_before table (as_meaning named m) place (omega arith) ∙ ap (λ n. take n table) all ∙ take_whole table)) e.1,
+          )
+    ]
 
 -- where bodies have no fault, the table is sound
 names_of-varying : (own : List Named) → names_of (varying own) ≡ bytes_of own

@@ -1,5 +1,5 @@
 -- The faults of declarations, by what is declared before them.
-use Rattle.std.specs.Prelude.{◌≡◌, ◌≢◌, ◌+◌, ◌<◌, ◌≤◌, ◌⊎◌, ℕ, true, false, Option, Some, None, IsSome, List, [], ◌∷◌, ◌++◌, map}
+use Rattle.std.specs.Prelude.{◌≡◌, ◌+◌, ◌<◌, ◌≤◌, ◌⊎◌, ℕ, true, false, Option, IsSome, List, [], ◌∷◌, ◌++◌, map}
 use Rattle.lrc_named_tree.specs.Tree.{Named, Expression, Expressions, none, more, Place, Declaration, node_count, constant, shared, lock, function}
 use Rattle.lrc_named_tree.specs.Ends.{first_of}
 use Rattle.lrc_named_names.specs.Elements.{elements}
@@ -8,7 +8,7 @@ use Rattle.lrc_named_names.specs.Names as names
 use Rattle.lrc_named_constants.specs.declared.constancy.Constancy.TheVariants.{Value, Varies}
 use Rattle.lrc_named_constants.specs.Constant.{IsConstancy, Known}
 use Rattle.lrc_named_constants.specs.Layout.{HaveSizes, as_meaning, locks_in, words_in}
-use Rattle.lrc_named_constants.specs.Well.{bytes_of, is_among}
+use Rattle.lrc_named_constants.specs.Well.{is_among}
 use Rattle.lrc_named_expression_faults.specs.declared.fault.Fault.{Fault}
 use Rattle.lrc_named_expression_faults.specs.declared.fault.FaultKind.TheVariants.{DeclaredTwice, OverLimit}
 use Rattle.lrc_named_expression_faults.specs.declared.fault.Limit.TheVariants as limits

@@ -4,7 +4,6 @@ use Rattle.lrc_named_tree.specs.Tree.{Named, Expression}
 use Rattle.lrc_named_names.specs.Names.{Declared, function, meaning_at}
 use Rattle.lrc_named_names.specs.View.{declared_of}
 use Rattle.lrc_named_constants.specs.Layout.{locks_in, words_in}
-use Rattle.lrc_named_constants.specs.Well.{IsSound}
 use Rattle.lrc_named_expression_faults.specs.Extent.{AreExtents}
 use Rattle.lrc_named_faults.specs.declared.layout.Layout as code_layout
 use Rattle.lrc_named_faults.specs.Declarations.{IsClean, body_scope}

@@ -1,5 +1,5 @@
 -- The faults of a whole named program.
-use Rattle.std.specs.Prelude.{◌≡◌, ◌⊎◌, ℕ, Option, Some, None, List, [], ◌∷◌}
+use Rattle.std.specs.Prelude.{◌⊎◌, ℕ, Option, Some, None, List, [], ◌∷◌}
 use Rattle.lrc_named_tree.specs.Tree.{Block, Declaration, NamedTree, node_count, constant, shared, lock, function}
 use Rattle.lrc_named_names.specs.Names.{Declared}
 use Rattle.lrc_named_constants.specs.Layout.{Declares}

@@ -1,6 +1,6 @@
 -- How many different names there are.
 use Rattle.std.proofs.Common.{◌≡◌, ◌≤◌, ◌<◌, ◌+◌, ◌⊎◌, inl, inr, ◌||◌, ◌&&◌, ◌==◌, not, ℕ, zero, suc, Bool, true, false, if◌then◌else◌, List, [], ◌∷◌, ◌++◌, map, length, take, drop, get_or, refl, sym, ap, subst, ◌∙◌, arith, append_assoc, append-nil, length-append}
-use Rattle.std.specs.Prelude.{Option, Some, None}
+use Rattle.std.specs.Prelude.{Some, None}
 use Rattle.std.specs.Str.{bytes_eq}
 use Rattle.std.proofs.lemmas.Bool.Decides.{nat_tests}
 use Rattle.std.proofs.lemmas.List.{length-map, take_all}
@@ -9,7 +9,6 @@ use Rattle.lrc_named_tree.specs.declared.tree.Name as code_name
 use Rattle.lrc_named_tree.specs.Tree.{Named}
 use Rattle.lrc_named_tree.specs.View.{named_of}
 use Rattle.lrc_named_constants.specs.Well.{bytes_of, is_among}
-use Rattle.lrc_named_expression_faults.specs.declared.fault.Fault.{Fault}
 use Rattle.lrc_named_expression_faults.specs.declared.fault.FaultKind.TheVariants.{TooManyNames}
 use Rattle.lrc_named_expression_faults.specs.Fault.{ComesFirst, IsFirstOf, fault_at}
 use Rattle.lrc_named_expression_faults.proofs.First.{first_same}

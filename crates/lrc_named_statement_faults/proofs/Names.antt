@@ -1,8 +1,8 @@
 -- The names of parts and expressions, as lists that have a piece for each.
-use Rattle.std.proofs.Common.{◌≡◌, ◌≤◌, ◌+◌, ℕ, Bool, true, false, cond, List, [], ◌∷◌, ◌++◌, map, length, filter, refl, sym, ap, ◌∙◌, arith, append-nil}
+use Rattle.std.proofs.Common.{◌≡◌, ◌≤◌, ◌+◌, Bool, true, false, cond, List, [], ◌∷◌, ◌++◌, map, length, refl, ap, arith}
 use Rattle.lrc_named_tree.specs.declared.tree.Expression as code_expression
 use Rattle.lrc_named_tree.specs.declared.tree.Name as code_name
-use Rattle.lrc_named_tree.specs.Tree.{Named, Expressions}
+use Rattle.lrc_named_tree.specs.Tree.{Named}
 use Rattle.lrc_named_tree.specs.View.{expression_of, expressions_of, named_of}
 use Rattle.lrc_named_expression_faults.specs.Scope.{Scope, sense_of}
 use Rattle.lrc_named_statement_faults.specs.declared.parts.Part as code_part

@@ -1,14 +1,14 @@
 -- The code's statements as the definitions see them: those in a tree are those of its lists.
-use Rattle.std.proofs.Common.{◌≡◌, List, [], ◌∷◌, ◌++◌, Vec, refl, sym, ap, ◌∙◌, append_assoc, append-nil}
+use Rattle.std.proofs.Common.{◌≡◌, List, [], ◌∷◌, ◌++◌, Vec, refl, sym, ap, ◌∙◌, append-nil}
 use Rattle.std.specs.declared.alloc.Global.{Global}
 use Rattle.lrc_named_tree.specs.declared.tree.Arm.{Arm}
 use Rattle.lrc_named_tree.specs.declared.tree.Expression as code_expression
 use Rattle.lrc_named_tree.specs.declared.tree.Statement.{Statement, Row_of-Statement, end_of-Statement, more_of-Statement, Row_of-Arm, end_of-Arm, more_of-Arm}
 use Rattle.lrc_named_tree.specs.declared.tree.Statement.{items-the_row-Statement, items_hidden-the_row-Statement-0, items_shown-the_row-Statement-0, items-the_row-Arm, items_hidden-the_row-Arm-1}
 use Rattle.lrc_named_tree.specs.declared.tree.Statement.TheBlock.{hidden-the_row-Statement-0, hidden-the_row-Arm-1}
-use Rattle.lrc_named_tree.specs.Tree.{Arms, Block, next, arm, no_arm}
+use Rattle.lrc_named_tree.specs.Tree.{Arms, next, arm, no_arm}
 use Rattle.lrc_named_tree.specs.View.{arm_row, block_of, block_row, expression_of, expressions_of, statement_of}
-use Rattle.lrc_named_statement_faults.specs.Parts.{Part, arms_of, parts_of, parts_of_arms, parts_of_block, parts_of_values, value, with_arm}
+use Rattle.lrc_named_statement_faults.specs.Parts.{arms_of, parts_of, parts_of_arms, parts_of_block, parts_of_values, value, with_arm}
 use Rattle.lrc_named_statement_faults.proofs.Growing.{IsPieced}
 
 block_row_is : {m : _} (row : Row_of-Statement m) → block_row row ≡ block_of (items-the_row-Statement m row)

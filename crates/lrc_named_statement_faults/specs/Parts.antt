@@ -1,5 +1,5 @@
 -- The parts of statements in which names stand, in the order of the text.
-use Rattle.std.specs.Prelude.{ℕ, List, [], ◌∷◌, ◌++◌, map}
+use Rattle.std.specs.Prelude.{List, [], ◌∷◌, ◌++◌}
 use Rattle.lrc_named_tree.specs.declared.tree.Arm as code_arm
 use Rattle.lrc_named_tree.specs.View.{block_of, expression_of, named_of, place_of}
 use Rattle.lrc_named_tree.specs.Tree.{Named, Expression, Expressions, none, more, Place, Statement, Block, Arms, empty, next, no_arm, arm}

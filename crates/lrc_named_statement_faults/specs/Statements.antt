@@ -1,7 +1,7 @@
 -- The faults of statements.
 use Rattle.std.specs.Prelude.{◌≡◌, ◌+◌, ◌⊎◌, ◌==◌, ℕ, Bool, true, false, if◌then◌else◌, List, [], ◌∷◌, ◌++◌, filter}
-use Rattle.lrc_named_tree.specs.Tree.{Named, Expression, Expressions, number, me, nodes, element, call, group, negation, binary, both, either, none, more, Place, Block}
-use Rattle.lrc_named_names.specs.Names.{Declared, Item, Meaning, constant, shared, lock, function}
+use Rattle.lrc_named_tree.specs.Tree.{Named, Expression, Expressions, number, me, nodes, element, call, group, negation, binary, both, either, none, more, Block}
+use Rattle.lrc_named_names.specs.Names.{Declared, constant, shared, lock, function}
 use Rattle.lrc_named_constants.specs.Well.{bytes_of, is_among}
 use Rattle.lrc_named_expression_faults.specs.declared.fault.Fault.{Fault}
 use Rattle.lrc_named_expression_faults.specs.declared.fault.FaultKind.TheVariants.{ReservedName, TooManyNames, UnknownName}

@@ -1,5 +1,5 @@
 -- The number of arguments is right, too great, or too small.
-use Rattle.std.proofs.Common.{◌≡◌, ◌-◌, ◌+◌, Some, get_or, ap, ◌∙◌, arith}
+use Rattle.std.proofs.Common.{◌-◌, ◌+◌, Some, ap, ◌∙◌}
 use Rattle.lrc_named_tree.specs.Ends.{last_of}
 use Rattle.lrc_named_tree.specs.View.{expression_of}
 use Rattle.lrc_named_expression_faults.proofs.Counting.{as_many_arguments, wrong_at_close_fitting, wrong_behind_fitting}

@@ -1,5 +1,5 @@
 -- The number of indices is right, none fits, or the last that fits stands before.
-use Rattle.std.proofs.Common.{◌≡◌, ◌-◌, ◌+◌, suc, min, Some, length, get_or, ap, ◌∙◌, arith}
+use Rattle.std.proofs.Common.{◌≡◌, ◌-◌, ◌+◌, suc, min, Some, length, ap, ◌∙◌, arith}
 use Rattle.lrc_named_tree.specs.Ends.{last_of}
 use Rattle.lrc_named_tree.specs.View.{expression_of}
 use Rattle.lrc_named_expression_faults.proofs.Counting.{as_many_indices, last_index_fits, no_index_fits}

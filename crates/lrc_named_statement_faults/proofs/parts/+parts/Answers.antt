@@ -1,5 +1,5 @@
 -- The list grows by the parts of each form of a statement.
-use Rattle.std.proofs.Common.{◌≡◌, List, [], ◌∷◌, ◌++◌, append-nil, map, sym, ap, ◌∙◌}
+use Rattle.std.proofs.Common.{◌≡◌, [], ◌∷◌, ◌++◌, append-nil, map, sym, ap, ◌∙◌}
 use Rattle.lrc_named_tree.specs.Tree.{no_arm}
 use Rattle.lrc_named_tree.specs.View.{arm_row, block_of, block_row, expression_of, expressions_of, named_of, place_of, statement_of}
 use Rattle.lrc_named_tree.specs.declared.tree.Statement.TheBlock.{hidden-the_row-Statement-0, hidden-the_row-Arm-1}

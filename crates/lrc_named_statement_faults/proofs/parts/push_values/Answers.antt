@@ -1,5 +1,5 @@
 -- The list grows by each value.
-use Rattle.std.proofs.Common.{List, map}
+use Rattle.std.proofs.Common.{map}
 use Rattle.lrc_named_statement_faults.specs.Parts.{part_seen}
 use Rattle.lrc_named_statement_faults.proofs.Growing.{piece_step}
 use Rattle.lrc_named_statement_faults.proofs.Rows.{values_pieced}

@@ -1,6 +1,6 @@
 -- The list grows by the names of each form of an expression.
-use Rattle.std.proofs.Common.{◌≡◌, List, [], ◌∷◌, ◌++◌, map, append-nil, sym, ap, ◌∙◌}
-use Rattle.lrc_named_tree.specs.View.{expression_of, expressions_of, named_of, row_of}
+use Rattle.std.proofs.Common.{◌≡◌, [], ◌∷◌, ◌++◌, map, append-nil, sym, ap, ◌∙◌}
+use Rattle.lrc_named_tree.specs.View.{expression_of, expressions_of, named_of}
 use Rattle.lrc_named_constants.proofs.Rows.{row_of_hidden}
 use Rattle.lrc_named_statement_faults.specs.Statements.{names_in, names_in_all}
 use Rattle.lrc_named_statement_faults.proofs.Growing.{piece_step, two_pieces, well}

@@ -1,5 +1,5 @@
 -- By what the name means.
-use Rattle.std.proofs.Common.{sym, ap, ◌∙◌}
+use Rattle.std.proofs.Common.{ap}
 use Rattle.lrc_named_statement_faults.specs.Statements.{is_private_sense}
 use Rattle.lrc_named_statement_faults.proofs.privates.is_private.Goals as goal
 

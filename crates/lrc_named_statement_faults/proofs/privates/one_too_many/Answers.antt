@@ -1,10 +1,9 @@
 -- The 33rd different name, or 32 at most.
-use Rattle.std.proofs.Common.{◌≡◌, ◌≤◌, ◌+◌, ℕ, List, [], ◌∷◌, ◌++◌, length, map, take, drop, get_or, refl, sym, ap, subst, ◌∙◌, arith, true, false}
+use Rattle.std.proofs.Common.{◌≡◌, ◌≤◌, ◌+◌, length, map, take, drop, get_or, sym, ap, subst, ◌∙◌, arith, true, false}
 use Rattle.std.specs.Prelude.{Some}
 use Rattle.lrc_named_tree.specs.View.{named_of}
 use Rattle.lrc_named_constants.specs.Well.{bytes_of, is_among}
-use Rattle.lrc_named_expression_faults.specs.declared.fault.FaultKind.TheVariants.{TooManyNames}
-use Rattle.lrc_named_expression_faults.specs.Fault.{IsFirstOf, fault_at}
+use Rattle.lrc_named_expression_faults.specs.Fault.{IsFirstOf}
 use Rattle.lrc_named_statement_faults.specs.Statements.{IsOneTooMany, different}
 use Rattle.lrc_named_statement_faults.proofs.Different.{all_taken, cut_at, full_known, none_too_many, seen_step, this_too_many}
 use Rattle.lrc_named_statement_faults.proofs.privates.one_too_many.Goals as goal

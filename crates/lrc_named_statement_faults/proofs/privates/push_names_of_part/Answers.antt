@@ -1,5 +1,5 @@
 -- The names of each kind of a part.
-use Rattle.std.proofs.Common.{◌≡◌, List, [], ◌∷◌, ◌++◌, map, sym, ap, ◌∙◌}
+use Rattle.std.proofs.Common.{◌≡◌, [], ◌∷◌, ◌++◌, map, sym, ap, ◌∙◌}
 use Rattle.lrc_named_tree.specs.View.{expression_of, expressions_of, named_of}
 use Rattle.lrc_named_statement_faults.specs.Parts.{part_seen}
 use Rattle.lrc_named_statement_faults.specs.Statements.{names_in, names_in_all, names_in_part}

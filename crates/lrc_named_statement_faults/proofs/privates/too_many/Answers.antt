@@ -1,5 +1,5 @@
 -- The private ones of all names.
-use Rattle.std.proofs.Common.{◌≡◌, map, sym, ap, subst, ◌∙◌}
+use Rattle.std.proofs.Common.{map, ap, subst, ◌∙◌}
 use Rattle.std.specs.Prelude.{IfOk}
 use Rattle.lrc_named_tree.specs.View.{named_of}
 use Rattle.lrc_named_expression_faults.specs.Fault.{IsFirstOf}

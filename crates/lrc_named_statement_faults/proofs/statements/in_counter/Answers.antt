@@ -1,9 +1,9 @@
 -- By what the name means.
-use Rattle.std.proofs.Common.{◌≡◌, sym, ap, subst, ◌∙◌}
+use Rattle.std.proofs.Common.{ap}
 use Rattle.std.specs.Prelude.{Some, None}
 use Rattle.lrc_named_tree.specs.View.{named_of}
 use Rattle.lrc_named_expression_faults.specs.declared.fault.FaultKind.TheVariants.{WrongUse}
-use Rattle.lrc_named_expression_faults.specs.Fault.{IsFirstOf, fault_at}
+use Rattle.lrc_named_expression_faults.specs.Fault.{fault_at}
 use Rattle.lrc_named_expression_faults.specs.Scope.{private_name}
 use Rattle.lrc_named_expression_faults.specs.View.{sense_seen}
 use Rattle.lrc_named_expression_faults.proofs.First.{told_as}

@@ -1,6 +1,6 @@
 -- By what the name means.
-use Rattle.std.proofs.Common.{◌≡◌, sym, ap, subst, ◌∙◌}
-use Rattle.std.specs.Prelude.{Some, None}
+use Rattle.std.proofs.Common.{ap, subst, ◌∙◌}
+use Rattle.std.specs.Prelude.{Some}
 use Rattle.lrc_named_tree.specs.View.{expressions_of, named_of}
 use Rattle.lrc_named_names.specs.View.{meaning_seen}
 use Rattle.lrc_named_expression_faults.specs.declared.fault.FaultKind.TheVariants.{UnknownName, WrongUse}

@@ -1,11 +1,11 @@
 -- By the kind of the part.
-use Rattle.std.proofs.Common.{◌≡◌, sym, ap, subst, ◌∙◌}
+use Rattle.std.proofs.Common.{sym, subst}
 use Rattle.std.specs.Prelude.{IfOk}
-use Rattle.lrc_named_tree.specs.View.{expression_of, named_of, place_of}
+use Rattle.lrc_named_tree.specs.View.{named_of}
 use Rattle.lrc_named_expression_faults.specs.Fault.{IsFirstOf}
 use Rattle.lrc_named_expression_faults.specs.Scope.{sense_of}
 use Rattle.lrc_named_expression_faults.specs.View.{scope_of, sense_seen}
-use Rattle.lrc_named_statement_faults.specs.Parts.{counter, part_seen}
+use Rattle.lrc_named_statement_faults.specs.Parts.{part_seen}
 use Rattle.lrc_named_statement_faults.specs.Statements.{IsInCounter, IsInPart, IsReserved}
 use Rattle.lrc_named_statement_faults.proofs.Senses.{counter_as, joined}
 use Rattle.lrc_named_statement_faults.proofs.statements.of_part.Goals as goal

@@ -1,6 +1,6 @@
 -- The name and the indices.
-use Rattle.std.proofs.Common.{◌≡◌, sym, subst, ◌∙◌}
-use Rattle.lrc_named_tree.specs.View.{expressions_of, named_of, place_of}
+use Rattle.std.proofs.Common.{subst}
+use Rattle.lrc_named_tree.specs.View.{expressions_of, place_of}
 use Rattle.lrc_named_expression_faults.specs.Expressions.{IsInIndices}
 use Rattle.lrc_named_expression_faults.specs.Fault.{IsFirstOf}
 use Rattle.lrc_named_expression_faults.specs.View.{scope_of, sense_seen}

@@ -1,6 +1,6 @@
 -- The first fault of each form of an expression is the first one of its parts.
 use Rattle.std.proofs.Common.{◌≡◌, ◌-◌, ◌+◌, ◌<◌, ◌≤◌, suc, length, drop, sym, ap, subst, ◌∙◌, arith, refl}
-use Rattle.std.specs.Prelude.{Some, None, slice_get}
+use Rattle.std.specs.Prelude.{None}
 use Rattle.lrc_named_tree.specs.Tree.{call, element, group, me, negation, nodes, number, binary, both, either}
 use Rattle.lrc_named_tree.specs.View.{expression_of, expressions_of, named_of, row_of}
 use Rattle.lrc_named_tree.specs.declared.tree.Expression.TheBlock.{hidden-the_row-Expression-0}

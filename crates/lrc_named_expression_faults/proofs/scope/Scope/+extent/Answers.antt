@@ -1,14 +1,14 @@
 -- The extent of each form of an expression is that of its parts.
 use Rattle.std.proofs.Common.{◌≡◌, ◌-◌, ◌+◌, ◌<◌, ◌≤◌, suc, length, drop, map, sym, ap, subst, ◌∙◌, arith}
 use Rattle.std.proofs.Math.Seq.{drop-length}
-use Rattle.lrc_named_tree.specs.Tree.{Expressions, call, element, group, me, negation, nodes, number, binary, both, either}
+use Rattle.lrc_named_tree.specs.Tree.{call, element}
 use Rattle.lrc_named_tree.specs.View.{expression_of, expressions_of, named_of, row_of}
 use Rattle.lrc_named_tree.specs.declared.tree.Expression.TheBlock.{hidden-the_row-Expression-0}
-use Rattle.lrc_named_names.specs.Names.{meaning_of, place_of}
+use Rattle.lrc_named_names.specs.Names.{meaning_of}
 use Rattle.lrc_named_names.specs.View.{declared_of}
 use Rattle.lrc_named_constants.specs.Constant.{names_of}
 use Rattle.lrc_named_constants.specs.View.{known_of}
-use Rattle.lrc_named_constants.specs.Well.{AreWell, IsWell, Takes, count}
+use Rattle.lrc_named_constants.specs.Well.{AreWell, IsWell, count}
 use Rattle.lrc_named_constants.proofs.Each.{smaller_at, well_at}
 use Rattle.lrc_named_constants.proofs.Measure.{size, sizes}
 use Rattle.lrc_named_constants.proofs.Rows.{row_of_hidden}

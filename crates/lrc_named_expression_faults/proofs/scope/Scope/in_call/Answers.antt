@@ -1,5 +1,5 @@
 -- By what the name means.
-use Rattle.std.proofs.Common.{◌≡◌, map, length, sym, ap, ◌∙◌}
+use Rattle.std.proofs.Common.{◌≡◌, map, sym, ap, ◌∙◌}
 use Rattle.std.specs.Prelude.{Some}
 use Rattle.std.proofs.lemmas.List.{length-map}
 use Rattle.lrc_named_tree.specs.View.{expression_of, expressions_of, named_of}

@@ -1,5 +1,5 @@
 -- A fault inside, or one of the value.
-use Rattle.std.proofs.Common.{◌≡◌, sym, subst}
+use Rattle.std.proofs.Common.{sym, subst}
 use Rattle.std.specs.Prelude.{Some}
 use Rattle.lrc_named_tree.specs.View.{expression_of}
 use Rattle.lrc_named_expression_faults.specs.Expressions.{IsBeyond, IsInExpression, IsInIndex}

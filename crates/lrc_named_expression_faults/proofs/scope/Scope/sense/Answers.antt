@@ -1,9 +1,8 @@
 -- A parameter, what is declared, or what is not.
-use Rattle.std.proofs.Common.{◌≡◌, false, true, map, is_some, sym, ap, ◌∙◌}
+use Rattle.std.proofs.Common.{false, true, is_some, sym, ap, ◌∙◌}
 use Rattle.lrc_named_names.specs.Names.{meaning_at, meaning_of}
-use Rattle.lrc_named_names.specs.View.{declared_of, meaning_seen}
+use Rattle.lrc_named_names.specs.View.{meaning_seen}
 use Rattle.lrc_named_constants.specs.Constant.{names_of}
-use Rattle.lrc_named_constants.specs.View.{known_of}
 use Rattle.lrc_named_constants.specs.Well.{is_among}
 use Rattle.lrc_named_constants.proofs.Among.{is_some-known_as}
 use Rattle.lrc_named_expression_faults.specs.View.{scope_of}

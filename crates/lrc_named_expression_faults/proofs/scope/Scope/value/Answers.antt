@@ -1,5 +1,5 @@
 -- One thing is known of the expression: its value, or that it has none.
-use Rattle.std.proofs.Common.{◌≡◌, map, length, sym, subst}
+use Rattle.std.proofs.Common.{map, sym, subst}
 use Rattle.lrc_named_tree.specs.View.{expression_of}
 use Rattle.lrc_named_names.specs.View.{declared_of}
 use Rattle.lrc_named_constants.specs.Constant.{IsConstancy, names_of}
