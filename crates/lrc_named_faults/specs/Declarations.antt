@@ -1,5 +1,5 @@
 -- The faults of declarations, by what is declared before them.
-use Rattle.std.specs.Prelude.{◌≡◌, ◌+◌, ◌<◌, ◌≤◌, ◌⊎◌, ℕ, true, false, Option, IsSome, List, [], ◌∷◌, ◌++◌, map}
+use Rattle.std.specs.Prelude.{◌≡◌, ◌+◌, ◌<◌, ◌≤◌, ◌⊎◌, ◌||◌, ℕ, true, false, Option, IsSome, is_some, List, [], ◌∷◌, ◌++◌, map}
 use Rattle.lrc_named_tree.specs.Tree.{Named, Expression, Expressions, none, more, Place, Declaration, node_count, constant, shared, lock, function}
 use Rattle.lrc_named_tree.specs.Ends.{first_of}
 use Rattle.lrc_named_names.specs.Elements.{elements}
@@ -30,10 +30,10 @@ body_scope table parameters = record { declared = table; known = varying paramet
 
 -- ---- names
 
--- a name that is declared, and stands in the table or among these already; or begins with `_`
+-- a name that is declared, and stands among these already or in the table; or begins with `_`
 abbrev pub IsInName : List Declared → List (List ℕ) → Named → Fault → Type 0
 IsInName table others named fault =
-    (((IsSome (meaning_of table named.bytes)) ⊎ (is_among others named.bytes ≡ true)) × (fault ≡ fault_at named.at DeclaredTwice)) ⊎ IsReserved named fault
+    (((is_among others named.bytes || is_some (meaning_of table named.bytes)) ≡ true) × (fault ≡ fault_at named.at DeclaredTwice)) ⊎ IsReserved named fault
 
 -- parameters, in front of which these names stand
 abbrev pub IsInParameters : List Declared → List (List ℕ) → List Named → Fault → Type 0
@@ -47,26 +47,27 @@ abbrev pub IsClean : Scope → Expression → Type 0
 IsClean scope e = IsNone (λ fault. IsInExpression scope e fault)
 
 -- a constant has a value
-abbrev pub IsInConstant : List Declared → Expression → Fault → Type 0
-IsInConstant table e fault =
-    IsInExpression (constant_scope table) e fault
-    ⊎ ((IsClean (constant_scope table) e × ((v : ℕ) → IsConstancy table [] e (Value v) → ⊥)) × (fault ≡ fault_at (first_of e) (OverLimit limits.Division)))
+abbrev pub IsInConstant : Scope → Expression → Fault → Type 0
+IsInConstant scope e fault =
+    IsInExpression scope e fault
+    ⊎ ((IsClean scope e × ((v : ℕ) → IsConstancy scope.declared scope.known e (Value v) → ⊥)) × (fault ≡ fault_at (first_of e) (OverLimit limits.Division)))
 
 -- a size has a value from 1 to 65,536
-abbrev pub IsInSize : List Declared → Expression → Fault → Type 0
-IsInSize table e fault =
-    IsInExpression (constant_scope table) e fault
-    ⊎ ((IsClean (constant_scope table) e × ((v : ℕ) → IsConstancy table [] e (Value v) → 1 ≤ v → v ≤ 65536 → ⊥)) × (fault ≡ fault_at (first_of e) (OverLimit limits.Size)))
+abbrev pub IsInSize : Scope → Expression → Fault → Type 0
+IsInSize scope e fault =
+    IsInExpression scope e fault
+    ⊎ ((IsClean scope e × ((v : ℕ) → IsConstancy scope.declared scope.known e (Value v) → 1 ≤ v → v ≤ 65536 → ⊥))
+    × (fault ≡ fault_at (first_of e) (OverLimit limits.Size)))
 
-abbrev pub IsInSizes : List Declared → Expressions → Fault → Type 0
-IsInSizes table none fault = ⊥
-IsInSizes table (more e others) fault = IsInSize table e fault ⊎ IsInSizes table others fault
+abbrev pub IsInSizes : Scope → Expressions → Fault → Type 0
+IsInSizes scope none fault = ⊥
+IsInSizes scope (more e others) fault = IsInSize scope e fault ⊎ IsInSizes scope others fault
 
 -- a body, with those that it calls, has at most 256 operators and calls
-abbrev pub IsInBody : List Declared → List Named → Expression → Fault → Type 0
-IsInBody table parameters e fault =
-    IsInExpression (body_scope table parameters) e fault
-    ⊎ ((IsClean (body_scope table parameters) e × ((n : ℕ) × Weighs table e n × (256 < n))) × (fault ≡ fault_at (first_of e) (OverLimit limits.Body)))
+abbrev pub IsInBody : Scope → Expression → Fault → Type 0
+IsInBody scope e fault =
+    IsInExpression scope e fault
+    ⊎ ((IsClean scope e × ((n : ℕ) × Weighs scope.declared e n × (256 < n))) × (fault ≡ fault_at (first_of e) (OverLimit limits.Body)))
 
 -- ---- items
 
@@ -93,11 +94,11 @@ with_item locks table p sizes = table ++ as_meaning p.name (names.lock (record {
 
 -- there are sizes, with which there would be too many words or locks
 abbrev pub IsTooLarge : Kind → List Declared → Place → Type 0
-IsTooLarge kind table p = IsNone (λ fault. IsInSizes table p.indices fault) × ((sizes : List ℕ) × HaveSizes table p.indices sizes × (most kind < used kind table + elements sizes))
+IsTooLarge kind table p = IsNone (λ fault. IsInSizes (constant_scope table) p.indices fault) × ((sizes : List ℕ) × HaveSizes table p.indices sizes × (most kind < used kind table + elements sizes))
 
 abbrev pub IsInItem : Kind → List Declared → Place → Fault → Type 0
 IsInItem kind table p fault =
-    (IsInName table [] p.name fault ⊎ IsInSizes table p.indices fault) ⊎ (IsTooLarge kind table p × (fault ≡ fault_at p.name.at (OverLimit (limit_of kind))))
+    (IsInName table [] p.name fault ⊎ IsInSizes (constant_scope table) p.indices fault) ⊎ (IsTooLarge kind table p × (fault ≡ fault_at p.name.at (OverLimit (limit_of kind))))
 
 -- an item has a fault, or one behind it, where it has none and is declared
 abbrev pub IsInItems : Kind → List Declared → List Place → Fault → Type 0
@@ -112,8 +113,8 @@ IsInItems kind table (p ∷ others) fault =
 abbrev pub IsInDeclaration : Option ℕ → List Declared → Declaration → Fault → Type 0
 IsInDeclaration counted table (node_count at n) fault =
     (IsSome counted × (fault ≡ fault_at at DeclaredTwice)) ⊎ (((1 ≤ n) × (n ≤ 16) → ⊥) × (fault ≡ fault_at (at + 1) (OverLimit limits.NodeCount)))
-IsInDeclaration counted table (constant at named value) fault = IsInName table [] named fault ⊎ IsInConstant table value fault
+IsInDeclaration counted table (constant at named value) fault = IsInName table [] named fault ⊎ IsInConstant (constant_scope table) value fault
 IsInDeclaration counted table (shared at items) fault = IsInItems words table items fault
 IsInDeclaration counted table (lock at items) fault = IsInItems locks table items fault
 IsInDeclaration counted table (function at named parameters body) fault =
-    (IsInName table [] named fault ⊎ IsInParameters table (named.bytes ∷ []) parameters fault) ⊎ IsInBody table parameters body fault
+    (IsInName table [] named fault ⊎ IsInParameters table (named.bytes ∷ []) parameters fault) ⊎ IsInBody (body_scope table parameters) body fault

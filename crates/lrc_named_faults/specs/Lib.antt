@@ -1,3 +1,3 @@
 pub mod Declarations
-pub mod Layout
 pub mod Program
+pub mod Values

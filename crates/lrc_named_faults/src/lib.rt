@@ -1,11 +1,5 @@
-//! The first fault of a named program that the grammar does not tell, and what is declared in one that has none: each name
-//! with its value, its place among the words or locks, or its body.
+//! The faults of named programs that the grammar does not tell: of declarations, and of whole programs. The crate defines
+//! them, and says of names, constants, sizes and bodies that are declared which of their faults comes first.
 #![tactic(auto)]
 
-mod declarations;
-mod items;
-pub mod layout;
-mod program;
-mod values;
-
-pub use program::{Checked, check, first_fault};
+pub mod values;

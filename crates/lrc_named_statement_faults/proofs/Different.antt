@@ -117,7 +117,7 @@ two_places (z ∷ f) (w ∷ g) a b x y e =
 pub this_too_many : (names front back : List Named) (named : Named) → names ≡ front ++ named ∷ back → is_among (bytes_of front) named.bytes ≡ false
     → different (bytes_of front) ≡ 32 → IsFirstOf (λ f. IsOneTooMany names f) (Some (fault_at named.at TooManyNames))
 this_too_many names front back named is new all = (
-  (front, named, back, ((is, new, all), refl)),
+  (front, named, back, (is, new, all), refl),
   λ g h.
       let e = h.3.0 in
       let same : named ≡ h.1 = elim (two_places front h.0 back h.2 named h.1 (sym is ∙ e)) [
@@ -137,21 +137,25 @@ pub full_known : (known : Bool) (count : ℕ) → (not known && (count == 32)) �
 full_known true count e = absurd (cc)
 full_known false count e = (refl, grind (arith, nat_tests))
 
-pub cut_at : (xs : List code_name.Name) (i : ℕ) (d : code_name.Name) → i < length xs
-    → map named_of xs ≡ map named_of (take i xs) ++ named_of (get_or xs i d) ∷ map named_of (drop (i + 1) xs)
-cut_at [] i d lt = absurd (omega arith)
-cut_at (x ∷ xs) zero d lt = refl
-cut_at (x ∷ xs) (suc i) d lt = ap (λ l. named_of x ∷ l) (cut_at xs i d (omega arith))
+cut_at_next : (xs : List code_name.Name) (i : ℕ) (d : code_name.Name) → i < length xs
+    → map named_of xs ≡ map named_of (take i xs) ++ named_of (get_or xs i d) ∷ map named_of (drop (suc i) xs)
+cut_at_next [] i d lt = absurd (omega arith)
+cut_at_next (x ∷ xs) zero d lt = refl
+cut_at_next (x ∷ xs) (suc i) d lt = ap (λ l. named_of x ∷ l) (cut_at_next xs i d (omega arith))
 
 pub all_taken : (xs : List code_name.Name) (i : ℕ) → length xs ≤ i → take i xs ≡ xs
 all_taken xs i past = take_all i xs past
 
 -- the bytes of the names up to this one
-taken_bytes : (xs : List code_name.Name) (i : ℕ) (d : code_name.Name) → i < length xs
+taken_next : (xs : List code_name.Name) (i : ℕ) (d : code_name.Name) → i < length xs
+    → bytes_of (map named_of (take (suc i) xs)) ≡ bytes_of (map named_of (take i xs)) ++ (named_of (get_or xs i d)).bytes ∷ []
+taken_next [] i d lt = absurd (omega arith)
+taken_next (x ∷ xs) zero d lt = refl
+taken_next (x ∷ xs) (suc i) d lt = ap (λ l. (named_of x).bytes ∷ l) (taken_next xs i d (omega arith))
+
+pub taken_bytes : (xs : List code_name.Name) (i : ℕ) (d : code_name.Name) → i < length xs
     → bytes_of (map named_of (take (i + 1) xs)) ≡ bytes_of (map named_of (take i xs)) ++ (named_of (get_or xs i d)).bytes ∷ []
-taken_bytes [] i d lt = absurd (omega arith)
-taken_bytes (x ∷ xs) zero d lt = refl
-taken_bytes (x ∷ xs) (suc i) d lt = ap (λ l. (named_of x).bytes ∷ l) (taken_bytes xs i d (omega arith))
+taken_bytes xs i d lt = let next : i + 1 ≡ suc i = omega arith in ap (λ n. bytes_of (map named_of (take n xs))) next ∙ taken_next xs i d lt
 
 abbrev pub IsSeen : List (List ℕ) → List code_name.Name → Type 0
 IsSeen names seen = record {
@@ -208,3 +212,29 @@ seen_step xs i d seen new false count lt is counted fits grown same many few =
       many = omega (arith, long, many, last, one, all);
       few = omega (arith, long, few, room);
     }
+
+-- the name of the loop's present place is the 33rd different one
+pub over_first : (xs : List code_name.Name) (i : ℕ) (d : code_name.Name) (seen shown counted : List code_name.Name) (known over : Bool) (count : ℕ) (fault : Fault)
+    → i < length xs → shown ≡ seen → counted ≡ seen → known ≡ is_among (bytes_of (map named_of shown)) (named_of (get_or xs i d)).bytes
+    → count ≡ length counted → over ≡ (not known && (count == 32)) → over ≡ true → fault ≡ fault_at (named_of (get_or xs i d)).at TooManyNames
+    → ((n : List ℕ) → is_among (bytes_of (map named_of seen)) n ≡ is_among (bytes_of (map named_of (take i xs))) n)
+    → length seen ≡ different (bytes_of (map named_of (take i xs))) → IsFirstOf (λ f. IsOneTooMany (map named_of xs) f) (Some fault)
+over_first xs i d seen shown counted known over count fault lt shows counts is many_seen tests so told same many =
+    let named = named_of (get_or xs i d) in
+    let full = full_known known count (sym tests ∙ so) in
+    let new : is_among (bytes_of (map named_of (take i xs))) named.bytes ≡ false =
+    sym (same named.bytes) ∙ ap (λ l. is_among (bytes_of (map named_of l)) named.bytes) (sym shows) ∙ sym is ∙ full.0 in
+    let all : different (bytes_of (map named_of (take i xs))) ≡ 32 = sym many ∙ ap length (sym counts) ∙ sym many_seen ∙ full.1 in
+    subst (λ x. IsFirstOf (λ f. IsOneTooMany (map named_of xs) f) (Some x)) (sym told)
+    (this_too_many (map named_of xs) (map named_of (take i xs)) (map named_of (drop (suc i) xs)) named (cut_at_next xs i d lt) new all)
+
+-- the loop goes on
+pub seen_on : (xs : List code_name.Name) (i : ℕ) (d : code_name.Name) (seen shown counted new : List code_name.Name) (known over : Bool) (count : ℕ)
+    → i < length xs → shown ≡ seen → counted ≡ seen → known ≡ is_among (bytes_of (map named_of shown)) (named_of (get_or xs i d)).bytes
+    → count ≡ length counted → over ≡ (not known && (count == 32)) → over ≡ false
+    → map named_of new ≡ map named_of seen ++ (if known then [] else named_of (get_or xs i d) ∷ [])
+    → ((n : List ℕ) → is_among (bytes_of (map named_of seen)) n ≡ is_among (bytes_of (map named_of (take i xs))) n)
+    → length seen ≡ different (bytes_of (map named_of (take i xs))) → length seen ≤ 32 → IsSeen (bytes_of (map named_of (take (i + 1) xs))) new
+seen_on xs i d seen shown counted new known over count lt shows counts is many_seen tests so grown same many few =
+    seen_step xs i d seen new known count lt (is ∙ ap (λ l. is_among (bytes_of (map named_of l)) (named_of (get_or xs i d)).bytes) shows)
+    (many_seen ∙ ap length counts) (sym tests ∙ so) grown same many few

@@ -28,6 +28,13 @@ piece_step f g is xs i x start old new lt here before grown =
     grown ∙ ap (λ l. l ++ g x) before ∙ append_assoc start (f (take i xs)) (g x) ∙ ap (λ l. start ++ l) (sym (last_piece f g is (take i xs) x))
     ∙ ap (λ l. start ++ f l) (sym cut)
 
+pub piece_step_at : {A B : Type 0} (f : List A → List B) (g : A → List B) → IsPieced f g → (xs : List A) (i : ℕ) (d : A) (start old new : List B)
+    → i < length xs → old ≡ start ++ f (take i xs) → new ≡ old ++ g (get_or xs i d) → new ≡ start ++ f (take (i + 1) xs)
+piece_step_at f g is xs i d start old new lt before grown =
+    let cut : take (i + 1) xs ≡ take i xs ++ get_or xs i d ∷ [] = rw add-one (take-suc xs i d lt) in
+    grown ∙ ap (λ l. l ++ g (get_or xs i d)) before ∙ append_assoc start (f (take i xs)) (g (get_or xs i d))
+    ∙ ap (λ l. start ++ l) (sym (last_piece f g is (take i xs) (get_or xs i d))) ∙ ap (λ l. start ++ f l) (sym cut)
+
 -- what is so of a result that went well
 pub well : {A E : Type 0} (P Q : Type 0) (r : Result A E) → (P → Q) → OnOk r P → OnOk r Q
 well P Q (Ok x) f h = f h

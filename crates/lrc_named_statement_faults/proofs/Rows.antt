@@ -5,7 +5,7 @@ use Rattle.lrc_named_tree.specs.declared.tree.Arm.{Arm}
 use Rattle.lrc_named_tree.specs.declared.tree.Expression as code_expression
 use Rattle.lrc_named_tree.specs.declared.tree.Statement.{Statement, Row_of-Statement, end_of-Statement, more_of-Statement, Row_of-Arm, end_of-Arm, more_of-Arm}
 use Rattle.lrc_named_tree.specs.declared.tree.Statement.{items-the_row-Statement, items_hidden-the_row-Statement-0, items_shown-the_row-Statement-0, items-the_row-Arm, items_hidden-the_row-Arm-1}
-use Rattle.lrc_named_tree.specs.declared.tree.Statement.TheBlock.{hidden-the_row-Statement-0, hidden-the_row-Arm-1}
+use Rattle.lrc_named_tree.specs.declared.tree.Statement.TheBlock.{hidden-the_row-Statement-0, hidden-the_row-Arm-1, shown-the_row-Statement-0}
 use Rattle.lrc_named_tree.specs.Tree.{Arms, next, arm, no_arm}
 use Rattle.lrc_named_tree.specs.View.{arm_row, block_of, block_row, expression_of, expressions_of, statement_of}
 use Rattle.lrc_named_statement_faults.specs.Parts.{arms_of, parts_of, parts_of_arms, parts_of_block, parts_of_values, value, with_arm}
@@ -23,7 +23,7 @@ arm_row_is : {m : _} (row : Row_of-Arm m) → arm_row row ≡ arms_of (items-the
 arm_row_is end_of-Arm = refl
 arm_row_is (more_of-Arm at condition p row rest) =
     ap (λ b. arm at (expression_of condition) b (arm_row rest)) (block_row_is row ∙ ap block_of (sym (items_shown-the_row-Statement-0 p row)))
-    ∙ ap (λ l. arm at (expression_of condition) _ l) (arm_row_is rest)
+    ∙ ap (λ l. arm at (expression_of condition) (block_of (shown-the_row-Statement-0 p row).items) l) (arm_row_is rest)
 
 -- each `else if` of a statement
 pub arm_row_hidden : (v : Vec Arm Global) → arm_row (hidden-the_row-Arm-1 v) ≡ arms_of v.items

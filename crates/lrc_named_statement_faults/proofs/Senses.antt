@@ -68,13 +68,13 @@ joined A B one other found is a b = subst (λ r. IsFirstOf (λ f. A f ⊎ B f) r
 pub no_part_left : (scope : Scope) (xs : List code_part.Part) → IsFirstOf (λ f. IsInParts scope (map part_seen (drop (length xs) xs)) f) None
 no_part_left scope xs = subst (λ l. IsFirstOf (λ f. IsInParts scope (map part_seen l) f) None) (sym (drop-length xs)) nothing_first
 
-pub parts_step : (scope : Scope) (xs : List code_part.Part) (i k : ℕ) (d : code_part.Part) (one first found : Option Fault)
-    → suc k ≡ i → suc k ≤ length xs → found ≡ earlier one first → IsFirstOf (λ f. IsInPart scope (part_seen (get_or xs k d)) f) one
+pub parts_step : (scope : Scope) (xs : List code_part.Part) (i k : ℕ) (y : code_part.Part) (one first found : Option Fault)
+    → suc k ≡ i → suc k ≤ length xs → y ≡ get_or xs k y → found ≡ earlier one first → IsFirstOf (λ f. IsInPart scope (part_seen y) f) one
     → IsFirstOf (λ f. IsInParts scope (map part_seen (drop i xs)) f) first → IsFirstOf (λ f. IsInParts scope (map part_seen (drop k xs)) f) found
-parts_step scope xs i k d one first found next lt is a b =
-    let cut : drop k xs ≡ get_or xs k d ∷ drop i xs = drop-cons xs k d (omega arith) ∙ ap (λ n. get_or xs k d ∷ drop n xs) next in
+parts_step scope xs i k y one first found next lt here is a b =
+    let cut : drop k xs ≡ y ∷ drop i xs = drop-cons xs k y (omega arith) ∙ ap (λ n. get_or xs k y ∷ drop n xs) next ∙ ap (λ z. z ∷ drop i xs) (sym here) in
     subst (λ l. IsFirstOf (λ f. IsInParts scope (map part_seen l) f) found) (sym cut)
-    (joined (λ f. IsInPart scope (part_seen (get_or xs k d)) f) (λ f. IsInParts scope (map part_seen (drop i xs)) f) one first found is a b)
+    (joined (λ f. IsInPart scope (part_seen y) f) (λ f. IsInParts scope (map part_seen (drop i xs)) f) one first found is a b)
 
 -- whether a name begins with `_`
 pub reserved_some : (name : List ℕ) (first : ℕ) → Some first ≡ slice_get name 0 → (first == 95) ≡ is_reserved name

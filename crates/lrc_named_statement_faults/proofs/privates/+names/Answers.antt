@@ -83,7 +83,7 @@ push_names-returns-in_ok-push_names-in-Binary t c =
     let l = names_in (expression_of c.deref-in-Binary.result.now) in
     let r = names_in (expression_of c.deref-in-Binary-2.result.now) in
     let is : names_in (expression_of c.args.expression.now) ≡ l ++ r =
-    ap (λ x. names_in (expression_of x)) c.in-Binary.is ∙ ap (λ x. names_in (expression_of x) ++ _) (sym c.deref-in-Binary.ensures) ∙ ap (λ x. l ++ names_in (expression_of x)) (sym c.deref-in-Binary-2.ensures) in
+    ap (λ x. names_in (expression_of x)) c.in-Binary.is ∙ ap (λ x. names_in (expression_of x) ++ names_in (expression_of c.in-Binary.right.value)) (sym c.deref-in-Binary.ensures) ∙ ap (λ x. l ++ names_in (expression_of x)) (sym c.deref-in-Binary-2.ensures) in
     well (new ≡ one ++ r) (new ≡ old ++ names_in (expression_of c.args.expression.now)) c.push_names-in-Binary-2.result
     (λ h. two_pieces old one new l r c.in_ok-push_names-in-Binary.ensures h ∙ ap (λ z. old ++ z) (sym is)) c.push_names-in-Binary-2.ensures
 
@@ -95,7 +95,7 @@ push_names-returns-in_ok-push_names-in-And t c =
     let l = names_in (expression_of c.deref-in-And.result.now) in
     let r = names_in (expression_of c.deref-in-And-2.result.now) in
     let is : names_in (expression_of c.args.expression.now) ≡ l ++ r =
-    ap (λ x. names_in (expression_of x)) c.in-And.is ∙ ap (λ x. names_in (expression_of x) ++ _) (sym c.deref-in-And.ensures) ∙ ap (λ x. l ++ names_in (expression_of x)) (sym c.deref-in-And-2.ensures) in
+    ap (λ x. names_in (expression_of x)) c.in-And.is ∙ ap (λ x. names_in (expression_of x) ++ names_in (expression_of c.in-And.right.value)) (sym c.deref-in-And.ensures) ∙ ap (λ x. l ++ names_in (expression_of x)) (sym c.deref-in-And-2.ensures) in
     well (new ≡ one ++ r) (new ≡ old ++ names_in (expression_of c.args.expression.now)) c.push_names-in-And-2.result
     (λ h. two_pieces old one new l r c.in_ok-push_names-in-And.ensures h ∙ ap (λ z. old ++ z) (sym is)) c.push_names-in-And-2.ensures
 
@@ -107,6 +107,6 @@ push_names-returns-in_ok-push_names-in-Or t c =
     let l = names_in (expression_of c.deref-in-Or.result.now) in
     let r = names_in (expression_of c.deref-in-Or-2.result.now) in
     let is : names_in (expression_of c.args.expression.now) ≡ l ++ r =
-    ap (λ x. names_in (expression_of x)) c.in-Or.is ∙ ap (λ x. names_in (expression_of x) ++ _) (sym c.deref-in-Or.ensures) ∙ ap (λ x. l ++ names_in (expression_of x)) (sym c.deref-in-Or-2.ensures) in
+    ap (λ x. names_in (expression_of x)) c.in-Or.is ∙ ap (λ x. names_in (expression_of x) ++ names_in (expression_of c.in-Or.right.value)) (sym c.deref-in-Or.ensures) ∙ ap (λ x. l ++ names_in (expression_of x)) (sym c.deref-in-Or-2.ensures) in
     well (new ≡ one ++ r) (new ≡ old ++ names_in (expression_of c.args.expression.now)) c.push_names-in-Or-2.result
     (λ h. two_pieces old one new l r c.in_ok-push_names-in-Or.ensures h ∙ ap (λ z. old ++ z) (sym is)) c.push_names-in-Or-2.ensures

@@ -1,5 +1,5 @@
 -- The parts, and the private names.
-use Rattle.std.proofs.Common.{◌≡◌, ◌++◌, List, [], map, ap, subst, ◌∙◌}
+use Rattle.std.proofs.Common.{◌≡◌, ◌++◌, List, [], false, map, ap, subst, ◌∙◌}
 use Rattle.lrc_named_tree.specs.View.{block_of, named_of}
 use Rattle.lrc_named_tree.specs.Tree.{Named}
 use Rattle.lrc_named_names.specs.Names.{Declared}

@@ -15,7 +15,7 @@ loop-i-preserved c =
     let i = c.loop-i.i in
     let back : suc (i - 1) ≡ i = omega (arith, c.loop-i-test.true) in
     let within : suc (i - 1) ≤ length c.args.parts.now = omega (arith, c.loop-i-test.true) in
-    parts_step (scope_of c.args.scope.now) c.args.parts.now i (i - 1) _ c.in_ok-one.one c.loop-i.first c.earlier-first.result back within c.earlier-first.ensures
+    parts_step (scope_of c.args.scope.now) c.args.parts.now i (i - 1) c.index-parts-i.result c.in_ok-one.one c.loop-i.first c.earlier-first.result back within c.index-parts-i.is c.earlier-first.ensures
     c.in_ok-one.ensures c.loop-i.invariant
 
 pub returns : goal.returns
