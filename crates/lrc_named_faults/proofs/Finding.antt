@@ -1,19 +1,21 @@
 -- The first fault of what has faults inside, and one of its own where it has none inside.
-use Rattle.std.proofs.Common.{◌≡◌, ◌≤◌, ◌+◌, ◌⊎◌, inl, inr, ℕ, suc, List, [], ◌∷◌, ◌++◌, map, length, take, drop, get_or, refl, sym, ap, subst, ◌∙◌, arith}
+use Rattle.std.proofs.Common.{true, ◌||◌, Bool, ◌≡◌, ◌≤◌, ◌+◌, ◌⊎◌, inl, inr, ℕ, suc, List, [], ◌∷◌, ◌++◌, map, length, take, drop, get_or, refl, sym, ap, subst, ◌∙◌, arith}
 use Rattle.std.specs.Prelude.{Option, Some, None, is_some, option_map}
 use Rattle.std.proofs.Math.Seq.{drop-cons, drop-length}
 use Rattle.lrc_named_tree.specs.declared.tree.Name as code_name
 use Rattle.lrc_named_tree.specs.Tree.{Expression}
 use Rattle.lrc_named_tree.specs.View.{named_of}
-use Rattle.lrc_named_names.specs.Names.{Declared}
+use Rattle.lrc_named_names.specs.Names.{Declared, meaning_of}
 use Rattle.lrc_named_constants.specs.declared.constancy.Constancy.TheVariants.{Value}
 use Rattle.lrc_named_constants.specs.Constant.{IsConstancy}
-use Rattle.lrc_named_constants.specs.Well.{bytes_of}
+use Rattle.lrc_named_constants.specs.Well.{bytes_of, is_among}
 use Rattle.lrc_named_constants.proofs.Unique.{one_constancy, value_alike}
 use Rattle.lrc_named_expression_faults.specs.declared.fault.Fault.{Fault}
-use Rattle.lrc_named_expression_faults.specs.Fault.{IsFirstOf, IsNone, earlier}
+use Rattle.lrc_named_expression_faults.specs.declared.fault.FaultKind.TheVariants.{DeclaredTwice}
+use Rattle.lrc_named_expression_faults.specs.Fault.{IsFirstOf, IsNone, earlier, fault_at}
 use Rattle.lrc_named_expression_faults.specs.Scope.{Scope}
 use Rattle.lrc_named_expression_faults.proofs.First.{nothing_first, same_first, when_so}
+use Rattle.lrc_named_statement_faults.specs.Statements.{IsReserved}
 use Rattle.lrc_named_statement_faults.proofs.Different.{taken_bytes}
 use Rattle.lrc_named_statement_faults.proofs.Senses.{joined}
 use Rattle.lrc_named_faults.specs.Declarations.{IsInName, IsInParameters}
@@ -47,19 +49,22 @@ pub no_parameter_left : (table : List Declared) (before : List (List ℕ)) (ps :
 no_parameter_left table before ps =
     subst (λ l. IsFirstOf (λ f. IsInParameters table before (map named_of l) f) None) (sym (drop-length ps)) nothing_first
 
-pub parameters_step : (table : List Declared) (function : List ℕ) (ps front : List code_name.Name) (i k : ℕ) (d : code_name.Name) (one first found : Option Fault)
+pub parameters_step : (table : List Declared) (function : List ℕ) (ps front : List code_name.Name) (i k : ℕ) (d : code_name.Name) (stood : Bool) (one first found : Option Fault)
     → suc k ≡ i → suc k ≤ length ps → front ≡ take k ps → found ≡ earlier one first
-    → IsFirstOf (λ f. IsInName table (function ∷ bytes_of (map named_of front)) (named_of (get_or ps k d)) f) one
+    → stood ≡ is_among (function ∷ bytes_of (map named_of front)) (named_of (get_or ps k d)).bytes
+    → IsFirstOf (λ f. (((stood || is_some (meaning_of table (named_of (get_or ps k d)).bytes)) ≡ true) × (f ≡ fault_at (named_of (get_or ps k d)).at DeclaredTwice))
+    ⊎ IsReserved (named_of (get_or ps k d)) f) one
     → IsFirstOf (λ f. IsInParameters table (function ∷ bytes_of (map named_of (take i ps))) (map named_of (drop i ps)) f) first
     → IsFirstOf (λ f. IsInParameters table (function ∷ bytes_of (map named_of (take k ps))) (map named_of (drop k ps)) f) found
-parameters_step table function ps front i k d one first found next lt cut is a b =
+parameters_step table function ps front i k d stood one first found next lt cut is stands a b =
     let before = function ∷ bytes_of (map named_of (take k ps)) in
     let p = named_of (get_or ps k d) in
     let row : drop k ps ≡ get_or ps k d ∷ drop i ps = drop-cons ps k d (omega arith) ∙ ap (λ n. get_or ps k d ∷ drop n ps) next in
     let up : k + 1 ≡ i = omega (arith, next) in
     let more : function ∷ bytes_of (map named_of (take i ps)) ≡ before ++ p.bytes ∷ [] =
     ap (λ n. function ∷ bytes_of (map named_of (take n ps))) (sym up) ∙ ap (λ l. function ∷ l) (taken_bytes ps k d (omega arith)) in
-    let here = subst (λ l. IsFirstOf (λ f. IsInName table (function ∷ bytes_of (map named_of l)) p f) one) cut a in
+    let said = stands ∙ ap (λ l. is_among (function ∷ bytes_of (map named_of l)) p.bytes) cut in
+    let here = subst (λ s. IsFirstOf (λ f. (((s || is_some (meaning_of table p.bytes)) ≡ true) × (f ≡ fault_at p.at DeclaredTwice)) ⊎ IsReserved p f) one) said a in
     let later = subst (λ l. IsFirstOf (λ f. IsInParameters table l (map named_of (drop i ps)) f) first) more b in
     subst (λ l. IsFirstOf (λ f. IsInParameters table before (map named_of l) f) found) (sym row)
     (joined (λ f. IsInName table before p f) (λ f. IsInParameters table (before ++ p.bytes ∷ []) (map named_of (drop i ps)) f) one first found is here later)

@@ -11,6 +11,7 @@ use Rattle.lrc_named_constants.specs.Layout.{HaveSizes, as_meaning, locks_in, wo
 use Rattle.lrc_named_constants.specs.Well.{is_among}
 use Rattle.lrc_named_expression_faults.specs.declared.fault.Fault.{Fault}
 use Rattle.lrc_named_expression_faults.specs.declared.fault.FaultKind.TheVariants.{DeclaredTwice, OverLimit}
+use Rattle.lrc_named_expression_faults.specs.declared.fault.Limit.{Limit}
 use Rattle.lrc_named_expression_faults.specs.declared.fault.Limit.TheVariants as limits
 use Rattle.lrc_named_expression_faults.specs.Expressions.{IsInExpression}
 use Rattle.lrc_named_expression_faults.specs.Extent.{Weighs}
@@ -84,7 +85,7 @@ abbrev pub most : Kind → ℕ
 most words = 65536
 most locks = 64
 
-abbrev pub limit_of : Kind → _
+abbrev pub limit_of : Kind → Limit
 limit_of words = limits.Words
 limit_of locks = limits.Locks
 

@@ -1,6 +1,6 @@
 // The faults of names, constants, sizes and bodies.
 
-ghost use Rattle.std.specs.Prelude.{◌≡◌, ◌||◌, ◌⊎◌, ◌∷◌, IfOk, true, is_some, [], map};
+ghost use Rattle.std.specs.Prelude.{◌≡◌, ◌≤◌, ◌||◌, ◌⊎◌, ◌∷◌, IfOk, true, is_some, length, [], map, take};
 ghost use Rattle.std.specs.Str.{bytes_eq};
 ghost use Rattle.lrc_named_tree.specs.Ends.{first_of};
 ghost use Rattle.lrc_named_tree.specs.View.{expression_of, named_of};
@@ -63,6 +63,14 @@ fn stands(function: Name<'_>, before: &[Name<'_>], name: &[u8]) -> bool
     is_spelled(function.bytes, name) || is_one_of(before, name)
 }
 
+// The first so many of the parameters.
+fn front<'a, 'p>(parameters: &'a [Name<'p>], count: usize) -> &'a [Name<'p>]
+    requires { count ≤ length parameters.now }
+    ensures { result.now ≡ take count parameters.now }
+{
+    &parameters[..count]
+}
+
 /// Returns the first fault of the parameters of a function, if they have one.
 pub fn in_parameters(
     names: &Names<'_>,
@@ -75,7 +83,8 @@ pub fn in_parameters(
     let mut first = None;
     for i in (0..parameters.len()).rev() {
         let name = parameters[i];
-        let stood = stands(function, &parameters[..i], name.bytes);
+        let before = front(parameters, i);
+        let stood = stands(function, before, name.bytes);
         let one = in_name(names, stood, name);
         first = earlier(one, first);
     }

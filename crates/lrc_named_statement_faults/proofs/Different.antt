@@ -9,6 +9,7 @@ use Rattle.lrc_named_tree.specs.declared.tree.Name as code_name
 use Rattle.lrc_named_tree.specs.Tree.{Named}
 use Rattle.lrc_named_tree.specs.View.{named_of}
 use Rattle.lrc_named_constants.specs.Well.{bytes_of, is_among}
+use Rattle.lrc_named_expression_faults.specs.declared.fault.Fault.{Fault}
 use Rattle.lrc_named_expression_faults.specs.declared.fault.FaultKind.TheVariants.{TooManyNames}
 use Rattle.lrc_named_expression_faults.specs.Fault.{ComesFirst, IsFirstOf, fault_at}
 use Rattle.lrc_named_expression_faults.proofs.First.{first_same}

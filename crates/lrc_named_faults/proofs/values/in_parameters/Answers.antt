@@ -1,12 +1,9 @@
 -- Each parameter, with those before it.
-use Rattle.std.proofs.Common.{◌≡◌, ◌-◌, ◌≤◌, ◌||◌, ◌⊎◌, ◌∷◌, suc, true, length, drop, map, take, is_some, ap, subst, arith}
+use Rattle.std.proofs.Common.{◌≡◌, ◌-◌, ◌≤◌, ◌∷◌, suc, true, length, drop, map, take, subst, arith}
 use Rattle.lrc_named_tree.specs.View.{named_of}
-use Rattle.lrc_named_names.specs.Names.{meaning_of}
 use Rattle.lrc_named_names.specs.View.{declared_of}
 use Rattle.lrc_named_constants.specs.Well.{bytes_of}
-use Rattle.lrc_named_expression_faults.specs.declared.fault.FaultKind.TheVariants.{DeclaredTwice}
-use Rattle.lrc_named_expression_faults.specs.Fault.{IsFirstOf, fault_at}
-use Rattle.lrc_named_statement_faults.specs.Statements.{IsReserved}
+use Rattle.lrc_named_expression_faults.specs.Fault.{IsFirstOf}
 use Rattle.lrc_named_faults.specs.Declarations.{IsInParameters}
 use Rattle.lrc_named_faults.proofs.Finding.{no_parameter_left, parameters_step}
 use Rattle.lrc_named_faults.proofs.values.in_parameters.Goals as goal
@@ -21,11 +18,8 @@ loop-i-preserved c =
     let i = c.loop-i.i in
     let back : suc (i - 1) ≡ i = omega (arith, c.loop-i-test.true) in
     let within : suc (i - 1) ≤ length ps = omega (arith, c.loop-i-test.true) in
-    let cut : take (i - 1 - 0) ps ≡ take (i - 1) ps = ap (λ n. take n ps) (omega arith) in
-    let one = subst (λ b. IsFirstOf (λ f. (((b || is_some (meaning_of table _)) ≡ true) × (f ≡ fault_at _ DeclaredTwice)) ⊎ IsReserved _ f) c.in_name-one.result)
-    c.stands-stood.ensures c.in_name-one.ensures in
-    parameters_step table (named_of c.args.function).bytes ps (take (i - 1 - 0) ps) i (i - 1) _ c.in_name-one.result c.loop-i.first c.earlier-first.result back within cut
-    c.earlier-first.ensures one c.loop-i.invariant
+    parameters_step table (named_of c.args.function).bytes ps c.front-before.result.now i (i - 1) _ c.stands-stood.result c.in_name-one.result c.loop-i.first
+    c.earlier-first.result back within c.front-before.ensures c.earlier-first.ensures c.stands-stood.ensures c.in_name-one.ensures c.loop-i.invariant
 
 pub returns : goal.returns
 returns c =

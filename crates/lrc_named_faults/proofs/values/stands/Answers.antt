@@ -6,7 +6,7 @@ use Rattle.lrc_named_faults.proofs.values.stands.Goals as goal
 
 pub returns-then-is_spelled : goal.returns-then-is_spelled
 returns-then-is_spelled c =
-    ap (λ b. b || is_among (bytes_of (map named_of c.args.before.now)) c.args.name.now) (sym c.if-is_spelled.true ∙ c.is_spelled.ensures)
+    c.if-is_spelled.true ∙ ap (λ b. b || is_among (bytes_of (map named_of c.args.before.now)) c.args.name.now) (sym c.if-is_spelled.true ∙ c.is_spelled.ensures)
 
 pub returns-else-is_spelled : goal.returns-else-is_spelled
 returns-else-is_spelled c =
