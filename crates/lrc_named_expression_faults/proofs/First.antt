@@ -61,6 +61,9 @@ earlier_first A B None (Some g) one two = (inr two.0, λ k h. elim h [ inl a ↦
 earlier_first A B (Some f) None one two = (inl one.0, λ k h. elim h [ inl a ↦ one.1 k a | inr b ↦ absurd (two k b) ])
 earlier_first A B (Some f) (Some g) one two = chosen A B f g (precedes g f) refl one two
 
+pub joined : (A B : Fault → Type 0) (one other found : Option Fault) → found ≡ earlier one other → IsFirstOf A one → IsFirstOf B other → IsFirstOf (λ f. A f ⊎ B f) found
+joined A B one other found is a b = subst (λ r. IsFirstOf (λ f. A f ⊎ B f) r) (sym is) (earlier_first A B one other a b)
+
 -- where there is none, nothing is first
 pub none_found : (A : Fault → Type 0) (x : Option Fault) → x ≡ None → IsFirstOf A x → IsNone A
 none_found A x e h = subst (λ y. IsFirstOf A y) e h

@@ -1,5 +1,5 @@
 -- The first fault of an expression, by those of its parts.
-use Rattle.std.proofs.Common.{◌≡◌, ◌⊎◌, ℕ, List, [], length, drop, sym, ap, subst, ◌∙◌}
+use Rattle.std.proofs.Common.{◌≡◌, ℕ, List, [], length, drop, sym, ap, subst, ◌∙◌}
 use Rattle.std.specs.Prelude.{Option, Some, None, if◌then◌else◌}
 use Rattle.std.proofs.Math.Seq.{drop-length}
 use Rattle.lrc_lang.specs.declared.program.Operator.{Operator}
@@ -11,7 +11,7 @@ use Rattle.lrc_named_expression_faults.specs.declared.fault.Fault.{Fault}
 use Rattle.lrc_named_expression_faults.specs.Expressions.{IsInCall, IsInElement, IsInExpression, IsInIndices}
 use Rattle.lrc_named_expression_faults.specs.Fault.{IsFirstOf, earlier, fault_at}
 use Rattle.lrc_named_expression_faults.specs.Scope.{Scope, Sense, sense_of, shared_sizes}
-use Rattle.lrc_named_expression_faults.proofs.First.{earlier_first, nothing_first, only_if_first}
+use Rattle.lrc_named_expression_faults.proofs.First.{joined, nothing_first, only_if_first}
 
 -- what is said of an expression of the code
 pub first_seen : (scope : Scope) (x : code_expression.Expression) (e : Expression) (found : Option Fault) → expression_of x ≡ e
@@ -28,9 +28,6 @@ me_first scope at x found is e = only_if_first scope.constant x (fault_at at Not
 pub nodes_first : (scope : Scope) (at : ℕ) (x : Fault) (found : Option Fault) → found ≡ (if scope.constant then Some x else None) → x ≡ fault_at at NotConstant
     → IsFirstOf (λ f. IsInExpression scope (nodes at) f) found
 nodes_first scope at x found is e = only_if_first scope.constant x (fault_at at NotConstant) found is e
-
-joined : (A B : Fault → Type 0) (one other found : Option Fault) → found ≡ earlier one other → IsFirstOf A one → IsFirstOf B other → IsFirstOf (λ f. A f ⊎ B f) found
-joined A B one other found is a b = subst (λ r. IsFirstOf (λ f. A f ⊎ B f) r) (sym is) (earlier_first A B one other a b)
 
 pub element_first : (scope : Scope) (named : Named) (indices : Expressions) (last : ℕ) (s : Sense) (sizes : List ℕ) (own inside found : Option Fault)
     → s ≡ sense_of scope named.bytes → sizes ≡ shared_sizes s → IsFirstOf (λ f. IsInElement scope.constant s named indices f) own

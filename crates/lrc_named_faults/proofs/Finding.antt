@@ -14,10 +14,9 @@ use Rattle.lrc_named_expression_faults.specs.declared.fault.Fault.{Fault}
 use Rattle.lrc_named_expression_faults.specs.declared.fault.FaultKind.TheVariants.{DeclaredTwice}
 use Rattle.lrc_named_expression_faults.specs.Fault.{IsFirstOf, IsNone, earlier, fault_at}
 use Rattle.lrc_named_expression_faults.specs.Scope.{Scope}
-use Rattle.lrc_named_expression_faults.proofs.First.{nothing_first, same_first, when_so}
+use Rattle.lrc_named_expression_faults.proofs.First.{joined, nothing_first, same_first, when_so}
 use Rattle.lrc_named_statement_faults.specs.Statements.{IsReserved}
 use Rattle.lrc_named_statement_faults.proofs.Different.{taken_bytes}
-use Rattle.lrc_named_statement_faults.proofs.Senses.{joined}
 use Rattle.lrc_named_faults.specs.Declarations.{IsInName, IsInParameters}
 
 pub inside_first : (IsInside : Fault → Type 0) (P : Type 0) (own fault : Fault) → (P → IsNone IsInside) → IsFirstOf IsInside (Some fault)

@@ -6,7 +6,7 @@ use Rattle.lrc_named_tree.specs.Tree.{Named}
 use Rattle.lrc_named_tree.specs.View.{expression_of, expressions_of, named_of}
 use Rattle.lrc_named_expression_faults.specs.Scope.{Scope, sense_of}
 use Rattle.lrc_named_statement_faults.specs.declared.parts.Part as code_part
-use Rattle.lrc_named_statement_faults.specs.Parts.{Part, part_seen}
+use Rattle.lrc_named_statement_faults.specs.Parts.{part_seen}
 use Rattle.lrc_named_statement_faults.specs.Statements.{is_private_sense, names_in, names_in_all, names_in_part, names_in_parts, private_names, set_in, set_names, set_without_index}
 use Rattle.lrc_named_statement_faults.proofs.Growing.{IsPieced}
 

@@ -9,7 +9,7 @@ use Rattle.lrc_named_expression_faults.specs.declared.fault.Fault.{Fault}
 use Rattle.lrc_named_expression_faults.specs.Expressions.{IsInIndices}
 use Rattle.lrc_named_expression_faults.specs.Fault.{IsFirstOf, earlier}
 use Rattle.lrc_named_expression_faults.specs.Scope.{Scope, Sense, lock_sizes, sense_of, shared_sizes}
-use Rattle.lrc_named_expression_faults.proofs.First.{earlier_first, nothing_first}
+use Rattle.lrc_named_expression_faults.proofs.First.{earlier_first, joined, nothing_first}
 use Rattle.lrc_named_statement_faults.specs.declared.parts.Part as code_part
 use Rattle.lrc_named_statement_faults.specs.Parts.{part_seen, lock_place, target}
 use Rattle.lrc_named_statement_faults.specs.Statements.{IsInCounter, IsInLock, IsInPart, IsInParts, IsInTarget, IsReserved, IsReservedTarget, is_reserved}
@@ -59,10 +59,6 @@ lock_first scope p s sizes own inside found sense all b c is =
     let e = subst (λ l. IsFirstOf (λ f. IsInIndices scope p.indices l f) inside) (all ∙ ap lock_sizes sense) c in
     subst (λ r. IsFirstOf (λ f. IsInLock t p.name p.indices f ⊎ IsInIndices scope p.indices (lock_sizes t) f) r) (sym is)
     (earlier_first (λ f. IsInLock t p.name p.indices f) (λ f. IsInIndices scope p.indices (lock_sizes t) f) own inside d e)
-
--- two kinds of faults
-pub joined : (A B : Fault → Type 0) (one other found : Option Fault) → found ≡ earlier one other → IsFirstOf A one → IsFirstOf B other → IsFirstOf (λ f. A f ⊎ B f) found
-joined A B one other found is a b = subst (λ r. IsFirstOf (λ f. A f ⊎ B f) r) (sym is) (earlier_first A B one other a b)
 
 -- the parts from one on
 pub no_part_left : (scope : Scope) (xs : List code_part.Part) → IsFirstOf (λ f. IsInParts scope (map part_seen (drop (length xs) xs)) f) None

@@ -5,9 +5,8 @@ use Rattle.lrc_named_names.specs.Names.{meaning_of}
 use Rattle.lrc_named_names.specs.View.{declared_of}
 use Rattle.lrc_named_expression_faults.specs.declared.fault.FaultKind.TheVariants.{DeclaredTwice}
 use Rattle.lrc_named_expression_faults.specs.Fault.{IsFirstOf, fault_at}
-use Rattle.lrc_named_expression_faults.proofs.First.{only_if_first}
+use Rattle.lrc_named_expression_faults.proofs.First.{joined, only_if_first}
 use Rattle.lrc_named_statement_faults.specs.Statements.{IsReserved}
-use Rattle.lrc_named_statement_faults.proofs.Senses.{joined}
 use Rattle.lrc_named_faults.proofs.values.in_name.Goals as goal
 
 pub returns : goal.returns

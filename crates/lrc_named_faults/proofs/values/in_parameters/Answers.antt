@@ -1,5 +1,5 @@
 -- Each parameter, with those before it.
-use Rattle.std.proofs.Common.{◌≡◌, ◌-◌, ◌≤◌, ◌∷◌, suc, true, length, drop, map, take, subst, arith}
+use Rattle.std.proofs.Common.{◌≡◌, ◌-◌, ◌≤◌, ◌∷◌, suc, length, drop, map, take, subst, arith}
 use Rattle.lrc_named_tree.specs.View.{named_of}
 use Rattle.lrc_named_names.specs.View.{declared_of}
 use Rattle.lrc_named_constants.specs.Well.{bytes_of}

@@ -7,9 +7,9 @@ use Rattle.lrc_named_names.specs.View.{declared_of}
 use Rattle.lrc_named_constants.specs.Well.{bytes_of}
 use Rattle.lrc_named_expression_faults.specs.Fault.{IsFirstOf}
 use Rattle.lrc_named_expression_faults.specs.Scope.{Scope}
+use Rattle.lrc_named_expression_faults.proofs.First.{joined}
 use Rattle.lrc_named_statement_faults.specs.Parts.{part_seen, parts_of_block}
 use Rattle.lrc_named_statement_faults.specs.Statements.{IsInParts, IsOneTooMany, names_in_parts, private_names, set_names, statement_scope}
-use Rattle.lrc_named_statement_faults.proofs.Senses.{joined}
 use Rattle.lrc_named_statement_faults.proofs.statements.first_fault.Goals as goal
 
 -- the scope in which these names are set

@@ -7,7 +7,8 @@ use Rattle.lrc_named_expression_faults.specs.Scope.{sense_of}
 use Rattle.lrc_named_expression_faults.specs.View.{scope_of, sense_seen}
 use Rattle.lrc_named_statement_faults.specs.Parts.{part_seen}
 use Rattle.lrc_named_statement_faults.specs.Statements.{IsInCounter, IsInPart, IsReserved}
-use Rattle.lrc_named_statement_faults.proofs.Senses.{counter_as, joined}
+use Rattle.lrc_named_expression_faults.proofs.First.{joined}
+use Rattle.lrc_named_statement_faults.proofs.Senses.{counter_as}
 use Rattle.lrc_named_statement_faults.proofs.statements.of_part.Goals as goal
 
 pub returns-in-Target : goal.returns-in-Target

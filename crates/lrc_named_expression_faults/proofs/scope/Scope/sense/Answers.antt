@@ -1,5 +1,5 @@
 -- A parameter, what is declared, or what is not.
-use Rattle.std.proofs.Common.{false, true, is_some, sym, ap, ◌∙◌}
+use Rattle.std.proofs.Common.{is_some, sym, ap, ◌∙◌}
 use Rattle.lrc_named_names.specs.Names.{meaning_at, meaning_of}
 use Rattle.lrc_named_names.specs.View.{meaning_seen}
 use Rattle.lrc_named_constants.specs.Constant.{names_of}
