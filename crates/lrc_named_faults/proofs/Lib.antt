@@ -1,1 +1,3 @@
+pub mod Declared
 pub mod Finding
+pub mod Tables

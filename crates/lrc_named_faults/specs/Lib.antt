@@ -1,3 +1,5 @@
+pub mod Bodies
 pub mod Declarations
+pub mod Layout
 pub mod Program
 pub mod Values
