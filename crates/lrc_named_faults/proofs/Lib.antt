@@ -1,3 +1,1 @@
-pub mod Declared
 pub mod Finding
-pub mod Tables

@@ -2,10 +2,4 @@
 //! them, and says of names, constants, sizes and bodies that are declared which of their faults comes first.
 #![tactic(auto)]
 
-mod declarations;
-mod items;
-pub mod layout;
-mod program;
 pub mod values;
-
-pub use program::{Checked, check, first_fault};
