@@ -13,11 +13,12 @@ use Rattle.lrc_named_names.specs.Names.{Declared, Meaning, constant, shared, loc
 use Rattle.lrc_named_constants.specs.declared.constancy.Constancy.{Constancy}
 use Rattle.lrc_named_constants.specs.declared.constancy.Constancy.TheVariants.{Varies, Undefined, Value}
 use Rattle.lrc_named_constants.specs.Combine.{called, is_varying}
-use Rattle.lrc_named_constants.specs.Constant.{Known, IsConstancy, AreConstancies, no_expression, one_expression, bound, known_as, parameter_of, constancy_of_meaning}
+use Rattle.lrc_named_constants.specs.Constant.{Known, names_of, IsConstancy, AreConstancies, no_expression, one_expression, bound, known_as, parameter_of, constancy_of_meaning}
 use Rattle.lrc_named_constants.specs.Constant.{a_parameter, a_private_name, a_constant, a_shared_item}
-use Rattle.lrc_named_constants.specs.Well.{HasValue, IsWell, AreWell}
+use Rattle.lrc_named_constants.specs.Well.{HasValue, ValueUnless, is_among, IsWell, AreWell}
 use Rattle.lrc_named_constants.specs.declared.constancy.Known as code_known
 use Rattle.lrc_named_constants.specs.View.{known_of}
+use Rattle.lrc_named_constants.proofs.Among.{unknown_is_among_none}
 use Rattle.lrc_named_constants.proofs.Measure.{size, sizes}
 
 -- expressions with one more behind them
@@ -36,11 +37,11 @@ constancies_push no_expression last = one_expression last no_expression
 constancies_push (one_expression first others) last = one_expression first (constancies_push others last)
 
 -- one of expressions that are well, and its size
-pub well_at : (declared : List Declared) (below : ℕ) (xs : List code_expression.Expression) (i : ℕ) (d : code_expression.Expression)
-    → i < length xs → AreWell declared below (expressions_of xs) → IsWell declared below (expression_of (get_or xs i d))
-well_at declared below [] i d lt well = absurd (omega arith)
-well_at declared below (x ∷ xs) zero d lt well = well.0
-well_at declared below (x ∷ xs) (suc i) d lt well = well_at declared below xs i d (omega arith) well.1
+pub well_at : (declared : List Declared) (parameters : List (List ℕ)) (below : ℕ) (xs : List code_expression.Expression) (i : ℕ) (d : code_expression.Expression)
+    → i < length xs → AreWell declared parameters below (expressions_of xs) → IsWell declared parameters below (expression_of (get_or xs i d))
+well_at declared parameters below [] i d lt well = absurd (omega arith)
+well_at declared parameters below (x ∷ xs) zero d lt well = well.0
+well_at declared parameters below (x ∷ xs) (suc i) d lt well = well_at declared parameters below xs i d (omega arith) well.1
 
 pub smaller_at : (xs : List code_expression.Expression) (i : ℕ) (d : code_expression.Expression)
     → i < length xs → size (expression_of (get_or xs i d)) < sizes (expressions_of xs)
@@ -55,7 +56,7 @@ bound_none (p ∷ ps) = refl
 
 -- a name without arguments: a parameter, or what it is declared as
 element_by : (declared : List Declared) (known : List Known) (named : Named) (indices : Expressions) (last : ℕ) (w : Constancy) (o : Option Constancy) (m : Option Meaning)
-    → known_as known named.bytes ≡ o → meaning_of declared named.bytes ≡ m → HasValue m → w ≡ unwrap_or o (constancy_of_meaning m)
+    → known_as known named.bytes ≡ o → meaning_of declared named.bytes ≡ m → (o ≡ None → HasValue m) → w ≡ unwrap_or o (constancy_of_meaning m)
     → IsConstancy declared known (element named indices last) w
 element_by declared known named indices last w (Some x) m is means has e = subst (λ v. IsConstancy declared known (element named indices last) v) (sym e) (a_parameter is)
 element_by declared known named indices last w None None is means has e = subst (λ v. IsConstancy declared known (element named indices last) v) (sym e) (a_private_name is means)
@@ -63,14 +64,15 @@ element_by declared known named indices last w None (Some (constant n)) is means
     subst (λ v. IsConstancy declared known (element named indices last) v) (sym e) (a_constant is means)
 element_by declared known named indices last w None (Some (shared item)) is means has e =
     subst (λ v. IsConstancy declared known (element named indices last) v) (sym e) (a_shared_item is means)
-element_by declared known named indices last w None (Some (lock item)) is means has e = absurd has
-element_by declared known named indices last w None (Some (function parameters body)) is means has e = absurd has
+element_by declared known named indices last w None (Some (lock item)) is means has e = absurd (has refl)
+element_by declared known named indices last w None (Some (function parameters body)) is means has e = absurd (has refl)
 
 pub element_is : (declared : List Declared) (known : List Known) (named : Named) (indices : Expressions) (last : ℕ) (w : Constancy)
-    → HasValue (meaning_of declared named.bytes) → w ≡ unwrap_or (known_as known named.bytes) (constancy_of_meaning (meaning_of declared named.bytes))
+    → ValueUnless (is_among (names_of known) named.bytes) (meaning_of declared named.bytes) → w ≡ unwrap_or (known_as known named.bytes) (constancy_of_meaning (meaning_of declared named.bytes))
     → IsConstancy declared known (element named indices last) w
 element_is declared known named indices last w has e =
-    element_by declared known named indices last w (known_as known named.bytes) (meaning_of declared named.bytes) refl refl has e
+    element_by declared known named indices last w (known_as known named.bytes) (meaning_of declared named.bytes) refl refl
+    (λ none. subst (λ b. ValueUnless b (meaning_of declared named.bytes)) (unknown_is_among_none known named.bytes none) has) e
 
 -- what is known of a call does not depend on an argument that does not vary, and varies with one that does
 pub called_on : (x : Constancy) (xs : List Constancy) (body : Constancy) → is_varying x ≡ false → called (x ∷ xs) body ≡ called xs body

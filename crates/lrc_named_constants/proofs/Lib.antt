@@ -1,3 +1,5 @@
+pub mod Among
 pub mod Each
 pub mod Measure
 pub mod Rows
+pub mod Unique

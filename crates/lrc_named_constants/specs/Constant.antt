@@ -1,6 +1,6 @@
 -- Which expressions are constant, and what their values are. `IsConstancy declared known e w` says that w is known of the
 -- expression e before a run. Names mean what is declared; in the body of a function a parameter is what its argument is.
-use Rattle.std.specs.Prelude.{◌≡◌, ℕ, Option, Some, None, List, [], ◌∷◌, option_map, slice_get}
+use Rattle.std.specs.Prelude.{◌≡◌, ℕ, Option, Some, None, List, [], ◌∷◌, map, option_map, slice_get}
 use Rattle.std.specs.List.{position_or_len}
 use Rattle.std.specs.Str.{bytes_eq}
 use Rattle.lrc_lang.specs.declared.program.Operator.{Operator}
@@ -14,6 +14,10 @@ use Rattle.lrc_named_constants.specs.Combine.{joined, negated, both_of, either_o
 pub record Known : Type 0 where
   pub name : List ℕ
   pub constancy : Constancy
+
+-- the names of parameters
+abbrev pub names_of : List Known → List (List ℕ)
+names_of known = map (λ (k : Known). k.name) known
 
 -- the place of a name among the parameters; of one that is none, how many these are
 abbrev pub parameter_of : List Known → List ℕ → ℕ

@@ -2,13 +2,13 @@
 
 ghost use Rattle.std.specs.Prelude.{◌≡◌, ◌<◌, ℕ, IfOk, map, unwrap_or};
 ghost use Rattle.lrc_named_tree.specs.View.{named_of, expression_of, expressions_of};
-ghost use Rattle.lrc_named_names.specs.Names.{IsFunction, meaning_of, place_of};
+ghost use Rattle.lrc_named_names.specs.Names.{meaning_of, place_of};
 ghost use Rattle.std.specs.Str.{bytes_eq};
 ghost use Rattle.lrc_named_names.specs.View.{declared_of};
 ghost use Rattle.lrc_named_constants.specs.View.{known_of};
 ghost use Rattle.lrc_named_constants.specs.Combine.{called, is_varying};
-ghost use Rattle.lrc_named_constants.specs.Constant.{IsConstancy, AreConstancies, bound, known_as, parameter_of, constancy_of_meaning};
-ghost use Rattle.lrc_named_constants.specs.Well.{IsWell, AreWell, IsSound};
+ghost use Rattle.lrc_named_constants.specs.Constant.{IsConstancy, AreConstancies, bound, known_as, names_of, parameter_of, constancy_of_meaning};
+ghost use Rattle.lrc_named_constants.specs.Well.{IsWell, AreWell, IsSound, Takes, count};
 ghost use Rattle.lrc_named_tree.specs.Tree.{call};
 
 use crate::combine::{both, either, join};
@@ -102,7 +102,8 @@ impl<'n, 'p> Constants<'n, 'p> {
         expression: &Expression<'p>,
     ) -> Result<Constancy, AllocError>
         requires table { IsSound (declared_of self.now.names.now) }
-        requires well { IsWell (declared_of self.now.names.now) below (expression_of expression.now) }
+        requires well { IsWell (declared_of self.now.names.now) (names_of (map known_of known.now)) below
+            (expression_of expression.now) }
         ensures { IfOk result (λ w. IsConstancy (declared_of self.now.names.now) (map known_of known.now)
             (expression_of expression.now) w) }
     {
@@ -153,7 +154,8 @@ impl<'n, 'p> Constants<'n, 'p> {
         expressions: &[Expression<'p>],
     ) -> Result<Vec<Constancy>, AllocError>
         requires table { IsSound (declared_of self.now.names.now) }
-        requires well { AreWell (declared_of self.now.names.now) below (expressions_of expressions.now) }
+        requires well { AreWell (declared_of self.now.names.now) (names_of (map known_of known.now)) below
+            (expressions_of expressions.now) }
         ensures { IfOk result (λ ws. AreConstancies (declared_of self.now.names.now) (map known_of known.now)
             (expressions_of expressions.now) ws.items) }
     {
@@ -176,8 +178,10 @@ impl<'n, 'p> Constants<'n, 'p> {
     ) -> Result<Constancy, AllocError>
         requires table { IsSound (declared_of self.now.names.now) }
         requires before { place_of (declared_of self.now.names.now) name.bytes.now < below }
-        requires function { IsFunction (meaning_of (declared_of self.now.names.now) name.bytes.now) }
-        requires well { AreWell (declared_of self.now.names.now) below (expressions_of arguments.now) }
+        requires function { Takes (meaning_of (declared_of self.now.names.now) name.bytes.now)
+            (count (expressions_of arguments.now)) }
+        requires well { AreWell (declared_of self.now.names.now) (names_of (map known_of known.now)) below
+            (expressions_of arguments.now) }
         ensures { IfOk result (λ w. (close : ℕ) → IsConstancy (declared_of self.now.names.now) (map known_of known.now)
             (call (named_of name.entry) (expressions_of arguments.now) close) w) }
     {

@@ -1,16 +1,17 @@
 -- Each form of an expression has a rule.
-use Rattle.std.proofs.Common.{◌≡◌, ◌<◌, ◌+◌, map, sym, ap, subst, arith, ◌∙◌}
+use Rattle.std.proofs.Common.{◌≡◌, ◌<◌, ◌+◌, Some, map, length, sym, ap, subst, arith, ◌∙◌}
 use Rattle.lrc_named_tree.specs.Tree.{Expressions, call}
 use Rattle.lrc_named_tree.specs.View.{named_of, expression_of, expressions_of, row_of}
 use Rattle.lrc_named_tree.specs.declared.tree.Expression.TheBlock.{hidden-the_row-Expression-0}
-use Rattle.lrc_named_names.specs.Names.{meaning_at}
+use Rattle.lrc_named_names.specs.Names.{IsFunction, function, meaning_at, meaning_of}
 use Rattle.lrc_named_names.specs.View.{declared_of}
 use Rattle.lrc_named_constants.specs.declared.constancy.Constancy.TheVariants.{Varies, Value}
 use Rattle.lrc_named_constants.specs.Combine.{joined, negated, both_of, either_of, called}
 use Rattle.lrc_named_constants.specs.View.{known_of}
 use Rattle.lrc_named_constants.specs.Constant.{IsConstancy, a_number, me, nodes, a_call, parentheses, a_negation, a_binary, both, either}
-use Rattle.lrc_named_constants.specs.Constant.{AreConstancies, no_expression, bound}
-use Rattle.lrc_named_constants.specs.Well.{IsWell, AreWell}
+use Rattle.lrc_named_constants.specs.Constant.{AreConstancies, no_expression, bound, names_of}
+use Rattle.lrc_named_constants.specs.Well.{IsWell, AreWell, Takes, bytes_of, count}
+use Rattle.lrc_named_constants.proofs.Among.{function_takes, length_of_constancies, names_of-bound, takes_all}
 use Rattle.lrc_named_constants.proofs.Each.{constancies_step, element_is, smaller_at, well_at}
 use Rattle.lrc_named_constants.proofs.Measure.{size, sizes, bodies, body_within, deeper}
 use Rattle.lrc_named_constants.proofs.Rows.{row_of_hidden}
@@ -28,8 +29,8 @@ constancies-constancy-requires t c =
     let i = c.loop-expression.expression-index in
     let h : size (expression_of x) < sizes (expressions_of xs) =
     subst (λ y. size (expression_of y) < sizes (expressions_of xs)) (sym c.expression-item.is) (smaller_at xs i x c.loop-expression-test.true) in
-    let w : IsWell declared c.args.below (expression_of x) =
-    subst (λ y. IsWell declared c.args.below (expression_of y)) (sym c.expression-item.is) (well_at declared c.args.below xs i x c.loop-expression-test.true c.requires.well) in
+    let w : IsWell declared (names_of (map known_of c.args.known.now)) c.args.below (expression_of x) =
+    subst (λ y. IsWell declared (names_of (map known_of c.args.known.now)) c.args.below (expression_of y)) (sym c.expression-item.is) (well_at declared (names_of (map known_of c.args.known.now)) c.args.below xs i x c.loop-expression-test.true c.requires.well) in
     (omega (arith, h), (c.requires.table, w))
 
 pub constancies-loop-expression-preserved : goal.constancies-loop-expression-preserved
@@ -43,10 +44,12 @@ constancy-constancy_of_call-requires t c =
     let declared = declared_of c.args.self.now.names.now in
     let es = expressions_of c.deref.result.now in
     let e : row_of (hidden-the_row-Expression-0 c.in-Call.arguments) ≡ es = row_of_hidden c.in-Call.arguments ∙ ap expressions_of (sym c.deref.ensures.value) in
-    let well = subst (λ x. IsWell declared c.args.below (expression_of x)) c.in-Call.is c.requires.well in
-    let w : AreWell declared c.args.below es = subst (λ l. AreWell declared c.args.below l) e well.2 in
+    let well = subst (λ x. IsWell declared (names_of (map known_of c.args.known.now)) c.args.below (expression_of x)) c.in-Call.is c.requires.well in
+    let w : AreWell declared (names_of (map known_of c.args.known.now)) c.args.below es = subst (λ l. AreWell declared (names_of (map known_of c.args.known.now)) c.args.below l) e well.2 in
     let m : size (expression_of c.args.expression.now) ≡ 2 + sizes es = ap (λ x. size (expression_of x)) c.in-Call.is ∙ ap (λ l. 2 + sizes l) e in
-    (omega (arith, m), (c.requires.table, (well.0, (well.1, w))))
+    let n : Takes (meaning_of declared c.in-Call.name.bytes.now) (count es) =
+    subst (λ l. Takes (meaning_of declared c.in-Call.name.bytes.now) (count l)) e well.1 in
+    (omega (arith, m), (c.requires.table, (well.0, (n, w))))
 
 pub constancy-returns-in-Number : goal.constancy-returns-in-Number
 constancy-returns-in-Number t c =
@@ -64,7 +67,7 @@ pub constancy-returns-in-Element : goal.constancy-returns-in-Element
 constancy-returns-in-Element t c =
     let declared = declared_of c.args.self.now.names.now in
     let known = map known_of c.args.known.now in
-    let well = subst (λ x. IsWell declared c.args.below (expression_of x)) c.in-Element.is c.requires.well in
+    let well = subst (λ x. IsWell declared (names_of (map known_of c.args.known.now)) c.args.below (expression_of x)) c.in-Element.is c.requires.well in
     subst (λ x. IsConstancy declared known (expression_of x) c.constancy_of_name-w.result) (sym c.in-Element.is)
     (element_is declared known (named_of c.in-Element.name) _ _ c.constancy_of_name-w.result well.0 c.constancy_of_name-w.ensures)
 
@@ -120,14 +123,32 @@ constancy-returns-in_ok-r-in-Or t c =
     subst (λ v. IsConstancy declared known (expression_of c.args.expression.now) v) (sym c.either.ensures)
     (subst (λ x. IsConstancy declared known (expression_of x) (either_of c.in_ok-l-in-Or.l c.in_ok-r-in-Or.r)) (sym c.in-Or.is) (either left right))
 
+pub constancy_of_call-function-requires : goal.constancy_of_call-function-requires
+constancy_of_call-function-requires t c =
+    let declared = declared_of c.args.self.now.names.now in
+    subst (λ n. IsFunction (meaning_at declared n)) (sym c.place-place.ensures) (function_takes _ _ c.requires.function)
+
 pub constancy_of_call-constancy-requires : goal.constancy_of_call-constancy-requires
 constancy_of_call-constancy-requires t c =
     let declared = declared_of c.args.self.now.names.now in
     let place = c.place-place.result in
+    let parameters = map named_of c.function.result.0.now in
+    let ws = c.in_ok-constancies.constancies.items in
     let small = body_within declared place _ _ c.function.ensures in
     let before : place < c.args.below = omega (arith, c.place-place.ensures, c.requires.before) in
     let d = deeper place c.args.below (bodies declared) (size (expression_of c.function.result.1.now)) (sizes (expressions_of c.args.arguments.now)) before small in
-    (omega (arith, d), (c.requires.table, c.requires.table place _ _ c.function.ensures))
+    let inner : map known_of c.deref-2.result.now ≡ bound parameters ws =
+    ap (λ l. map known_of l) c.deref-2.ensures.value ∙ c.in_ok-inner.ensures ∙ ap (λ l. bound parameters l) c.deref.ensures.value in
+    let means : meaning_of declared c.args.name.bytes.now ≡ Some (function parameters (expression_of c.function.result.1.now)) =
+    ap (λ n. meaning_at declared n) (sym c.place-place.ensures) ∙ c.function.ensures in
+    let all : length ws ≡ length parameters = length_of_constancies c.in_ok-constancies.ensures ∙ takes_all _ _ _ _ c.requires.function means in
+    let names : names_of (map known_of c.deref-2.result.now) ≡ bytes_of parameters = ap names_of inner ∙ names_of-bound parameters ws all in (
+      omega (arith, d),
+      (
+        c.requires.table,
+        subst (λ l. IsWell declared l place (expression_of c.function.result.1.now)) (sym names) (c.requires.table place _ _ c.function.ensures),
+      ),
+    )
 
 pub constancy_of_call-returns : goal.constancy_of_call-returns
 constancy_of_call-returns t c =

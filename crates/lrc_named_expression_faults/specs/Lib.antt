@@ -1,0 +1,6 @@
+pub mod Counts
+pub mod Expressions
+pub mod Extent
+pub mod Fault
+pub mod Scope
+pub mod View

@@ -1,0 +1,144 @@
+// What names mean where they are used.
+
+ghost use Rattle.std.specs.Prelude.{◌≡◌, length, map};
+ghost use Rattle.std.specs.Str.{bytes_eq};
+ghost use Rattle.lrc_named_tree.specs.View.{named_of};
+ghost use Rattle.lrc_named_names.specs.View.{declared_of, entry_of};
+ghost use Rattle.lrc_named_constants.specs.Well.{bytes_of, is_among};
+ghost use Rattle.lrc_named_expression_faults.specs.Scope.{is_shared, lock_sizes, sense_of, shared_sizes, undeclared_sense};
+ghost use Rattle.lrc_named_expression_faults.specs.View.{scope_of, sense_seen};
+
+use crate::extent::Extent;
+use lrc_named_constants::constancy::Known;
+use lrc_named_constants::known_parameter;
+use lrc_named_names::names::{Declared, Meaning, Names};
+use lrc_named_tree::tree::Name;
+use std::alloc::Global;
+
+/// What a name means where it is used.
+#[derive(Clone, Copy)]
+pub enum Sense<'n, 'p> {
+    /// A parameter of the function in whose body it stands.
+    Parameter,
+    /// It is declared.
+    Declared(&'n Meaning<'p>),
+    /// Some statement sets it, and it is not declared.
+    Private,
+    Unknown,
+}
+
+impl<'n> Sense<'n, '_> {
+    /// Returns the sizes of a shared item; nothing else has any.
+    pub fn shared_sizes(self) -> &'n [u32]
+        ensures { result.now ≡ shared_sizes (sense_seen self.entry) }
+    {
+        match self {
+            Sense::Declared(meaning) => match meaning {
+                Meaning::Shared(item) => &item.sizes,
+                Meaning::Constant(_) | Meaning::Lock(_) | Meaning::Function(_, _) => &[],
+            },
+            Sense::Parameter | Sense::Private | Sense::Unknown => &[],
+        }
+    }
+
+    /// Returns the sizes of a lock; nothing else has any.
+    pub fn lock_sizes(self) -> &'n [u32]
+        ensures { result.now ≡ lock_sizes (sense_seen self.entry) }
+    {
+        match self {
+            Sense::Declared(meaning) => match meaning {
+                Meaning::Lock(item) => &item.sizes,
+                Meaning::Constant(_) | Meaning::Shared(_) | Meaning::Function(_, _) => &[],
+            },
+            Sense::Parameter | Sense::Private | Sense::Unknown => &[],
+        }
+    }
+
+    /// Returns whether it is that of a shared item.
+    pub fn is_shared(self) -> bool
+        ensures { result ≡ is_shared (sense_seen self.entry) }
+    {
+        match self {
+            Sense::Declared(meaning) => match meaning {
+                Meaning::Shared(_) => true,
+                Meaning::Constant(_) | Meaning::Lock(_) | Meaning::Function(_, _) => false,
+            },
+            Sense::Parameter | Sense::Private | Sense::Unknown => false,
+        }
+    }
+}
+
+/// Where an expression or a statement stands.
+#[derive(Clone, Copy)]
+pub struct Scope<'n, 'p> {
+    pub alloc: Global,
+    /// What is declared before it.
+    pub names: &'n Names<'p>,
+    /// What stands in the bodies of functions: at the place of each function among the names.
+    pub extents: &'n [Extent],
+    /// The parameters of the function in whose body it stands.
+    pub known: &'n [Known<'p>],
+    /// The names that some statement of the text sets, where these may stand.
+    pub assigned: &'n [Name<'p>],
+    /// Whether it has to be constant: a constant's value, or a size.
+    pub is_constant: bool,
+}
+
+// Whether a name is spelled so.
+fn is_named(one: Name<'_>, name: &[u8]) -> bool
+    ensures { result ≡ bytes_eq (named_of one.entry).bytes name.now }
+{
+    one.bytes == name
+}
+
+/// Returns whether one of these names is spelled so.
+pub fn is_one_of(names: &[Name<'_>], name: &[u8]) -> bool
+    ensures { result ≡ is_among (bytes_of (map named_of names.now)) name.now }
+{
+    for one in names {
+        if is_named(*one, name) {
+            return true;
+        }
+    }
+    false
+}
+
+// How many names are declared.
+fn count_of(declared: &[Declared<'_>]) -> usize
+    ensures { result ≡ length (map entry_of declared.now) }
+{
+    declared.len()
+}
+
+impl<'n, 'p> Scope<'n, 'p> {
+    /// Returns how many names are declared before it.
+    pub fn count(&self) -> usize
+        ensures { result ≡ length (declared_of self.now.names.now) }
+    {
+        count_of(&self.names.declared)
+    }
+
+    /// Returns what a name means here.
+    pub fn sense(&self, name: &[u8]) -> Sense<'n, 'p>
+        ensures { sense_seen result ≡ sense_of (scope_of self.now) name.now }
+    {
+        if known_parameter(self.known, name).is_some() {
+            return Sense::Parameter;
+        }
+        match self.names.meaning(self.names.place(name)) {
+            Some(meaning) => Sense::Declared(meaning),
+            None => self.undeclared(name),
+        }
+    }
+
+    // What a name means that is not declared.
+    fn undeclared(&self, name: &[u8]) -> Sense<'n, 'p>
+        ensures { sense_seen result ≡ undeclared_sense (is_among (scope_of self.now).assigned name.now) }
+    {
+        if is_one_of(self.assigned, name) {
+            Sense::Private
+        } else {
+            Sense::Unknown
+        }
+    }
+}

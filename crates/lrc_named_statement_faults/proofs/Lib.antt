@@ -1,0 +1,5 @@
+pub mod Different
+pub mod Growing
+pub mod Names
+pub mod Rows
+pub mod Senses
