@@ -20,31 +20,33 @@ module _ {X : Type 0} where
   filter-step : (p : X → Bool) (y : X) (xs : List X) (b : Bool) → p y ≡ b → filter p (y ∷ xs) ≡ cond b (y ∷ filter p xs) (filter p xs)
   filter-step p y xs b e = ap (λ c. cond c (y ∷ filter p xs) (filter p xs)) e
 
+  filter_by : (p : X → Bool) (y : X) (xs : List X) (x : X) (b : Bool) → p y ≡ b → Contains (filter p (y ∷ xs)) x
+      → (Contains (filter p xs) x → Contains xs x × (p x ≡ true)) → Contains (y ∷ xs) x × (p x ≡ true)
+  filter_by p y xs x true e h rest =
+      elim (front_cases (filter p xs) y x (subst (λ l. Contains l x) (filter-step p y xs true e) h)) [
+        | inl same ↦ (subst (λ z. Contains (y ∷ xs) z) (sym same) (front_here xs y), ap p same ∙ e)
+        | inr later ↦ let (c, t) = rest later in (front_there xs y x c, t)
+      ]
+  filter_by p y xs x false e h rest =
+      let (c, t) = rest (subst (λ l. Contains l x) (filter-step p y xs false e) h) in (front_there xs y x c, t)
+
   pub filter_cases : (p : X → Bool) (xs : List X) (x : X) → Contains (filter p xs) x → Contains xs x × (p x ≡ true)
   filter_cases p [] x h = absurd (contains_none x h)
-  filter_cases p (y ∷ xs) x h = by (p y) refl
-    where
-      by : (b : Bool) → p y ≡ b → Contains (y ∷ xs) x × (p x ≡ true)
-      by true e =
-          elim (front_cases (filter p xs) y x (subst (λ l. Contains l x) (filter-step p y xs true e) h)) [
-            | inl same ↦ (subst (λ z. Contains (y ∷ xs) z) (sym same) (front_here xs y), ap p same ∙ e)
-            | inr later ↦ let (c, t) = filter_cases p xs x later in (front_there xs y x c, t)
-          ]
-      by false e =
-          let (c, t) = filter_cases p xs x (subst (λ l. Contains l x) (filter-step p y xs false e) h) in (front_there xs y x c, t)
+  filter_cases p (y ∷ xs) x h = filter_by p y xs x (p y) refl h (filter_cases p xs x)
+
+  filter_on : (p : X → Bool) (y : X) (xs : List X) (x : X) (b : Bool) → p y ≡ b → Contains (y ∷ xs) x → p x ≡ true
+      → (Contains xs x → Contains (filter p xs) x) → Contains (filter p (y ∷ xs)) x
+  filter_on p y xs x true e h t rest =
+      subst (λ l. Contains l x) (sym (filter-step p y xs true e)) (elim (front_cases xs y x h) [
+        | inl same ↦ subst (λ z. Contains (y ∷ filter p xs) z) (sym same) (front_here (filter p xs) y)
+        | inr later ↦ front_there (filter p xs) y x (rest later)
+      ])
+  filter_on p y xs x false e h t rest =
+      subst (λ l. Contains l x) (sym (filter-step p y xs false e)) (elim (front_cases xs y x h) [
+        | inl same ↦ let never : true ≡ false = sym t ∙ ap p same ∙ e in absurd (true≢false never)
+        | inr later ↦ rest later
+      ])
 
   pub filter_there : (p : X → Bool) (xs : List X) (x : X) → Contains xs x → p x ≡ true → Contains (filter p xs) x
   filter_there p [] x h t = absurd (contains_none x h)
-  filter_there p (y ∷ xs) x h t = by (p y) refl
-    where
-      by : (b : Bool) → p y ≡ b → Contains (filter p (y ∷ xs)) x
-      by true e =
-          subst (λ l. Contains l x) (sym (filter-step p y xs true e)) (elim (front_cases xs y x h) [
-            | inl same ↦ subst (λ z. Contains (y ∷ filter p xs) z) (sym same) (front_here (filter p xs) y)
-            | inr later ↦ front_there (filter p xs) y x (filter_there p xs x later t)
-          ])
-      by false e =
-          subst (λ l. Contains l x) (sym (filter-step p y xs false e)) (elim (front_cases xs y x h) [
-            | inl same ↦ let never : true ≡ false = sym t ∙ ap p same ∙ e in absurd (true≢false never)
-            | inr later ↦ filter_there p xs x later t
-          ])
+  filter_there p (y ∷ xs) x h t = filter_on p y xs x (p y) refl h t (λ later. filter_there p xs x later t)

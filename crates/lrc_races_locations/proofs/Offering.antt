@@ -36,7 +36,7 @@ rising row order k m p q lt at there =
     omega arith
 
 module _ (row : List Placed) (known : List ℕ) (later : Placed) (before : List Sides) where
-  pub found-none : (place : ℕ) → length row ≤ place → AreFoundFrom place row known later before before []
+  found-none : (place : ℕ) → length row ≤ place → AreFoundFrom place row known later before before []
   found-none place past = record {
     sides = λ s. (λ c. inl c, λ t. elim t [ inl c ↦ c | inr (p, c, e) ↦ absurd (contains_none p c) ]);
     sound = λ p c. absurd (contains_none p c);
@@ -44,6 +44,9 @@ module _ (row : List Placed) (known : List ℕ) (later : Placed) (before : List 
     complete = λ k spot le at rival. let within = slice_get_within row k spot at in absurd (omega arith);
     in_order = λ i j d lt within. absurd (omega (arith, within));
   }
+
+  pub found-empty : (place : ℕ) (found : List Pair) → found ≡ [] → length row ≤ place → AreFoundFrom place row known later before before found
+  found-empty place found none past = subst (λ (f : List Pair). AreFoundFrom place row known later before before f) (sym none) (found-none place past)
 
   module _ (place : ℕ) (spot : Placed) (at : slice_get row place ≡ Some spot) (after : List Sides) (found : List Pair)
       (old : AreFoundFrom (place + 1) row known later before after found) where
@@ -200,9 +203,9 @@ pub key_added : (keys after : List Sides) (k s : Sides) → k ≡ s → list_any
 key_added keys after k s same none e =
     e ∙ ap (λ b. cond b keys (keys ++ k ∷ [])) none ∙ ap (λ (x : Sides). keys ++ x ∷ []) same
 
-pub pair_in_front : (found after : List Pair) (pair : Pair) → after ≡ insert found 0 pair → after ≡ pair ∷ found
-pair_in_front [] after pair e = e
-pair_in_front (p ∷ found) after pair e = e
+pub pair_in_front : (found after : List Pair) (new : Pair) → after ≡ insert found 0 new → after ≡ new ∷ found
+pair_in_front [] after new e = e
+pair_in_front (p ∷ found) after new e = e
 
 -- what a test says
 pub is_true : (r : Bool) (P : Type 0) → (IsTrue r ↔ P) → r ≡ true → P
@@ -210,11 +213,3 @@ is_true r P says set = says.0 set
 
 pub is_false : (r : Bool) (P : Type 0) → (IsTrue r ↔ P) → r ≡ false → P → ⊥
 is_false r P says unset h = true≢false (sym (says.1 h) ∙ unset)
-
-pub not_set : (b : Bool) → not b ≡ true → b ≡ false
-not_set true is = let never : ⊥ = cc in absurd never
-not_set false is = refl
-
-pub is_set : (b : Bool) → not b ≡ false → b ≡ true
-is_set true is = refl
-is_set false is = let never : ⊥ = cc in absurd never

@@ -158,9 +158,9 @@ chain-within {events} {chain = chain} c k place is lt =
 -- ---- what is said
 
 module _ (form : Form) (naming : Naming) (events : List Event) (lines : List Line) (i j : ℕ) (a b : Event) (at : At events i a) (there : At events j b) where
-  pub neither_added : (x y : Event) (r : Bool) → At events i x → At events j y → (IsTrue r ↔ Conflict x y) → r ≡ false → a.thread ≢ b.thread
+  pub neither_added : (x y : Event) (r : Bool) → (IsTrue r ↔ Conflict x y) → At events i x → At events j y → r ≡ false → a.thread ≢ b.thread
       → (HappensBefore events i j → ⊥) → (before after : List ℕ) → after ≡ before ++ neither_line → IsWhyAdded form naming events lines i j a b before after
-  neither_added x y r at' there' says unset apart unordered before after e = record {
+  neither_added x y r says at' there' unset apart unordered before after e = record {
     why = neither_line;
     is = neither apart unordered no_race;
     added = e;
@@ -173,11 +173,11 @@ module _ (form : Form) (naming : Naming) (events : List Event) (lines : List Lin
           let c = subst (λ (z : Event). Conflict x z) other (subst (λ (z : Event). Conflict z h.b) one h.conflict) in
           true≢false (sym (says.1 c) ∙ unset)
 
-  pub race_added : (x y : Event) (r : Bool) → At events i x → At events j y → i < j → (IsTrue r ↔ Conflict x y) → r ≡ true
+  pub race_added : (x y : Event) (r : Bool) → (IsTrue r ↔ Conflict x y) → At events i x → At events j y → i < j → r ≡ true
       → (HappensBefore events i j → ⊥) → (held others : List ℕ) → AreHeld events x.thread i held → AreHeld events y.thread j others
       → (before between after : List ℕ) → between ≡ before ++ race_line form naming x → after ≡ between ++ held_line naming x.line held y.line others
       → IsWhyAdded form naming events lines i j a b before after
-  race_added x y r at' there' lt says set unordered held others h k before between after e f =
+  race_added x y r says at' there' lt set unordered held others h k before between after e f =
       let one : x ≡ a = At-one at' at in
       let other : y ≡ b = At-one there' there in
       let conflict = subst (λ (z : Event). Conflict a z) other (subst (λ (z : Event). Conflict z y) one (says.0 set)) in
@@ -227,15 +227,14 @@ module _ (form : Form) (naming : Naming) (events : List Event) (lines : List Lin
       → one ≡ before ++ event_line form naming (text_at lines i) x → two ≡ one ++ event_line form naming (text_at lines j) y
       → IsWhyAdded form naming events lines i j a b two after
       → IsWhyAdded form naming events lines i j a b
-      (before ++ event_line form naming (text_at lines i) a ++ event_line form naming (text_at lines j) b) after
+      ((before ++ event_line form naming (text_at lines i) a) ++ event_line form naming (text_at lines j) b) after
   shown_before x y at' there' before one two after e f w =
       let first : x ≡ a = At-one at' at in
       let second : y ≡ b = At-one there' there in
-      let whole : two ≡ before ++ event_line form naming (text_at lines i) a ++ event_line form naming (text_at lines j) b =
+      let whole : two ≡ (before ++ event_line form naming (text_at lines i) a) ++ event_line form naming (text_at lines j) b =
       f ∙ ap (λ (t : List ℕ). t ++ event_line form naming (text_at lines j) y) e
-      ∙ append_assoc before (event_line form naming (text_at lines i) x) (event_line form naming (text_at lines j) y)
-      ∙ ap (λ (z : Event). before ++ (event_line form naming (text_at lines i) z ++ event_line form naming (text_at lines j) y)) first
-      ∙ ap (λ (z : Event). before ++ (event_line form naming (text_at lines i) a ++ event_line form naming (text_at lines j) z)) second in
+      ∙ ap (λ (z : Event). (before ++ event_line form naming (text_at lines i) z) ++ event_line form naming (text_at lines j) y) first
+      ∙ ap (λ (z : Event). (before ++ event_line form naming (text_at lines i) a) ++ event_line form naming (text_at lines j) z) second in
       subst (λ (t : List ℕ). IsWhyAdded form naming events lines i j a b t after) whole w
 
 -- an option that is one
@@ -259,3 +258,17 @@ pub event_same : (form : Form) (naming : Naming) (events : List Event) (position
 event_same form naming events position a x line text before after at at' same e =
     e ∙ ap (λ (l : List ℕ). before ++ event_line form naming l x) same
     ∙ ap (λ (z : Event). before ++ event_line form naming text z) (At-one at' at)
+
+-- the line of one step, as it is read
+pub step_added : (form : Form) (naming : Naming) (events : List Event) (lines : List Line) (i j : ℕ) (a b : Event) (link : Link) (line before after : List ℕ)
+    → after ≡ before ++ step_line form naming link line b → line ≡ text_at lines j → At events i a → At events j b → IsBy a b link
+    → IsStepAdded form naming events lines i j before after
+step_added form naming events lines i j a b link line before after e same at there by = record {
+  a = a;
+  b = b;
+  link = link;
+  first = at;
+  second = there;
+  by = by;
+  added = e ∙ ap (λ (l : List ℕ). before ++ step_line form naming link l b) same;
+}

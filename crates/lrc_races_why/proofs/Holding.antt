@@ -378,12 +378,19 @@ module _ (events : List Event) (n position t : ℕ) (below : position < n) (e : 
       let both : Acquire l ≡ Acquire m = sym other ∙ one in
       cc
 
+-- an event stands at each position
+at_some : (events : List Event) (m : ℕ) → m < length events → (e : Event) × At events m e
+at_some [] m lt = absurd (omega (arith, lt))
+at_some (e ∷ events) zero lt = (e, record { is = refl })
+at_some (e ∷ events) (suc m) lt = let (d, at) = at_some events m (omega (arith, lt)) in (d, record { is = at.is })
+
 -- one event more among the locks that are held
-pub below-next : (events : List Event) (t n m : ℕ) (e : Event) → At events m e → m < n → (holdings : List Holding) → AreHoldings events t n holdings
+pub below-next : (events : List Event) (t n m : ℕ) → m < length events → m < n → (holdings : List Holding) → AreHoldings events t n holdings
     → (o : Option ℕ) → MatchOption o ((l : ℕ) → IsSince events t l n m → ⊥) (λ l. IsSince events t l n m) → (locks after : List ℕ)
     → ((l : ℕ) → o ≡ Some l → after ≡ locks ++ l ∷ []) → (o ≡ None → after ≡ locks) → AreHeldBelow events t n m locks
     → AreHeldBelow events t n (m + 1) after
-below-next events t n m e here lt holdings are None none locks after some kept old =
+below-next events t n m within lt holdings are None none locks after some kept old =
     subst (λ (ls : List ℕ). AreHeldBelow events t n (m + 1) ls) (sym (kept refl)) (below-same events t n m locks none old)
-below-next events t n m e here lt holdings are (Some l) is locks after some kept old =
+below-next events t n m within lt holdings are (Some l) is locks after some kept old =
+    let (e, here) = at_some events m within in
     below-push events t n m l locks after is (λ lock s. since_alone events n m t lt e here holdings are l lock is s) (some l refl) old

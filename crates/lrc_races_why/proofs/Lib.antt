@@ -4,3 +4,4 @@ pub mod Following
 pub mod Holding
 pub mod Linking
 pub mod Answering
+pub mod Wording

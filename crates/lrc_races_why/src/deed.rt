@@ -1,8 +1,8 @@
 // What a line has of an event: what its thread does.
-ghost use Rattle.std.specs.Prelude.{◌≡◌, ◌++◌, ◌==◌, ◌+◌, ◌≤◌, OnOk, drop, length};
+ghost use Rattle.std.specs.Prelude.{◌≡◌, ◌++◌, ◌==◌, ◌≤◌, OnOk, flat_map, length};
 ghost use Rattle.std.specs.List.{before_first, position_or_len};
 ghost use Rattle.lrc_acts.specs.ActsText.{words_between};
-ghost use Rattle.lrc_races_why.specs.Deeds.{before_bar, behind_bar, parted, deed_text};
+ghost use Rattle.lrc_races_why.specs.Deeds.{before_bar, behind_bar, blank_and, parted, deed_text};
 
 use lrc_acts::words::{before_comment, first_word};
 use lrc_races_text::form::Form;
@@ -36,6 +36,20 @@ fn behind_bar(text: &[u8]) -> &[u8]
     }
 }
 
+// Adds the words of a text, each behind a blank.
+fn push_more(text: &mut Vec<u8>, words: &[u8]) -> Result<(), AllocError>
+    ensures { OnOk result (text.new.items
+        ≡ text.old.items ++ flat_map blank_and (words_between words.now)) }
+{
+    let mut left = words;
+    while let Some((word, behind)) = first_word(left) {
+        text.extend_from_slice(b" ")?;
+        text.extend_from_slice(word)?;
+        left = behind;
+    }
+    Ok(())
+}
+
 // Adds the words of a text, with one blank between.
 fn push_words(text: &mut Vec<u8>, words: &[u8]) -> Result<(), AllocError>
     ensures { OnOk result (text.new.items ≡ text.old.items ++ parted (words_between words.now)) }
@@ -44,12 +58,7 @@ fn push_words(text: &mut Vec<u8>, words: &[u8]) -> Result<(), AllocError>
         return Ok(());
     };
     text.extend_from_slice(word)?;
-    let mut left = rest;
-    while let Some((word, behind)) = first_word(left) {
-        text.extend_from_slice(b" ")?;
-        text.extend_from_slice(word)?;
-        left = behind;
-    }
+    push_more(text, rest)?;
     Ok(())
 }
 

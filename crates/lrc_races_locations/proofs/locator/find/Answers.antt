@@ -3,14 +3,12 @@ use Rattle.std.proofs.Common.{◌≡◌, ◌+◌, ◌-◌, ◌<◌, ℕ, List, l
 use Rattle.std.proofs.lemmas.Option.{slice_get-get_or}
 use Rattle.lrc_races_trace.specs.declared.event.Pair.{Pair}
 use Rattle.lrc_races_locations.specs.Finding.{AreFoundFrom}
-use Rattle.lrc_races_locations.proofs.Offering.{found-none, found-considered}
+use Rattle.lrc_races_locations.proofs.Offering.{found-empty, found-considered}
 use Rattle.lrc_races_locations.proofs.locator.find.Goals as goal
 
 pub loop-place-init : goal.loop-place-init
 loop-place-init c = λ order.
-    let row = c.args.row.now in
-    subst (λ (f : List Pair). AreFoundFrom _ row c.args.known.now c.args.later c.args.sides.now.keys c.args.sides.now.keys f) (sym c.requires)
-    (found-none row c.args.known.now c.args.later c.args.sides.now.keys _ (omega arith))
+    found-empty c.args.row.now c.args.known.now c.args.later c.args.sides.now.keys c.len.result c.args.found.now.items c.requires (omega (arith, c.len.ensures))
 
 pub loop-place-preserved : goal.loop-place-preserved
 loop-place-preserved c = λ order.

@@ -1,5 +1,5 @@
 -- One position more, from the last one back.
-use Rattle.std.proofs.Common.{◌≡◌, ◌+◌, ◌-◌, ◌<◌, ◌≤◌, ℕ, length, subst, sym, arith, ◌∙◌, refl, length-set, inl, inr}
+use Rattle.std.proofs.Common.{◌≡◌, ◌+◌, ◌-◌, ◌<◌, ◌≤◌, ℕ, length, subst, sym, arith, rules, ◌∙◌, refl, length-set, inl, inr}
 use Rattle.std.specs.Prelude.{None, Option}
 use Rattle.std.proofs.lemmas.Bool.{cases_eq}
 use Rattle.std.proofs.lemmas.List.{get_or-set_same, get_or-set_other}
@@ -22,7 +22,7 @@ loop-position-init c =
       starts = c.in_ok-note.ensures events to to (record { is = slice_get-get_or events to _ c.requires.within })
           (number_read events c.args.numbers.now to _ _ c.requires.numbers c.requires.within)
           (Best-last (Precedes events) (goes_forward events) to) (c.new-onward.ensures events to);
-      all = c.in_ok-vec.ensures.len;
+      all = first_of (search rules, omega arith, omega (arith, c.in_ok-next.next.ok, c.in_ok-next.ensures.len), grind arith);
       best = λ k le lt. absurd (omega (arith, le, lt));
     }
 

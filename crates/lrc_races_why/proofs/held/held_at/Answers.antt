@@ -14,7 +14,7 @@ loop-at-preserved c =
     let n = c.loop-at.at in
     let lt : n < length events = omega (arith, c.requires) in
     let are = subst (λ hs. AreHoldings events c.args.thread c.args.position hs) (sym c.as_slice.ensures.value) c.in_ok-holdings.ensures in
-    below-next events c.args.thread c.args.position n _ (record { is = slice_get-get_or events n _ lt }) c.loop-at-test.true c.as_slice.result.now are
+    below-next events c.args.thread c.args.position n lt c.loop-at-test.true c.as_slice.result.now are
     c.held_since-lock.result
     (c.held_since-lock.ensures events c.args.position c.loop-at-test.true (record { is = slice_get-get_or events n _ lt }) are)
     c.loop-at.locks.items c.add.new.locks.items c.in_ok-add.ensures.some c.in_ok-add.ensures.none c.loop-at.invariant
