@@ -19,7 +19,7 @@ use Rattle.lrc_races_why.specs.declared.link.Link.{Link}
 use Rattle.lrc_races_why.specs.Links.{IsBy}
 use Rattle.lrc_races_why.specs.Spelled.{event_line, step_line, one_thread_line, order_line, race_line, held_line, neither_line}
 use Rattle.lrc_races_why.specs.Held.{AreHeld}
-use Rattle.lrc_races_why.specs.Answers.{Line, AreSteps, last_step, step_more, IsStepAdded, AreStepsAdded, IsOn, IsWhy, one_thread, ordered, race, neither, IsWhyAdded}
+use Rattle.lrc_races_why.specs.Answers.{Line, AreSteps, last_step, step_more, IsStepAdded, AreStepsAdded, IsOn, one_thread, ordered, race, neither, IsWhyAdded}
 
 -- ---- lines
 

@@ -10,7 +10,7 @@ use Rattle.lrc_races_trace.specs.Cycles.{Cycles, cycles_before, after_operation,
 use Rattle.lrc_races_trace.proofs.Positions.{At-one}
 use Rattle.lrc_races_trace.proofs.Cycles.{cycles_before-none, cycles_before-next}
 use Rattle.lrc_races_detector.specs.declared.barriers.Barrier.{Barrier}
-use Rattle.lrc_races_detector.specs.Barriers.{SameBarrier, IsArrived, IsClosed, IsDeparted, current_of, cycle_of}
+use Rattle.lrc_races_detector.specs.Barriers.{SameBarrier, IsArrived, IsDeparted, cycle_of}
 use Rattle.lrc_races_why.specs.Cycles.{cycle_in, IsCycles, AreCycles}
 
 -- lists, one element further

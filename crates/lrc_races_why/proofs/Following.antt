@@ -1,13 +1,12 @@
 -- Chains of a trace, and what they say of happens before.
-use Rattle.std.proofs.Common.{◌≡◌, ℕ, ◌<◌, List, [], ◌∷◌, ◌∙◌, get_or, length, refl, sym, arith}
+use Rattle.std.proofs.Common.{◌≡◌, ℕ, ◌<◌, List, [], ◌∷◌, ◌∙◌, get_or, length, sym, arith}
 use Rattle.std.specs.Prelude.{Option}
 use Rattle.std.proofs.lemmas.Option.{slice_get-get_or, same_Some}
 use Rattle.lrc_races_trace.specs.declared.event.Event.{Event}
 use Rattle.lrc_races_trace.specs.Order.{Precedes, HappensBefore, base, further}
 use Rattle.lrc_races_trace.proofs.HappensBefore.{Precedes-forward, transitive}
-use Rattle.lrc_races_trace.specs.Trace.{At}
 use Rattle.lrc_races_why.specs.Cycles.{cycle_in, AreNumbers}
-use Rattle.lrc_chains.specs.Chains.{IsChain, step, longer, IsTold}
+use Rattle.lrc_chains.specs.Chains.{IsChain, step, longer}
 use Rattle.lrc_chains.proofs.Paths.{extended}
 
 pub goes_forward : (events : List Event) (i j : ℕ) → Precedes events i j → i < j

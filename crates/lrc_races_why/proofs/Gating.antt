@@ -1,6 +1,6 @@
 -- What an event comes right before, and the best starts of that.
 use Rattle.std.proofs.Common.{◌≡◌, ℕ, ◌+◌, ◌<◌, ◌≤◌, ◌⊎◌, List, [], inl, inr, refl, sym, subst, ◌∙◌, ap, arith}
-use Rattle.std.specs.Prelude.{◌≢◌, Option, Some, None, Vec, slice_get}
+use Rattle.std.specs.Prelude.{◌≢◌, Option, Some, None, Vec}
 use Rattle.std.specs.declared.alloc.Global.{Global}
 use Rattle.std.proofs.lemmas.Bool.{cases_eq}
 use Rattle.lrc_races_trace.specs.declared.event.Event.{Event}

@@ -1,6 +1,6 @@
 -- How a thread holds a lock, one event further.
 use Rattle.std.proofs.Common.{add-one, ◌≡◌, ℕ, zero, suc, ◌+◌, ◌-◌, ◌<◌, ◌≤◌, ◌⊎◌, List, [], ◌∷◌, ◌++◌, ◌^◌, inl, inr, refl, sym, subst, ◌∙◌, ap, arith, cond, length, get_or}
-use Rattle.std.specs.Prelude.{◌≢◌, ◌==◌, Bool, true, false, Option, Some, None, MatchOption, slice_get, AllPairs, Contains}
+use Rattle.std.specs.Prelude.{◌≢◌, ◌==◌, true, false, Option, Some, None, MatchOption, slice_get, AllPairs, Contains}
 use Rattle.std.proofs.lemmas.Bool.{cases_eq, cases_lt}
 use Rattle.std.proofs.lemmas.List.Elements.{Contains-push, Contains-push_cases, Contains-append_left, Contains-get_or}
 use Rattle.std.proofs.lemmas.List.Quantifiers.{all_pairs_push}

@@ -1,6 +1,6 @@
 -- By what one event comes right before another, whatever the rest of the trace.
 use Rattle.std.proofs.Common.{◌≡◌, ℕ, ◌⊎◌, List, inl, inr, sym, subst, ◌∙◌, ap}
-use Rattle.std.specs.Prelude.{◌≢◌, ◌↔◌, IsTrue, Bool, true, false, Option, Some, None}
+use Rattle.std.specs.Prelude.{◌≢◌, ◌↔◌, IsTrue, Bool, true, false, Some, None}
 use Rattle.std.proofs.lemmas.Bool.{true≢false}
 use Rattle.lrc_races_trace.specs.declared.event.Event.{Event}
 use Rattle.lrc_races_trace.specs.declared.event.Operation.{Operation}
@@ -8,7 +8,7 @@ use Rattle.lrc_races_trace.specs.declared.event.Operation.TheVariants as Op
 use Rattle.lrc_races_trace.specs.Trace.{At, given, got}
 use Rattle.lrc_races_trace.specs.Order.{Precedes, program, lock, fork, join, fork_join, barrier}
 use Rattle.lrc_races_trace.proofs.Positions.{At-one}
-use Rattle.lrc_races_why.specs.declared.link.Link.TheVariants.{Thread, Lock, Fork, Join, Barrier}
+use Rattle.lrc_races_why.specs.declared.link.Link.TheVariants.{Lock, Fork, Join, Barrier}
 use Rattle.lrc_races_why.specs.Links as by
 use Rattle.lrc_races_why.specs.Links.{IsBy}
 

@@ -1,7 +1,7 @@
 -- One step more.
-use Rattle.std.proofs.Common.{◌≡◌, ◌+◌, ◌-◌, ◌<◌, ◌≤◌, length, arith, subst}
+use Rattle.std.proofs.Common.{◌≡◌, ◌+◌, ◌-◌, length, arith}
 use Rattle.lrc_races_text.specs.Tables.{naming_of}
-use Rattle.lrc_races_why.proofs.Answering.{Follows, chain-within, chain-long, follows_none, follows_more, follows_all}
+use Rattle.lrc_races_why.proofs.Answering.{chain-within, chain-long, follows_none, follows_more, follows_all}
 use Rattle.lrc_races_why.proofs.answer.push_steps.Goals as goal
 
 pub push_link-requires-clause-first : goal.push_link-requires-clause-first

@@ -1,5 +1,5 @@
 -- Whatever the lines of the steps that are left, the lines of all steps are those so far and these.
-use Rattle.std.proofs.Common.{◌-◌, ◌≤◌, length}
+use Rattle.std.proofs.Common.{◌-◌}
 use Rattle.lrc_races_text.specs.Tables.{naming_of}
 use Rattle.lrc_races_why.proofs.Answering.{Follows}
 use Rattle.lrc_races_why.proofs.answer.push_steps.Given as goal

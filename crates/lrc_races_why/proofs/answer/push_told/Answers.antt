@@ -1,4 +1,3 @@
-use Rattle.std.proofs.Common.{◌<◌, length, arith}
 use Rattle.lrc_races_text.specs.Tables.{naming_of}
 use Rattle.lrc_races_why.proofs.Answering.{shown_before}
 use Rattle.lrc_races_why.proofs.answer.push_told.Goals as goal

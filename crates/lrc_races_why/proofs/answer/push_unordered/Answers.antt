@@ -1,8 +1,7 @@
 -- Two accesses that conflict race, and others do not.
-use Rattle.std.proofs.Common.{◌<◌, ◌∙◌, ap, length, arith}
+use Rattle.std.proofs.Common.{◌<◌, length, arith}
 use Rattle.std.proofs.lemmas.Option.{slice_get-get_or}
 use Rattle.lrc_races_text.specs.Tables.{naming_of}
-use Rattle.lrc_races_why.specs.Spelled.{held_line}
 use Rattle.lrc_races_why.proofs.Answering.{neither_added, race_added, held_same}
 use Rattle.lrc_races_why.proofs.answer.push_unordered.Goals as goal
 

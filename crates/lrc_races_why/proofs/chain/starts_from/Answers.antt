@@ -1,5 +1,5 @@
 -- One position more, from the last one back.
-use Rattle.std.proofs.Common.{◌≡◌, ◌+◌, ◌-◌, ◌<◌, ◌≤◌, ℕ, length, subst, sym, arith, rules, ◌∙◌, refl, length-set, inl, inr}
+use Rattle.std.proofs.Common.{◌≡◌, ◌+◌, ◌-◌, ◌<◌, ℕ, length, subst, sym, arith, rules, ◌∙◌, refl, length-set, inl, inr}
 use Rattle.std.specs.Prelude.{None, Option}
 use Rattle.std.proofs.lemmas.Bool.{cases_eq}
 use Rattle.std.proofs.lemmas.List.{get_or-set_same, get_or-set_other}

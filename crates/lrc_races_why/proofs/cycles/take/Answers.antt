@@ -1,5 +1,5 @@
 -- The cycles of each barrier, one event further.
-use Rattle.std.proofs.Common.{◌≡◌, ◌+◌, refl, sym, subst, arith, inl, inr}
+use Rattle.std.proofs.Common.{◌≡◌, ◌+◌, sym, subst, arith, inl, inr}
 use Rattle.std.specs.Prelude.{Option, slice_get}
 use Rattle.std.proofs.lemmas.Bool.{cases_eq}
 use Rattle.lrc_races_trace.proofs.Cycles.{cycles_before-few}

@@ -1,5 +1,5 @@
 -- The words behind the node.
-use Rattle.std.proofs.Common.{◌≡◌, ◌∙◌, sym, ap}
+use Rattle.std.proofs.Common.{◌∙◌, sym, ap}
 use Rattle.lrc_acts.specs.ActsText.{words_between, words_on}
 use Rattle.lrc_races_why.proofs.Wording.{words_behind, words_nowhere}
 use Rattle.lrc_races_why.proofs.deed.push_act.Goals as goal

@@ -1,5 +1,4 @@
 -- Each test rules out that the thread came to hold a lock there.
-use Rattle.std.proofs.Common.{arith}
 use Rattle.lrc_races_why.proofs.Holding.{since_other, since_no_acquire, since_unheld, since_apart, since_found}
 use Rattle.lrc_races_why.proofs.held.held_since.Goals as goal
 

@@ -1,4 +1,4 @@
-use Rattle.std.proofs.Common.{◌+◌, ◌≤◌, sym, subst}
+use Rattle.std.proofs.Common.{◌+◌, sym, subst}
 use Rattle.lrc_races_trace.specs.Order.{Precedes}
 use Rattle.lrc_chains.specs.Starts.{IsBest}
 use Rattle.lrc_races_why.proofs.Gating.{Best-onto}

@@ -1,5 +1,5 @@
 -- What each operation comes right before.
-use Rattle.std.proofs.Common.{◌≡◌, ◌+◌, ◌∙◌, inl, inr, ap}
+use Rattle.std.proofs.Common.{◌+◌, ◌∙◌, inl, inr, ap}
 use Rattle.lrc_races_trace.specs.declared.event.Operation.TheVariants.{Release, Post, Fork, Arrive}
 use Rattle.lrc_chains.specs.Table.{start_at}
 use Rattle.lrc_races_why.specs.Cycles.{cycle_in}

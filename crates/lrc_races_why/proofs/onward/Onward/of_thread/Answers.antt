@@ -1,5 +1,5 @@
 -- The better of what is kept of the thread's events and of those that join it.
-use Rattle.std.proofs.Common.{◌≡◌, ◌∙◌, sym, subst, ap}
+use Rattle.std.proofs.Common.{◌∙◌, ap}
 use Rattle.lrc_races_why.proofs.Gating.{of_thread-best}
 use Rattle.lrc_chains.specs.Table.{start_at}
 use Rattle.lrc_races_why.proofs.onward.Onward.of_thread.Goals as goal
