@@ -101,7 +101,7 @@ fn claim_on(line: &[u8]) -> Option<Claim<'_>>
 // Adds a claim.
 fn push_claim<'a>(report: &mut Report<'a>, claim: Claim<'a>, line: u64) -> Result<(), AllocError>
     ensures { OnOk result (report.new.claims.items
-        ≡ report.old.claims.items ++ (record { line = line; claim = claim }) ∷ []) }
+        ≡ report.old.claims.items ++ (record { line = line; claim = claim.entry }) ∷ []) }
 {
     report.claims.push(LinedClaim { line, claim })?;
     Ok(())
