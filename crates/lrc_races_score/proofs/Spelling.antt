@@ -1,9 +1,9 @@
 -- What a line spells, by its word.
-use Rattle.std.proofs.Common.{◌≡◌, ℕ, zero, suc, ◌+◌, ◌<◌, ◌≤◌, ◌⊎◌, List, [], ◌∷◌, ◌++◌, inl, inr, refl, sym, subst, ◌∙◌, ap, arith, get_or, length}
-use Rattle.std.specs.Prelude.{◌==◌, ◌&&◌, ◌≢◌, ◌↔◌, IsTrue, Bool, true, false, not, Option, Some, None, MatchOption, codes}
+use Rattle.std.proofs.Common.{◌≡◌, ℕ, List, [], ◌∷◌, ◌++◌, inl, inr, refl, sym, subst, ◌∙◌, ap, arith}
+use Rattle.std.specs.Prelude.{◌==◌, ◌&&◌, ◌≢◌, ◌↔◌, IsTrue, Bool, true, false, not, Option, MatchOption, codes}
 use Rattle.std.proofs.lemmas.Bool.{true≢false}
 use Rattle.std.proofs.lemmas.Bool.Decides.{eqb_tells}
-use Rattle.std.specs.Str.Parse.{AllDigits, IsNumeral}
+use Rattle.std.specs.Str.Parse.{AllDigits}
 use Rattle.std.specs.Char.{digit_value}
 use Rattle.lrc_text.specs.Digits.{IsNumber}
 use Rattle.lrc_races_lines.specs.Line.{bar, IsName}

@@ -8,7 +8,8 @@ use Rattle.lrc_races_locations.proofs.locator.find.Goals as goal
 
 pub loop-place-init : goal.loop-place-init
 loop-place-init c = λ order.
-    found-empty c.args.row.now c.args.known.now c.args.later c.args.sides.now.keys c.len.result c.args.found.now.items c.requires (omega (arith, c.len.ensures))
+    let row = c.args.row.now in
+    found-empty row c.args.known.now c.args.later c.args.sides.now.keys (length row) c.args.found.now.items c.requires (omega arith)
 
 pub loop-place-preserved : goal.loop-place-preserved
 loop-place-preserved c = λ order.
