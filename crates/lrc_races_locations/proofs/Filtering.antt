@@ -1,5 +1,5 @@
 -- What a list contains, where one element comes first or some are left out.
-use Rattle.std.proofs.Common.{◌≡◌, ℕ, zero, suc, ◌<◌, ◌⊎◌, List, [], ◌∷◌, inl, inr, refl, sym, subst, ◌∙◌, ap, arith, cond}
+use Rattle.std.proofs.Common.{◌≡◌, zero, suc, ◌⊎◌, List, [], ◌∷◌, inl, inr, refl, sym, subst, ◌∙◌, ap, arith, cond}
 use Rattle.std.specs.Prelude.{Bool, true, false, Contains, filter}
 use Rattle.std.proofs.lemmas.Bool.{true≢false}
 

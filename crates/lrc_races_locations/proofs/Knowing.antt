@@ -1,13 +1,13 @@
 -- What a detector knows before an access is what comes before it.
-use Rattle.std.proofs.Common.{◌≡◌, ℕ, ◌+◌, ◌<◌, List, inl, inr, refl, sym, subst, ◌∙◌, ap, arith}
+use Rattle.std.proofs.Common.{◌≡◌, ℕ, ◌<◌, List, inl, inr, sym, subst, ◌∙◌, ap}
 use Rattle.std.specs.Prelude.{Some}
 use Rattle.lrc_races_trace.specs.declared.event.Event.{Event}
 use Rattle.lrc_races_trace.specs.declared.event.Operation.TheVariants.{Read, Write, Fork, Join, Depart}
 use Rattle.lrc_races_trace.specs.Trace.{At, Accesses, got}
-use Rattle.lrc_races_trace.specs.Order.{Precedes, program, lock, fork, join, fork_join, barrier, base, HappensBefore, Reaches}
+use Rattle.lrc_races_trace.specs.Order.{Precedes, program, lock, fork, join, fork_join, barrier, base}
 use Rattle.lrc_races_trace.proofs.Positions.{At-one}
 use Rattle.lrc_races_trace.proofs.HappensBefore.{Reaches-extends, Reaches-last}
-use Rattle.lrc_races_sure.specs.Leading.{Leads, IsByWay}
+use Rattle.lrc_races_sure.specs.Leading.{Leads}
 use Rattle.lrc_races_sure.proofs.Leading.{to-ordered, leads-further}
 use Rattle.lrc_races_detector.specs.declared.clocks.Clocks.{Clocks}
 use Rattle.lrc_races_detector.specs.Clocks.{row}

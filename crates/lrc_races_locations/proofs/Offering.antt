@@ -1,6 +1,6 @@
 -- What is found in a row, one access further to its front.
-use Rattle.std.proofs.Common.{◌≡◌, ℕ, zero, suc, ◌+◌, ◌<◌, ◌≤◌, ◌⊎◌, List, [], ◌∷◌, ◌++◌, inl, inr, refl, sym, subst, ◌∙◌, ap, arith, cond, get_or, length}
-use Rattle.std.specs.Prelude.{◌↔◌, IsTrue, Bool, Some, true, false, not, AllPairs, Contains, slice_get}
+use Rattle.std.proofs.Common.{◌≡◌, ℕ, zero, suc, ◌+◌, ◌<◌, ◌≤◌, ◌⊎◌, List, [], ◌∷◌, ◌++◌, inl, inr, sym, subst, ◌∙◌, ap, arith, cond, get_or, length}
+use Rattle.std.specs.Prelude.{◌↔◌, IsTrue, Bool, Some, true, false, AllPairs, Contains, slice_get}
 use Rattle.std.specs.List.{insert, list_any}
 use Rattle.std.proofs.lemmas.Bool.{cases_eq, true≢false}
 use Rattle.std.proofs.lemmas.List.Folds.{list_any_at}

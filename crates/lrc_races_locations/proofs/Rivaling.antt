@@ -1,19 +1,16 @@
 -- Which last accesses race with an access, by what comes before it.
-use Rattle.std.proofs.Common.{◌≡◌, ℕ, ◌+◌, ◌<◌, ◌≤◌, ◌⊎◌, List, inl, inr, refl, sym, subst, ◌∙◌, ap, arith, get_or}
+use Rattle.std.proofs.Common.{◌≡◌, ℕ, ◌+◌, ◌<◌, ◌≤◌, List, inl, inr, sym, subst, ◌∙◌, ap, arith}
 use Rattle.std.specs.Prelude.{◌≢◌, true, false, Contains, Vec, slice_index}
 use Rattle.std.specs.declared.alloc.Global.{Global}
 use Rattle.std.proofs.lemmas.Bool.{cases_eq, cases_lt, true≢false}
 use Rattle.lrc_races_trace.specs.declared.event.Event.{Event}
-use Rattle.lrc_races_trace.specs.declared.event.Operation.{Operation}
 use Rattle.lrc_races_trace.specs.declared.event.Operation.TheVariants.{Read, Write}
 use Rattle.lrc_races_trace.specs.declared.event.Placed.{Placed}
 use Rattle.lrc_races_trace.specs.Trace.{At, Accesses, Writes}
 use Rattle.lrc_races_trace.specs.Groups.{is_write}
-use Rattle.lrc_races_trace.specs.Races.{Conflict, Races}
+use Rattle.lrc_races_trace.specs.Races.{Conflict}
 use Rattle.lrc_races_trace.proofs.Positions.{At-one}
-use Rattle.lrc_races_sure.specs.Sure.{IsSureRace}
 use Rattle.lrc_races_detector.specs.declared.groups.Side.{Side}
-use Rattle.lrc_races_detector.specs.Grouping.{side_of}
 use Rattle.lrc_races_text.specs.declared.asked.Sought.{Sought}
 use Rattle.lrc_races_text.specs.declared.asked.Sought.TheVariants.{AllRaces, SureRaces}
 use Rattle.lrc_races_locations.specs.Rivals.{Rivals, Separates, IsBehind}

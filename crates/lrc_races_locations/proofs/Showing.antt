@@ -1,6 +1,6 @@
 -- The pairs of locations that are shown, one event further, and of a whole trace.
-use Rattle.std.proofs.Common.{◌≡◌, ℕ, ◌+◌, ◌<◌, ◌≤◌, ◌⊎◌, List, [], ◌∷◌, ◌++◌, inl, inr, refl, sym, subst, ◌∙◌, ap, arith, get_or, length, length-append}
-use Rattle.std.specs.Prelude.{◌↔◌, Some, true, Vec, AllPairs, Contains, slice_get}
+use Rattle.std.proofs.Common.{◌≡◌, ℕ, ◌+◌, ◌<◌, ◌≤◌, ◌⊎◌, List, [], ◌++◌, inl, inr, sym, subst, ◌∙◌, ap, arith, get_or, length}
+use Rattle.std.specs.Prelude.{Some, true, Vec, AllPairs, Contains, slice_get}
 use Rattle.std.specs.declared.alloc.Global.{Global}
 use Rattle.std.proofs.lemmas.Bool.{cases_eq, cases_lt}
 use Rattle.std.proofs.lemmas.Option.{slice_get-get_or, slice_get_within, get_or_from_slice_get}
@@ -20,7 +20,7 @@ use Rattle.lrc_races_text.specs.declared.asked.Sought.{Sought}
 use Rattle.lrc_races_locations.specs.declared.locator.Locator.{Locator}
 use Rattle.lrc_races_locations.specs.Rivals.{Rivals, IsBehind}
 use Rattle.lrc_races_locations.specs.Located.{AreRacing, IsShown, ComesFirst, AreShown}
-use Rattle.lrc_races_locations.specs.Spots.{AreAtOneSpot, IsSpot, IsRow, row_of, AreRows}
+use Rattle.lrc_races_locations.specs.Spots.{IsRow, row_of, AreRows}
 use Rattle.lrc_races_locations.specs.Finding.{IsRival, pair_of, AreFoundFrom, HasShown}
 use Rattle.lrc_races_locations.proofs.Filtering.{contains_none}
 use Rattle.lrc_races_locations.proofs.Spotting.{Row-none, Row-kept}

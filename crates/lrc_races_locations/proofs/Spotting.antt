@@ -1,6 +1,6 @@
 -- The row of a variable, one access further.
-use Rattle.std.proofs.Common.{◌≡◌, ℕ, ◌+◌, ◌<◌, ◌≤◌, List, [], ◌∷◌, ◌++◌, inl, inr, refl, sym, subst, ◌∙◌, ap, arith, get_or, cond}
-use Rattle.std.specs.Prelude.{◌==◌, ◌&&◌, Bool, true, false, not, AllPairs, Contains, filter, length}
+use Rattle.std.proofs.Common.{◌≡◌, ℕ, ◌+◌, ◌<◌, List, [], ◌∷◌, ◌++◌, inl, inr, refl, sym, subst, ◌∙◌, ap, arith}
+use Rattle.std.specs.Prelude.{◌==◌, ◌&&◌, Bool, true, false, not, Contains, filter}
 use Rattle.std.proofs.lemmas.Bool.{cases_eq, true≢false, and_parts, eqb-true, eq-eqb}
 use Rattle.std.proofs.lemmas.List.Elements.{Contains-push, Contains-push_cases, Contains-append_left, Contains-get_or}
 use Rattle.std.proofs.lemmas.List.Quantifiers.{all_pairs_push}
@@ -9,7 +9,7 @@ use Rattle.lrc_races_trace.specs.declared.event.Event.{Event}
 use Rattle.lrc_races_trace.specs.declared.event.Pair.{Pair}
 use Rattle.lrc_races_trace.specs.declared.event.Placed.{Placed}
 use Rattle.lrc_races_trace.specs.Trace.{At, Accesses}
-use Rattle.lrc_races_trace.specs.Groups.{alike, are_alike}
+use Rattle.lrc_races_trace.specs.Groups.{alike}
 use Rattle.lrc_races_trace.proofs.Positions.{At-one}
 use Rattle.lrc_races_detector.specs.declared.groups.Sides.{Sides}
 use Rattle.lrc_races_detector.specs.Grouping.{side_of, sides_of}

@@ -1,5 +1,5 @@
 -- What is kept of a variable: of each thread, location and kind that access it the last access.
-use Rattle.std.specs.Prelude.{◌≡◌, ℕ, ◌<◌, ◌≤◌, ◌==◌, ◌&&◌, Bool, not, List, [], Option, Some, None, Vec, AllPairs, Contains, slice_get}
+use Rattle.std.specs.Prelude.{◌≡◌, ℕ, ◌<◌, ◌≤◌, ◌==◌, ◌&&◌, Bool, List, [], Option, Some, None, Vec, AllPairs, Contains, slice_get}
 use Rattle.std.specs.declared.alloc.Global.{Global}
 use Rattle.lrc_races_trace.specs.declared.event.Event.{Event}
 use Rattle.lrc_races_trace.specs.declared.event.Placed.{Placed}

@@ -1,5 +1,5 @@
 -- One event more, and all of them.
-use Rattle.std.proofs.Common.{◌≡◌, ◌+◌, ◌<◌, ◌^◌, ◌∙◌, ℕ, List, length, sym, subst, arith}
+use Rattle.std.proofs.Common.{◌≡◌, ℕ, List, length, sym, subst, arith}
 use Rattle.std.proofs.lemmas.Option.{slice_get-get_or}
 use Rattle.lrc_races_trace.specs.declared.event.Pair.{Pair}
 use Rattle.lrc_races_locations.specs.Located.{AreShown}

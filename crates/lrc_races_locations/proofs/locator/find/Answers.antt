@@ -1,7 +1,6 @@
 -- One access of the row more.
-use Rattle.std.proofs.Common.{◌≡◌, ◌+◌, ◌-◌, ◌<◌, ℕ, List, length, sym, subst, arith}
+use Rattle.std.proofs.Common.{◌≡◌, ◌+◌, ◌-◌, ◌<◌, ℕ, length, subst, arith}
 use Rattle.std.proofs.lemmas.Option.{slice_get-get_or}
-use Rattle.lrc_races_trace.specs.declared.event.Pair.{Pair}
 use Rattle.lrc_races_locations.specs.Finding.{AreFoundFrom}
 use Rattle.lrc_races_locations.proofs.Offering.{found-empty, found-considered}
 use Rattle.lrc_races_locations.proofs.locator.find.Goals as goal

@@ -1,5 +1,5 @@
 -- The accesses of the row from here on are noted.
-use Rattle.std.proofs.Common.{ℕ, ◌<◌}
+use Rattle.std.proofs.Common.{◌<◌}
 use Rattle.std.specs.Prelude.{AllPairs}
 use Rattle.lrc_races_trace.specs.declared.event.Placed.{Placed}
 use Rattle.lrc_races_locations.specs.Finding.{AreFoundFrom}
