@@ -1,0 +1,4 @@
+pub mod Paths
+pub mod Best
+pub mod Tables
+pub mod Setting

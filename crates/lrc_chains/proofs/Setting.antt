@@ -1,0 +1,15 @@
+-- What a list says at each index, where one element is set.
+use Rattle.std.proofs.Common.{◌≡◌, ℕ, zero, suc, ◌<◌, List, [], ◌∷◌, length, set, refl, ap, arith}
+use Rattle.std.specs.Prelude.{◌≢◌, Some, slice_get}
+
+pub slice_get-set_same : {X : Type 0} (xs : List X) (i : ℕ) (y : X) → i < length xs → slice_get (set xs i y) i ≡ Some y
+slice_get-set_same [] i y h = absurd (omega arith)
+slice_get-set_same (x ∷ xs) zero y h = refl
+slice_get-set_same (x ∷ xs) (suc i) y h = slice_get-set_same xs i y (omega arith)
+
+pub slice_get-set_other : {X : Type 0} (xs : List X) (i : ℕ) (y : X) (k : ℕ) → k ≢ i → slice_get (set xs i y) k ≡ slice_get xs k
+slice_get-set_other [] i y k h = refl
+slice_get-set_other (x ∷ xs) zero y zero h = absurd (h refl)
+slice_get-set_other (x ∷ xs) zero y (suc k) h = refl
+slice_get-set_other (x ∷ xs) (suc i) y zero h = refl
+slice_get-set_other (x ∷ xs) (suc i) y (suc k) h = slice_get-set_other xs i y k (λ e. h (ap suc e))

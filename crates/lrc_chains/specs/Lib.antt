@@ -1,0 +1,3 @@
+pub mod Chains
+pub mod Starts
+pub mod Table

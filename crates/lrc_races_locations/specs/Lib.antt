@@ -1,0 +1,6 @@
+pub mod Rivals
+pub mod Located
+pub mod Spots
+pub mod Finding
+pub mod Taking
+pub mod Spelled
