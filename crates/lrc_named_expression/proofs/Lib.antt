@@ -2,8 +2,10 @@ pub mod Back
 pub mod Completed
 pub mod From
 pub mod Given
+pub mod Negated
 pub mod Options
 pub mod Runs
 pub mod Stops
 pub mod Taken
+pub mod Trees
 pub mod Turns

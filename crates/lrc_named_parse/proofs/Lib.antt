@@ -1,0 +1,14 @@
+pub mod Back
+pub mod Behind
+pub mod Completed
+pub mod Continuing
+pub mod Ending
+pub mod Few
+pub mod From
+pub mod OneAnswer
+pub mod Reaching
+pub mod Reading
+pub mod Split
+pub mod Taking
+pub mod Texts
+pub mod Turns
