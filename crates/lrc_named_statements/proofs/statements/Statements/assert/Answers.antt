@@ -19,7 +19,7 @@ returns-in_ok-push-2 c =
     let is : expression_of c.in_ok-test.test ≡ t = c.in_ok-test.ensures ∙ ap (λ x. trial_of (private x)) c.holding-name.ensures in
     assert_added_after (declared_of c.args.self.now.names.now) c.args.held c.args.token c.expression.new.taken n condition p
     (Assign c.from-origin.result c.holding-name.result c.in_ok-p.p) (Assign c.asserting-asserts.result c.holding-name.result c.in_ok-test.test)
-    c.args.into.now.items c.expression.new.into.items c.push.new.self.items c.push-2.new.self.items
+    c.args.into.now.items c.expression.new.into.items c.push.new.self.items c.push-then-divides.new.self.items
     c.in_ok-number.ensures (sym c.has_division-divides.ensures ∙ c.if-divides.true)
     (ap (λ o. assign o (private_of c.holding-name.result) p) c.from-origin.ensures ∙ ap (λ x. assign (from c.args.token) x p) c.holding-name.ensures)
     c.in_ok-push.ensures.items
@@ -36,7 +36,7 @@ returns-in_ok-push-3 c =
     let test = c.in_ok-trap.trap in
     assert_added (declared_of c.args.self.now.names.now) c.args.held c.args.token c.expression.new.taken n condition p
     (Assign c.asserting-asserts.result c.holding-name.result test)
-    c.args.into.now.items c.expression.new.into.items c.push-3.new.self.items
+    c.args.into.now.items c.expression.new.into.items c.push-else-divides.new.self.items
     c.in_ok-number.ensures (sym c.has_division-divides.ensures ∙ c.if-divides.false)
     (ap (λ o. assign o (private_of c.holding-name.result) (expression_of test)) c.asserting-asserts.ensures
     ∙ ap (λ x. assign (asserting c.args.token) x (expression_of test)) c.holding-name.ensures
