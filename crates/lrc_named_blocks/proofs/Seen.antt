@@ -1,6 +1,7 @@
 -- The code's statements as the definitions see them: what stands in a statement is what stands in its lists.
-use Rattle.std.proofs.Common.{◌≡◌, ℕ, List, [], ◌∷◌, length, arith, Vec, refl, sym, ap, ap₂, ◌∙◌}
+use Rattle.std.proofs.Common.{◌≡◌, ℕ, ◌<◌, ◌≤◌, ◌-◌, List, [], ◌∷◌, length, get_or, take, drop, vec_len, arith, Vec, refl, sym, subst, ap, ap₂, ◌∙◌}
 use Rattle.std.specs.declared.alloc.Global.{Global}
+use Rattle.std.proofs.lemmas.List.{take_rest}
 use Rattle.lrc_named_tree.specs.declared.tree.Arm as code_arm
 use Rattle.lrc_named_tree.specs.declared.tree.Expression as code_expression
 use Rattle.lrc_named_tree.specs.declared.tree.Name as code_name
@@ -15,7 +16,7 @@ use Rattle.lrc_named_names.specs.Names.{Declared}
 use Rattle.lrc_named_core.specs.declared.tree.Statement as code_core
 use Rattle.lrc_named_translation.specs.Added.{IsAdded}
 use Rattle.lrc_named_translation.proofs.Adding.{added_as}
-use Rattle.lrc_named_statements.specs.Statements.{AreCores, IsElse, last_block}
+use Rattle.lrc_named_statements.specs.Statements.{AreCores, IsChoice, IsElse, else_if, last_block}
 use Rattle.lrc_named_blocks.specs.View.{arms_of}
 
 block_row_is : {m : _} (row : Row_of-Statement m) → block_row row ≡ block_of (items-the_row-Statement m row)
@@ -56,8 +57,30 @@ pub if_same : (at : ℕ) (e : Expression) {a b : Block} {c d : Arms} {f g : Bloc
 if_same at e h k l = cc
 
 -- no `else if`
-pub else_empty : (declared : List Declared) (held : ℕ) (arms : List code_arm.Arm) (block : Block) (old new : List code_core.Statement) → length arms ≡ 0
+pub else_empty : (declared : List Declared) (held : ℕ) (arms : List code_arm.Arm) (block : Block) (old new : List code_core.Statement) → length arms < 1
     → IsAdded (AreCores declared held block) old new → IsAdded (IsElse declared held (arms_of arms) block) old new
 else_empty declared held [] block old new is h =
     added_as (AreCores declared held block) (IsElse declared held Arms.no_arm block) old new (λ b m. last_block m) h
 else_empty declared held (a ∷ arms) block old new is h = absurd (omega arith)
+
+-- the first `else if`, and the others
+arms_first : (arms : List code_arm.Arm) (a : code_arm.Arm) → 1 ≤ length arms → a ≡ get_or arms 0 a
+    → arms_of arms ≡ Arms.arm a.at (expression_of a.condition) (block_of a.block.items) (arms_of (take (length arms - 1) (drop 1 arms)))
+arms_first [] a some is = absurd (omega arith)
+arms_first (x ∷ xs) a some is =
+    ap (λ (y : code_arm.Arm). Arms.arm y.at (expression_of y.condition) (block_of y.block.items) (arms_of xs)) (sym is)
+    ∙ ap (λ l. Arms.arm a.at (expression_of a.condition) (block_of a.block.items) (arms_of l)) (sym (take_rest (x ∷ xs) 1))
+
+pub else_more : (declared : List Declared) (held : ℕ) (arms : List code_arm.Arm) (a : code_arm.Arm) (then otherwise : Block) (old new : List code_core.Statement)
+    → 1 ≤ length arms → a ≡ get_or arms 0 a → then ≡ block_of a.block.items
+    → IsAdded (IsChoice declared held a.at (expression_of a.condition) then (arms_of (take (length arms - 1) (drop 1 arms))) otherwise) old new
+    → IsAdded (IsElse declared held (arms_of arms) otherwise) old new
+else_more declared held arms a then otherwise old new some is same h =
+    let others = arms_of (take (length arms - 1) (drop 1 arms)) in
+    added_as (IsChoice declared held a.at (expression_of a.condition) then others otherwise) (IsElse declared held (arms_of arms) otherwise) old new
+    (λ b m. subst (λ x. IsElse declared held x otherwise b) (sym (arms_first arms a some is))
+    (else_if (subst (λ y. IsChoice declared held a.at (expression_of a.condition) y others otherwise b) same m))) h
+
+-- how long the list of a vector is
+pub long_as : (v : Vec code_core.Statement Global) → length v.items ≡ vec_len v
+long_as v = omega arith

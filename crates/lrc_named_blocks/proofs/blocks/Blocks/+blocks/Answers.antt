@@ -1,5 +1,5 @@
 -- Each statement has its rule.
-use Rattle.std.proofs.Common.{◌≡◌, ◌+◌, ◌*◌, ◌<◌, ◌≤◌, true, false, length, ap, sym, subst, arith, ◌∙◌}
+use Rattle.std.proofs.Common.{◌≡◌, ◌+◌, ◌-◌, ◌*◌, ◌<◌, ◌≤◌, true, false, length, take, drop, ap, sym, subst, arith, ◌∙◌}
 use Rattle.lrc_lang.specs.declared.program.Operator.TheVariants.{Add, Less}
 use Rattle.lrc_named_tree.specs.Tree as tree
 use Rattle.lrc_named_tree.specs.View as trees
@@ -225,15 +225,15 @@ with_lock-returns-then-named t c =
     let new = c.with_held.new.into.items in
     let first = c.place.new.taken in
     let is = c.truncate.ensures.items ∙ taken_back (λ b. IsAddress declared token item p.indices c.args.held b early first) old mid c.len-start.result
-    (sym c.len-start.ensures) c.in_ok-number.ensures in
+    (seen.long_as c.args.into.now ∙ sym c.len-start.ensures) c.in_ok-number.ensures in
     well (IsAdded (IsHeldWith declared c.args.held token p inside c.args.with.close) back new)
     (IsAdded (IsCore declared c.args.held (tree.with_do token p inside c.args.with.close)) old new) c.with_held.result
     (λ k. blocks.with_held_added declared c.args.held first token c.args.with.close p inside item early old mid back new c.lock_item-item.ensures
     (sym c.has_name-named.ensures ∙ c.if-named.true) is c.in_ok-number.ensures k)
     c.with_held.ensures
 
-pub with_lock-returns : goal.with_lock-returns
-with_lock-returns t c =
+pub with_lock-returns-else-named : goal.with_lock-returns-else-named
+with_lock-returns-else-named t c =
     let declared = declared_of c.args.self.now.names.now in
     let p = place_of c.args.with.place.now in
     let inside = trees.block_of c.args.with.inside.now in
@@ -317,15 +317,15 @@ count-returns-then-named t c =
     let back = c.truncate.new.self.items in
     let new = c.count_held.new.into.items in
     let is = c.truncate.ensures.items ∙ blocks.twice_back declared c.args.held c.expression.new.taken c.expression-2.new.taken token first end a b
-    old mid near c.len-start.result (sym c.len-start.ensures) c.in_ok-first.ensures c.in_ok-end.ensures in
+    old mid near c.len-start.result (seen.long_as c.args.into.now ∙ sym c.len-start.ensures) c.in_ok-first.ensures c.in_ok-end.ensures in
     well (IsAdded (IsHeldFor declared c.args.held token name first end inside) back new)
     (IsAdded (IsCore declared c.args.held (tree.for_do token name first end inside)) old new) c.count_held.result
     (λ k. blocks.for_held_added declared c.args.held c.expression.new.taken c.expression-2.new.taken token name first end inside a b old mid near back new
     (sym c.has_name-named.ensures ∙ c.if-named.true) is c.in_ok-first.ensures c.in_ok-end.ensures k)
     c.count_held.ensures
 
-pub count-returns : goal.count-returns
-count-returns t c =
+pub count-returns-else-named : goal.count-returns-else-named
+count-returns-else-named t c =
     let declared = declared_of c.args.self.now.names.now in
     let name = named_of c.args.count.name in
     let first = trees.expression_of c.args.count.first.now in
@@ -411,7 +411,18 @@ otherwise-returns-in-empty t c =
     let new = c.block.new.into.items in
     let block = trees.block_of c.args.otherwise.now in
     well (IsAdded (AreCores declared c.args.held block) old new) (IsAdded (IsElse declared c.args.held (arms_of c.args.arms.now) block) old new) c.block.result
-    (λ k. seen.else_empty declared c.args.held c.args.arms.now block old new c.in-empty.len_is k) c.block.ensures
+    (λ k. seen.else_empty declared c.args.held c.args.arms.now block old new c.in-empty.len_below k) c.block.ensures
 
 pub otherwise-returns-in-len1-up : goal.otherwise-returns-in-len1-up
-otherwise-returns-in-len1-up t c = ?
+otherwise-returns-in-len1-up t c =
+    let declared = declared_of c.args.self.now.names.now in
+    let old = c.args.into.now.items in
+    let new = c.choice.new.into.items in
+    let arms = c.args.arms.now in
+    let a = c.arm-item.result in
+    let then = trees.block_of c.deref.result.now in
+    let block = trees.block_of c.args.otherwise.now in
+    well (IsAdded (IsChoice declared c.args.held a.at (trees.expression_of a.condition) then (arms_of (take (length arms - 1) (drop 1 arms))) block) old new)
+    (IsAdded (IsElse declared c.args.held (arms_of arms) block) old new) c.choice.result
+    (λ k. seen.else_more declared c.args.held arms a then block old new c.in-len1-up.len_at_least c.arm-item.is (ap trees.block_of c.deref.ensures.value) k)
+    c.choice.ensures
