@@ -1,5 +1,5 @@
 -- Statements that come behind others.
-use Rattle.std.proofs.Common.{◌≡◌, ℕ, List, [], ◌∷◌, ◌++◌, refl, ap, sym, subst, ◌∙◌, append_assoc, append-nil}
+use Rattle.std.proofs.Common.{◌≡◌, List, [], ◌∷◌, ◌++◌, refl, ap, sym, subst, ◌∙◌, append_assoc, append-nil}
 use Rattle.lrc_named_core.specs.declared.tree.Statement.{Statement}
 use Rattle.lrc_named_core.specs.Tree.{Block, empty, next, only, behind}
 use Rattle.lrc_named_core.specs.View.{statement_of, block_of}

@@ -1,5 +1,5 @@
 -- Expressions and what stands behind them, as a loop comes to them.
-use Rattle.std.proofs.Common.{◌≡◌, ℕ, ◌+◌, ◌<◌, ◌≤◌, List, [], ◌∷◌, ◌++◌, map, length, get_or, take, min, refl, sym, ap, subst, arith, ◌∙◌, add-one}
+use Rattle.std.proofs.Common.{◌≡◌, ℕ, ◌+◌, ◌<◌, ◌≤◌, List, [], ◌∷◌, ◌++◌, map, length, get_or, take, refl, sym, ap, subst, arith, ◌∙◌, add-one}
 use Rattle.std.proofs.Math.Seq.{take-suc}
 use Rattle.lrc_named_tree.specs.declared.tree.Expression as code_expression
 use Rattle.lrc_named_tree.specs.Tree.{Named, Expressions, none, more}
@@ -8,8 +8,8 @@ use Rattle.lrc_named_tree.specs.View.{expressions_of}
 use Rattle.lrc_named_tree.specs.View as trees
 use Rattle.lrc_named_names.specs.Names.{Declared}
 use Rattle.lrc_named_constants.specs.declared.constancy.Constancy.{Constancy}
-use Rattle.lrc_named_constants.specs.Constant.{Known, AreConstancies, bound}
-use Rattle.lrc_named_constants.specs.Constant as constants
+use Rattle.lrc_named_constants.specs.Constant.{Known, bound}
+use Rattle.lrc_named_constants.specs.Well.{count}
 use Rattle.lrc_named_constants.proofs.Each.{with_last, expressions_of-push}
 use Rattle.lrc_named_core.specs.declared.tree.Expression as code_core
 use Rattle.lrc_named_core.specs.declared.tree.Statement as code_statement
@@ -67,22 +67,12 @@ made_step declared at known cores xs i x taken between after first old new all g
 
 -- ---- how many
 
-abbrev pub count : Expressions → ℕ
-count none = 0
-count (more e others) = 1 + count others
-
 pub count_made : (declared : List Declared) (at : Origin) (known : List Known) (cores : List Expression) (es : Expressions)
     (taken after : ℕ) (before : Block) (ps : List Expression) → AreMade declared at known cores es taken before ps after → length ps ≡ count es
 count_made declared at known cores es taken after before ps no_expression = refl
 count_made declared at known cores es taken after before ps
     (one_expression {others = others} {between = middle} {behind_it = two} {ps = qs} first rest) =
     let h = count_made declared at known cores others middle after two qs rest in omega (arith, h)
-
-pub count_known : (declared : List Declared) (known : List Known) (es : Expressions) (ws : List Constancy)
-    → AreConstancies declared known es ws → length ws ≡ count es
-count_known declared known es ws constants.no_expression = refl
-count_known declared known es ws (constants.one_expression {others = others} {ws = rest} first more_of) =
-    let h = count_known declared known others rest more_of in omega (arith, h)
 
 pub few_bound : (ps : List Named) (ws : List Constancy) → length (bound ps ws) ≤ length ws
 few_bound [] ws = omega arith

@@ -1,5 +1,5 @@
 -- How far an expression still has to be gone into.
-use Rattle.std.proofs.Common.{◌≡◌, ℕ, ◌+◌, ◌*◌, ◌<◌, ◌≤◌, List, Some, arith}
+use Rattle.std.proofs.Common.{◌≡◌, ℕ, ◌+◌, ◌*◌, ◌<◌, List, Some, arith}
 use Rattle.lrc_named_tree.specs.Tree.{Named, Expression}
 use Rattle.lrc_named_names.specs.Names.{Declared, function, meaning_at}
 use Rattle.lrc_named_constants.proofs.Measure.{size, bodies, body_within, deeper}

@@ -1,6 +1,6 @@
 -- What a parameter stands for.
 use Rattle.std.proofs.Common.{◌≡◌, ℕ, zero, suc, ◌<◌, ◌≤◌, List, [], ◌∷◌, map, length, refl, sym, ap, arith, ◌∙◌}
-use Rattle.std.specs.Prelude.{Option, Some, None, option_map, slice_get}
+use Rattle.std.specs.Prelude.{Some, None, option_map, slice_get}
 use Rattle.lrc_named_tree.specs.Tree.{Named, Expressions}
 use Rattle.lrc_named_tree.specs.Tree as tree
 use Rattle.lrc_named_names.specs.Names.{Declared}

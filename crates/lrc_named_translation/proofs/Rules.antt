@@ -1,7 +1,7 @@
 -- Each rule, with the statements that have come behind others.
-use Rattle.std.proofs.Common.{◌≡◌, ℕ, ◌+◌, true, false, Some, None, List, [], ◌∷◌, ◌++◌, refl, sym, ap, subst, ◌∙◌}
+use Rattle.std.proofs.Common.{◌≡◌, ℕ, ◌+◌, true, false, Some, None, List, [], ◌∷◌, ◌++◌, refl, sym, subst}
 use Rattle.lrc_lang.specs.declared.program.Operator.{Operator}
-use Rattle.lrc_lang.specs.declared.program.Operator.TheVariants.{Add, Multiply, Equal}
+use Rattle.lrc_lang.specs.declared.program.Operator.TheVariants.{Equal}
 use Rattle.lrc_named_tree.specs.Tree.{Named, Expressions}
 use Rattle.lrc_named_tree.specs.Tree as tree
 use Rattle.lrc_named_tree.specs.View as trees
@@ -16,16 +16,15 @@ use Rattle.lrc_named_core.specs.declared.tree.Private.TheVariants.{Own}
 use Rattle.lrc_named_core.specs.declared.tree.Origin as code_origin
 use Rattle.lrc_named_core.specs.declared.tree.Expression as code_core
 use Rattle.lrc_named_core.specs.View.{statement_of, block_of, expression_of, origin_of}
-use Rattle.lrc_named_core.specs.Tree.{Private, Expression, number, private, own, binary, Origin, read, assign, if_else, Block, empty, only, next, behind, has_division}
+use Rattle.lrc_named_core.specs.Tree.{Private, Expression, number, private, own, binary, Origin, read, Block, empty, only, behind}
 use Rattle.lrc_named_translation.specs.declared.parts.Kind.{Kind}
 use Rattle.lrc_named_translation.specs.declared.parts.Kind.TheVariants.{Both, Either}
 use Rattle.lrc_named_translation.specs.Added.{IsAdded}
 use Rattle.lrc_named_address.specs.Address.{address}
-use Rattle.lrc_named_translation.specs.Made.{IsMade, IsByRule, AreMade, HasNoValue, is_plain, holding, truth, using_item}
+use Rattle.lrc_named_translation.specs.Made.{IsMade, IsByRule, AreMade, HasNoValue, is_plain, holding, using_item}
 use Rattle.lrc_named_translation.specs.Made.{a_value, by_rule, a_shared_item, a_call, parentheses, a_negation, a_binary, both_at_once, both_in_turn, either_at_once, either_in_turn}
 use Rattle.lrc_named_translation.specs.Turn.{joined_by, at_once, in_turn}
 use Rattle.lrc_named_translation.proofs.Adding.{added_none, added_as, added_then, added_one}
-use Rattle.lrc_named_translation.proofs.Making.{behind_empty}
 
 pub rule_alone : (declared : List Declared) (at : Origin) (known : List Known) (cores : List Expression) (e : tree.Expression) (taken : ℕ) (p : Expression)
     (old : List Statement) → IsByRule declared at known cores e taken empty p taken

@@ -1,5 +1,5 @@
 -- What an expression is in the core is determined.
-use Rattle.std.proofs.Common.{◌≡◌, ℕ, ◌+◌, true, false, Some, None, List, [], ◌∷◌, refl, sym, ap, subst}
+use Rattle.std.proofs.Common.{◌≡◌, ℕ, ◌+◌, true, false, Some, None, List, refl, sym, subst}
 use Rattle.std.specs.Prelude.{Option}
 use Rattle.lrc_named_tree.specs.Tree.{Named, Expressions}
 use Rattle.lrc_named_tree.specs.Tree as tree

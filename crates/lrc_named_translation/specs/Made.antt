@@ -1,7 +1,7 @@
 -- The core of expressions. `IsMade declared at known cores e taken before p after` says: in the core, where the statement that is
 -- translated has taken so many names of its own, the expression e is the statements `before` and then the expression p, and then so
 -- many names are taken. In the body of a function the parameters stand for `cores`, and `known` is known of them.
-use Rattle.std.specs.Prelude.{◌≡◌, ◌+◌, ℕ, suc, Bool, true, false, not, Option, Some, None, List, [], ◌∷◌, slice_get, ◌⊎◌}
+use Rattle.std.specs.Prelude.{◌≡◌, ◌+◌, ℕ, Bool, true, false, not, Option, Some, None, List, [], ◌∷◌, slice_get}
 use Rattle.lrc_lang.specs.declared.program.Operator.{Operator}
 use Rattle.lrc_lang.specs.declared.program.Operator.TheVariants.{Add, Multiply, Equal, NotEqual}
 use Rattle.lrc_named_tree.specs.Tree.{Named, Expressions}

@@ -1,5 +1,5 @@
 -- What a name without arguments is that is no parameter.
-use Rattle.std.specs.Prelude.{◌≡◌, ℕ, Option, Some, None}
+use Rattle.std.specs.Prelude.{◌≡◌, Option, Some, None}
 use Rattle.lrc_named_names.specs.Names.{Meaning, constant, shared, lock, function}
 use Rattle.lrc_named_translation.specs.declared.meanings.NameKind.{NameKind}
 use Rattle.lrc_named_translation.specs.declared.meanings.NameKind.TheVariants.{Private, Constant, Shared}

@@ -1,5 +1,4 @@
 -- `and` and `or`, at once and in turn.
-use Rattle.std.specs.Prelude.{ℕ}
 use Rattle.lrc_lang.specs.declared.program.Operator.TheVariants.{Add, Multiply, Equal}
 use Rattle.lrc_named_tree.specs.Tree as tree
 use Rattle.lrc_named_tree.specs.View.{named_of, expression_of, expressions_of}

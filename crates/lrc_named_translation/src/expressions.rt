@@ -3,11 +3,11 @@
 ghost use Rattle.std.specs.Prelude.{◌≡◌, ◌≤◌, ◌<◌, ℕ, None, IfOk, length, map};
 ghost use Rattle.lrc_named_tree.specs.Tree.{call as the_call};
 ghost use Rattle.lrc_named_tree.specs.View.{named_of, expression_of as tree_of, expressions_of as trees_of};
-ghost use Rattle.lrc_named_names.specs.Names.{IsFunction, meaning_of, place_of};
+ghost use Rattle.lrc_named_names.specs.Names.{meaning_of, place_of};
 ghost use Rattle.lrc_named_names.specs.View.{declared_of};
-ghost use Rattle.lrc_named_constants.specs.Constant.{known_as};
+ghost use Rattle.lrc_named_constants.specs.Constant.{known_as, names_of};
 ghost use Rattle.lrc_named_constants.specs.View.{known_of};
-ghost use Rattle.lrc_named_constants.specs.Well.{AreWell, HasValue, IsSound, IsWell};
+ghost use Rattle.lrc_named_constants.specs.Well.{AreWell, IsSound, IsWell, Takes, ValueUnless, count, is_among};
 ghost use Rattle.lrc_named_core.specs.View.{expression_of, origin_of};
 ghost use Rattle.lrc_named_translation.specs.Added.{IsAdded};
 ghost use Rattle.lrc_named_translation.specs.Meanings.{IsShared};
@@ -59,7 +59,8 @@ impl<'n, 'p> Translator<'n, 'p> {
         before: &mut Vec<Statement<'p>>,
     ) -> Result<Core<'p>, AllocError>
         requires table { IsSound (declared_of self.now.names.now) }
-        requires well { IsWell (declared_of self.now.names.now) below (tree_of expression.now) }
+        requires well { IsWell (declared_of self.now.names.now) (names_of (map known_of with.known.now))
+            below (tree_of expression.now) }
         requires whole { length with.known.now ≤ length with.cores.now }
         ensures { IfOk result (λ p. IsAdded (λ b. IsMade (declared_of self.now.names.now)
             (origin_of self.now.origin) (map known_of with.entry.known.now)
@@ -91,7 +92,8 @@ impl<'n, 'p> Translator<'n, 'p> {
         before: &mut Vec<Statement<'p>>,
     ) -> Result<Core<'p>, AllocError>
         requires table { IsSound (declared_of self.now.names.now) }
-        requires well { IsWell (declared_of self.now.names.now) below (tree_of expression.now) }
+        requires well { IsWell (declared_of self.now.names.now) (names_of (map known_of with.known.now))
+            below (tree_of expression.now) }
         requires whole { length with.known.now ≤ length with.cores.now }
         ensures { IfOk result (λ p. IsAdded (λ b. IsByRule (declared_of self.now.names.now)
             (origin_of self.now.origin) (map known_of with.entry.known.now)
@@ -162,10 +164,11 @@ impl<'n, 'p> Translator<'n, 'p> {
         before: &mut Vec<Statement<'p>>,
     ) -> Result<Core<'p>, AllocError>
         requires table { IsSound (declared_of self.now.names.now) }
-        requires name { HasValue (meaning_of (declared_of self.now.names.now)
-            element.name.bytes.now) }
-        requires well { AreWell (declared_of self.now.names.now) below
-            (trees_of element.indices.now) }
+        requires name { ValueUnless
+            (is_among (names_of (map known_of with.known.now)) element.name.bytes.now)
+            (meaning_of (declared_of self.now.names.now) element.name.bytes.now) }
+        requires well { AreWell (declared_of self.now.names.now) (names_of (map known_of with.known.now))
+            below (trees_of element.indices.now) }
         requires whole { length with.known.now ≤ length with.cores.now }
         ensures { IfOk result (λ p. IsAdded (λ b. IsByRule (declared_of self.now.names.now)
             (origin_of self.now.origin) (map known_of with.entry.known.now)
@@ -198,8 +201,8 @@ impl<'n, 'p> Translator<'n, 'p> {
         before: &mut Vec<Statement<'p>>,
     ) -> Result<Core<'p>, AllocError>
         requires table { IsSound (declared_of self.now.names.now) }
-        requires well { AreWell (declared_of self.now.names.now) below
-            (trees_of element.indices.now) }
+        requires well { AreWell (declared_of self.now.names.now) (names_of (map known_of with.known.now))
+            below (trees_of element.indices.now) }
         requires whole { length with.known.now ≤ length with.cores.now }
         requires unknown { known_as (map known_of with.known.now) element.name.bytes.now ≡ None }
         requires shared { IsShared (meaning_of (declared_of self.now.names.now)
@@ -233,9 +236,10 @@ impl<'n, 'p> Translator<'n, 'p> {
     ) -> Result<Core<'p>, AllocError>
         requires table { IsSound (declared_of self.now.names.now) }
         requires before { place_of (declared_of self.now.names.now) name.bytes.now < below }
-        requires function { IsFunction (meaning_of (declared_of self.now.names.now)
-            name.bytes.now) }
-        requires well { AreWell (declared_of self.now.names.now) below (trees_of arguments.now) }
+        requires function { Takes (meaning_of (declared_of self.now.names.now) name.bytes.now)
+            (count (trees_of arguments.now)) }
+        requires well { AreWell (declared_of self.now.names.now) (names_of (map known_of with.known.now))
+            below (trees_of arguments.now) }
         requires whole { length with.known.now ≤ length with.cores.now }
         ensures { IfOk result (λ p. IsAdded (λ b. (close : ℕ) →
             IsByRule (declared_of self.now.names.now) (origin_of self.now.origin)
@@ -271,7 +275,8 @@ impl<'n, 'p> Translator<'n, 'p> {
         before: &mut Vec<Statement<'p>>,
     ) -> Result<Vec<Core<'p>>, AllocError>
         requires table { IsSound (declared_of self.now.names.now) }
-        requires well { AreWell (declared_of self.now.names.now) below (trees_of expressions.now) }
+        requires well { AreWell (declared_of self.now.names.now) (names_of (map known_of with.known.now))
+            below (trees_of expressions.now) }
         requires whole { length with.known.now ≤ length with.cores.now }
         ensures { IfOk result (λ ps. IsAdded (λ b. AreMade (declared_of self.now.names.now)
             (origin_of self.now.origin) (map known_of with.entry.known.now)
@@ -297,9 +302,10 @@ impl<'n, 'p> Translator<'n, 'p> {
         before: &mut Vec<Statement<'p>>,
     ) -> Result<Core<'p>, AllocError>
         requires table { IsSound (declared_of self.now.names.now) }
-        requires left { IsWell (declared_of self.now.names.now) below (tree_of junction.left.now) }
-        requires right { IsWell (declared_of self.now.names.now) below
-            (tree_of junction.right.now) }
+        requires left { IsWell (declared_of self.now.names.now) (names_of (map known_of with.known.now))
+            below (tree_of junction.left.now) }
+        requires right { IsWell (declared_of self.now.names.now) (names_of (map known_of with.known.now))
+            below (tree_of junction.right.now) }
         requires whole { length with.known.now ≤ length with.cores.now }
         ensures { IfOk result (λ p. IsAdded (λ b. IsByRule (declared_of self.now.names.now)
             (origin_of self.now.origin) (map known_of with.entry.known.now)

@@ -1,27 +1,28 @@
 -- Each form of an expression has a rule.
-use Rattle.std.proofs.Common.{◌≡◌, ◌<◌, ◌+◌, ◌*◌, true, false, map, length, sym, ap, subst, arith, ◌∙◌}
+use Rattle.std.proofs.Common.{◌≡◌, ◌<◌, ◌+◌, ◌*◌, true, false, Some, map, length, sym, ap, subst, arith, ◌∙◌}
 use Rattle.std.proofs.lemmas.List.{length-map}
 use Rattle.lrc_named_tree.specs.Tree.{Expressions}
 use Rattle.lrc_named_tree.specs.Tree as tree
 use Rattle.lrc_named_tree.specs.View.{named_of, expressions_of, row_of}
 use Rattle.lrc_named_tree.specs.View as trees
 use Rattle.lrc_named_tree.specs.declared.tree.Expression.TheBlock.{hidden-the_row-Expression-0}
-use Rattle.lrc_named_names.specs.Names.{meaning_at}
+use Rattle.lrc_named_names.specs.Names.{IsFunction, function, meaning_at, meaning_of}
 use Rattle.lrc_named_names.specs.View.{declared_of, item_of}
 use Rattle.lrc_named_address.specs.Address.{address}
 use Rattle.lrc_named_constants.specs.View.{known_of}
-use Rattle.lrc_named_constants.specs.Constant.{IsConstancy, bound}
-use Rattle.lrc_named_constants.specs.Well.{IsWell, AreWell}
+use Rattle.lrc_named_constants.specs.Constant.{IsConstancy, bound, names_of}
+use Rattle.lrc_named_constants.specs.Well.{IsWell, AreWell, Takes, ValueUnless, bytes_of, count}
+use Rattle.lrc_named_constants.proofs.Among.{function_takes, length_of_constancies, names_of-bound, takes_all, unknown_is_among_none}
 use Rattle.lrc_named_constants.proofs.Each.{smaller_at, well_at}
 use Rattle.lrc_named_constants.proofs.Measure.{size, sizes}
 use Rattle.lrc_named_constants.proofs.Rows.{row_of_hidden}
 use Rattle.lrc_named_core.specs.View.{block_of, expression_of, origin_of, private_of}
 use Rattle.lrc_named_core.specs.Tree.{number, private, me, nodes, empty}
 use Rattle.lrc_named_translation.specs.Added.{IsAdded}
-use Rattle.lrc_named_translation.specs.Made.{IsMade, IsByRule, AreMade, a_number, a_constant, a_private_name, the_node, node_count, holding, is_plain, using_item}
+use Rattle.lrc_named_translation.specs.Made.{IsMade, IsByRule, a_number, a_constant, a_private_name, the_node, node_count, holding, is_plain, using_item}
 use Rattle.lrc_named_translation.specs.Turn.{joined_by}
-use Rattle.lrc_named_translation.proofs.Measure.{weight, lighter}
-use Rattle.lrc_named_translation.proofs.Making.{made_none, made_step, count_added, count_known, few_bound}
+use Rattle.lrc_named_translation.proofs.Measure.{lighter}
+use Rattle.lrc_named_translation.proofs.Making.{made_none, made_step, count_added, few_bound}
 use Rattle.lrc_named_translation.proofs.Parameters.{no_parameter, rule_parameter}
 use Rattle.lrc_named_translation.proofs.Rules.{rule_alone, rule_group, rule_not, rule_binary, rule_call, rule_read, rule_as, rule_as_call, made_by_rule, made_value, none_valued, read_is, right_as, rule_once, rule_turned, turned_as, both_same, either_same}
 use Rattle.lrc_named_translation.proofs.expressions.Translator.+made.Goals as goal
@@ -42,13 +43,14 @@ all_made-loop-expression-init t c =
 pub all_made-made-requires : goal.all_made-made-requires
 all_made-made-requires t c =
     let declared = declared_of c.args.self.now.names.now in
+    let parameters = names_of (map known_of c.args.with.known.now) in
     let xs = c.args.expressions.now in
     let x = c.expression-item.result in
     let i = c.loop-expression.expression-index in
     let h : size (trees.expression_of x) < sizes (expressions_of xs) =
     subst (λ y. size (trees.expression_of y) < sizes (expressions_of xs)) (sym c.expression-item.is) (smaller_at xs i x c.loop-expression-test.true) in
-    let w : IsWell declared c.args.below (trees.expression_of x) =
-    subst (λ y. IsWell declared c.args.below (trees.expression_of y)) (sym c.expression-item.is) (well_at declared c.args.below xs i x c.loop-expression-test.true c.requires.well) in
+    let w : IsWell declared parameters c.args.below (trees.expression_of x) =
+    subst (λ y. IsWell declared parameters c.args.below (trees.expression_of y)) (sym c.expression-item.is) (well_at declared parameters c.args.below xs i x c.loop-expression-test.true c.requires.well) in
     (omega (arith, h), (c.requires.table, (w, c.requires.whole)))
 
 pub by_rule-returns-in-Number : goal.by_rule-returns-in-Number
@@ -179,6 +181,11 @@ call-returns t c =
     (subst (λ l. IsAdded (λ b. IsMade declared (origin_of c.args.self.now.origin) (map known_of c.deref-2.result.now) (map expression_of l) body between b q after) mid new)
     c.deref-3.ensures.value c.in_ok-p.ensures)
 
+pub call-function-requires : goal.call-function-requires
+call-function-requires t c =
+    let declared = declared_of c.args.self.now.names.now in
+    subst (λ n. IsFunction (meaning_at declared n)) (sym c.place-place.ensures) (function_takes _ _ c.requires.function)
+
 pub call-made-requires : goal.call-made-requires
 call-made-requires t c =
     let declared = declared_of c.args.self.now.names.now in
@@ -188,14 +195,20 @@ call-made-requires t c =
     ap (λ l. map known_of l) c.deref-2.ensures.value ∙ c.in_ok-known.ensures ∙ ap (λ l. bound parameters l) c.deref.ensures.value in
     let before : place < c.args.below = omega (arith, c.place-place.ensures, c.requires.before) in
     let d = lighter declared place c.args.below (6 * sizes (expressions_of c.args.arguments.now)) _ _ c.function.ensures before in
-    let n = count_known declared _ _ _ c.in_ok-constancies.ensures in
+    let n = length_of_constancies c.in_ok-constancies.ensures in
     let m = count_added declared _ _ _ _ _ _ _ _ _ c.in_ok-cores.ensures in
     let f = few_bound parameters c.in_ok-constancies.constancies.items in
     let l : length c.deref-2.result.now ≡ length (map known_of c.deref-2.result.now) = sym (length-map c.deref-2.result.now known_of) in
     let k : length c.deref-3.result.now ≡ length (map expression_of c.in_ok-cores.cores.items) =
     ap length c.deref-3.ensures.value ∙ sym (length-map c.in_ok-cores.cores.items expression_of) in
     let i = ap length inner in
-    (omega (arith, d), (c.requires.table, (c.requires.table place _ _ c.function.ensures, omega (arith, n, m, f, l, k, i))))
+    let means : meaning_of declared c.args.name.bytes.now ≡ Some (function parameters (trees.expression_of c.function.result.1.now)) =
+    ap (λ n. meaning_at declared n) (sym c.place-place.ensures) ∙ c.function.ensures in
+    let all : length c.in_ok-constancies.constancies.items ≡ length parameters = n ∙ takes_all _ _ _ _ c.requires.function means in
+    let names : names_of (map known_of c.deref-2.result.now) ≡ bytes_of parameters =
+    ap names_of inner ∙ names_of-bound parameters c.in_ok-constancies.constancies.items all in
+    let well = subst (λ l. IsWell declared l place (trees.expression_of c.function.result.1.now)) (sym names) (c.requires.table place _ _ c.function.ensures) in
+    (omega (arith, d), (c.requires.table, (well, omega (arith, n, m, f, l, k, i))))
 
 pub by_rule-returns-in_ok-p-in-And : goal.by_rule-returns-in_ok-p-in-And
 by_rule-returns-in_ok-p-in-And t c =
@@ -292,22 +305,33 @@ junction-returns t c =
 pub by_rule-element-requires : goal.by_rule-element-requires
 by_rule-element-requires t c =
     let declared = declared_of c.args.self.now.names.now in
+    let parameters = names_of (map known_of c.args.with.known.now) in
     let es = expressions_of c.deref.result.now in
     let e : row_of (hidden-the_row-Expression-0 c.in-Element.indices) ≡ es = row_of_hidden c.in-Element.indices ∙ ap expressions_of (sym c.deref.ensures.value) in
-    let well = subst (λ x. IsWell declared c.args.below (trees.expression_of x)) c.in-Element.is c.requires.well in
-    let w : AreWell declared c.args.below es = subst (λ l. AreWell declared c.args.below l) e well.1 in
+    let well = subst (λ x. IsWell declared parameters c.args.below (trees.expression_of x)) c.in-Element.is c.requires.well in
+    let w : AreWell declared parameters c.args.below es = subst (λ l. AreWell declared parameters c.args.below l) e well.1 in
     let m : size (trees.expression_of c.args.expression.now) ≡ 1 + sizes es = ap (λ x. size (trees.expression_of x)) c.in-Element.is ∙ ap (λ l. 1 + sizes l) e in
     (omega (arith, m), (c.requires.table, (well.0, (w, c.requires.whole))))
 
 pub by_rule-call-requires : goal.by_rule-call-requires
 by_rule-call-requires t c =
     let declared = declared_of c.args.self.now.names.now in
+    let parameters = names_of (map known_of c.args.with.known.now) in
     let es = expressions_of c.deref-in-Call.result.now in
     let e : row_of (hidden-the_row-Expression-0 c.in-Call.arguments) ≡ es = row_of_hidden c.in-Call.arguments ∙ ap expressions_of (sym c.deref-in-Call.ensures.value) in
-    let well = subst (λ x. IsWell declared c.args.below (trees.expression_of x)) c.in-Call.is c.requires.well in
-    let w : AreWell declared c.args.below es = subst (λ l. AreWell declared c.args.below l) e well.2 in
+    let well = subst (λ x. IsWell declared parameters c.args.below (trees.expression_of x)) c.in-Call.is c.requires.well in
+    let w : AreWell declared parameters c.args.below es = subst (λ l. AreWell declared parameters c.args.below l) e well.2 in
     let m : size (trees.expression_of c.args.expression.now) ≡ 2 + sizes es = ap (λ x. size (trees.expression_of x)) c.in-Call.is ∙ ap (λ l. 2 + sizes l) e in
-    (omega (arith, m), (c.requires.table, (well.0, (well.1, (w, c.requires.whole)))))
+    let n : Takes (meaning_of declared c.in-Call.name.bytes.now) (count es) =
+    subst (λ l. Takes (meaning_of declared c.in-Call.name.bytes.now) (count l)) e well.1 in
+    (omega (arith, m), (c.requires.table, (well.0, (n, (w, c.requires.whole)))))
+
+pub element-kind_of-requires : goal.element-kind_of-requires
+element-kind_of-requires t c =
+    let name = c.args.element.name.bytes.now in
+    let known = map known_of c.args.with.known.now in
+    let unknown = no_parameter c.args.with.known.now name c.parameter_place-place.result c.parameter_place-place.ensures c.if-place-with.false in
+    subst (λ b. ValueUnless b (meaning_of (declared_of c.args.self.now.names.now) name)) (unknown_is_among_none known name unknown) c.requires.name
 
 pub element-returns-then-place-with : goal.element-returns-then-place-with
 element-returns-then-place-with t c =
