@@ -1,5 +1,5 @@
 -- Statements that come behind others by a rule.
-use Rattle.std.proofs.Common.{◌≡◌, ℕ, ◌+◌, ◌<◌, Some, List, [], ◌∷◌, ◌++◌, length, get_or, take, append_assoc, refl, sym, ap, subst, ◌∙◌, add-one, true, false}
+use Rattle.std.proofs.Common.{◌≡◌, ℕ, ◌+◌, ◌<◌, Some, List, [], ◌∷◌, ◌++◌, length, get_or, take, append_assoc, sym, ap, subst, ◌∙◌, add-one, true, false}
 use Rattle.std.proofs.Math.Seq.{take-suc}
 use Rattle.lrc_named_tree.specs.Tree.{Expressions, Place, none, more}
 use Rattle.lrc_named_tree.specs.Tree as tree
@@ -9,11 +9,11 @@ use Rattle.lrc_named_tree.specs.View as trees
 use Rattle.lrc_named_names.specs.Names.{Item, Meaning, Declared, meaning_of}
 use Rattle.lrc_named_constants.proofs.Each.{with_last, expressions_of-push}
 use Rattle.lrc_named_core.specs.declared.tree.Statement.{Statement}
-use Rattle.lrc_named_core.specs.View.{statement_of, block_of}
-use Rattle.lrc_named_core.specs.Tree.{Expression, private, Origin, assign, acquire, release, print, Block, empty, only, next, behind, has_division}
+use Rattle.lrc_named_core.specs.View.{statement_of}
+use Rattle.lrc_named_core.specs.Tree.{Expression, private, Origin, assign, acquire, release, print, Block, only, next, behind, has_division}
 use Rattle.lrc_named_translation.specs.Added.{IsAdded}
 use Rattle.lrc_named_address.specs.Address.{address}
-use Rattle.lrc_named_translation.specs.Made.{IsMade, AreMade, holding}
+use Rattle.lrc_named_translation.specs.Made.{AreMade, holding}
 use Rattle.lrc_named_translation.proofs.Adding.{added_none, added_as, added_then, added_one}
 use Rattle.lrc_named_translation.proofs.Making.{behind_behind}
 use Rattle.lrc_named_statements.specs.Statements.{IsCore, IsAddress, IsMadeAt, ArePrinted, an_address, acquired, released, asserted, asserted_after, none_printed, one_printed}

@@ -1,9 +1,9 @@
 -- What is known of statements in which names are used as what they are.
 use Rattle.std.proofs.Common.{◌≡◌, ℕ, true, false, Some, None, List, refl, ap}
 use Rattle.std.specs.Prelude.{Option, ◌≢◌}
-use Rattle.lrc_named_tree.specs.Tree.{Named, Expression, Expressions, Update, number, me, nodes, element, call, group, negation, binary, both, either, none, more, set, add, subtract}
+use Rattle.lrc_named_tree.specs.Tree.{Expression, Expressions, Update, number, me, nodes, element, call, group, negation, binary, both, either, none, more, set, add, subtract}
 use Rattle.lrc_named_names.specs.Names.{Item, Meaning, constant, shared, lock, function, Declared}
-use Rattle.lrc_named_constants.specs.Well.{IsWell, AreWell}
+use Rattle.lrc_named_constants.specs.Well.{IsWell}
 use Rattle.lrc_named_translation.specs.Made.{bare}
 use Rattle.lrc_named_translation.specs.Meanings.{IsShared}
 use Rattle.lrc_named_statements.specs.Statements.{operator_of}
@@ -33,14 +33,15 @@ plain_set set is = refl
 plain_set add is = absurd (cc)
 plain_set subtract is = absurd (cc)
 
-pub bare_well : (declared : List Declared) (below : ℕ) (e : Expression) → IsWell declared below e → IsWell declared below (bare e)
-bare_well declared below (number at n) well = well
-bare_well declared below (me at) well = well
-bare_well declared below (nodes at) well = well
-bare_well declared below (element name indices last) well = well
-bare_well declared below (call name arguments close) well = well
-bare_well declared below (group opens e close) well = bare_well declared below e well
-bare_well declared below (negation at e) well = well
-bare_well declared below (binary left o right) well = well
-bare_well declared below (both left right) well = well
-bare_well declared below (either left right) well = well
+pub bare_well : (declared : List Declared) (parameters : List (List ℕ)) (below : ℕ) (e : Expression)
+    → IsWell declared parameters below e → IsWell declared parameters below (bare e)
+bare_well declared parameters below (number at n) well = well
+bare_well declared parameters below (me at) well = well
+bare_well declared parameters below (nodes at) well = well
+bare_well declared parameters below (element name indices last) well = well
+bare_well declared parameters below (call name arguments close) well = well
+bare_well declared parameters below (group opens e close) well = bare_well declared parameters below e well
+bare_well declared parameters below (negation at e) well = well
+bare_well declared parameters below (binary left o right) well = well
+bare_well declared parameters below (both left right) well = well
+bare_well declared parameters below (either left right) well = well

@@ -1,13 +1,13 @@
 -- The core of statements. `IsCore declared held s core` says: where the statements around s hold so many names of the translation's
 -- own, these are the core statements of the statement s.
-use Rattle.std.specs.Prelude.{◌≡◌, ◌≢◌, ℕ, ◌+◌, Bool, true, false, Option, Some, None, List, [], ◌∷◌}
+use Rattle.std.specs.Prelude.{◌≡◌, ◌≢◌, ℕ, ◌+◌, true, false, Option, Some, None, List, []}
 use Rattle.lrc_lang.specs.declared.program.Operator.{Operator}
 use Rattle.lrc_lang.specs.declared.program.Operator.TheVariants.{Add, Subtract, Divide, Less}
 use Rattle.lrc_named_tree.specs.Tree.{Named, Expressions, Place, Update, set, add, subtract, Arms}
 use Rattle.lrc_named_tree.specs.Tree as tree
 use Rattle.lrc_named_tree.specs.Ends.{last_of}
 use Rattle.lrc_named_names.specs.Names.{Item, Meaning, Declared, meaning_of}
-use Rattle.lrc_named_core.specs.Tree.{Private, named, own, Expression, number, private, binary, Trap, plain, assertion, Origin, Statement, Block}
+use Rattle.lrc_named_core.specs.Tree.{Private, named, own, Expression, number, private, binary, plain, assertion, Origin, Block}
 use Rattle.lrc_named_core.specs.Tree.{assign, read, write, acquire, release, barrier, print, if_else, while_do, empty, next, only, behind, has_division, has_name}
 use Rattle.lrc_named_address.specs.Address.{address}
 use Rattle.lrc_named_translation.specs.Made.{IsMade, AreMade, bare, holding, using_item, truth}

@@ -1,6 +1,6 @@
 // The core of statements that set a place.
 
-ghost use Rattle.std.specs.Prelude.{◌≡◌, Some, OnOk, length};
+ghost use Rattle.std.specs.Prelude.{◌≡◌, Some, OnOk, [], length};
 ghost use Rattle.lrc_named_tree.specs.Tree.{Expression as Tree, Update as Change, assign as an_assign, set as to_set};
 ghost use Rattle.lrc_named_tree.specs.View.{expression_of as tree_of, expressions_of as trees_of, place_of, update_of};
 ghost use Rattle.lrc_named_names.specs.Names.{meaning_of};
@@ -39,9 +39,9 @@ impl<'n, 'p> Statements<'n, 'p> {
         requires place { IsSettable
             (meaning_of (declared_of self.now.names.now) place.now.name.bytes.now)
             (place_of place.now).indices }
-        requires indices { AreWell (declared_of self.now.names.now)
+        requires indices { AreWell (declared_of self.now.names.now) []
             (length (declared_of self.now.names.now)) (place_of place.now).indices }
-        requires well { IsWell (declared_of self.now.names.now)
+        requires well { IsWell (declared_of self.now.names.now) []
             (length (declared_of self.now.names.now)) (tree_of value.now) }
         ensures { OnOk result (IsAdded (IsCore (declared_of self.now.names.now) held
             (an_assign (place_of place.now) (update_of update) (tree_of value.now)))
@@ -77,9 +77,9 @@ impl<'n, 'p> Statements<'n, 'p> {
         requires table { IsSound (declared_of self.now.names.now) }
         requires shared { IsShared
             (meaning_of (declared_of self.now.names.now) place.now.name.bytes.now) }
-        requires indices { AreWell (declared_of self.now.names.now)
+        requires indices { AreWell (declared_of self.now.names.now) []
             (length (declared_of self.now.names.now)) (place_of place.now).indices }
-        requires well { IsWell (declared_of self.now.names.now)
+        requires well { IsWell (declared_of self.now.names.now) []
             (length (declared_of self.now.names.now)) (tree_of value.now) }
         ensures { OnOk result (IsAdded (IsCore (declared_of self.now.names.now) held
             (an_assign (place_of place.now) to_set (tree_of value.now)))
@@ -106,9 +106,9 @@ impl<'n, 'p> Statements<'n, 'p> {
         requires table { IsSound (declared_of self.now.names.now) }
         requires shared { IsShared
             (meaning_of (declared_of self.now.names.now) place.now.name.bytes.now) }
-        requires indices { AreWell (declared_of self.now.names.now)
+        requires indices { AreWell (declared_of self.now.names.now) []
             (length (declared_of self.now.names.now)) (place_of place.now).indices }
-        requires well { IsWell (declared_of self.now.names.now)
+        requires well { IsWell (declared_of self.now.names.now) []
             (length (declared_of self.now.names.now)) (tree_of value.now) }
         ensures { OnOk result (IsAdded (λ b. (update : Change) →
             operator_of update ≡ Some operator → IsCore (declared_of self.now.names.now) held
@@ -140,7 +140,7 @@ impl<'n, 'p> Statements<'n, 'p> {
     ) -> Result<(), AllocError>
         requires table { IsSound (declared_of self.now.names.now) }
         requires private { IsPrivate (declared_of self.now.names.now) (place_of place.now) }
-        requires well { IsWell (declared_of self.now.names.now)
+        requires well { IsWell (declared_of self.now.names.now) []
             (length (declared_of self.now.names.now)) (tree_of value.now) }
         ensures { OnOk result (IsAdded (λ b. (update : Change) →
             operator_of update ≡ Some operator → IsCore (declared_of self.now.names.now) held
@@ -166,7 +166,7 @@ impl<'n, 'p> Statements<'n, 'p> {
     ) -> Result<(), AllocError>
         requires table { IsSound (declared_of self.now.names.now) }
         requires private { IsPrivate (declared_of self.now.names.now) (place_of place.now) }
-        requires well { IsWell (declared_of self.now.names.now)
+        requires well { IsWell (declared_of self.now.names.now) []
             (length (declared_of self.now.names.now)) (tree_of value.now) }
         ensures { OnOk result (IsAdded (IsCore (declared_of self.now.names.now) held
             (an_assign (place_of place.now) to_set (tree_of value.now)))
@@ -190,7 +190,7 @@ impl<'n, 'p> Statements<'n, 'p> {
         requires private { IsPrivate (declared_of self.now.names.now) (place_of place.now) }
         requires shared { IsShared
             (meaning_of (declared_of self.now.names.now) element.name.bytes.now) }
-        requires well { AreWell (declared_of self.now.names.now)
+        requires well { AreWell (declared_of self.now.names.now) []
             (length (declared_of self.now.names.now)) (trees_of element.indices.now) }
         ensures { OnOk result (IsAdded (λ b. (value : Tree) →
             bare value ≡ element_of element.entry → IsCore (declared_of self.now.names.now) held
@@ -217,7 +217,7 @@ impl<'n, 'p> Statements<'n, 'p> {
         requires table { IsSound (declared_of self.now.names.now) }
         requires private { IsPrivate (declared_of self.now.names.now) (place_of place.now) }
         requires alone { IsNoItem (declared_of self.now.names.now) (bare (tree_of value.now)) }
-        requires well { IsWell (declared_of self.now.names.now)
+        requires well { IsWell (declared_of self.now.names.now) []
             (length (declared_of self.now.names.now)) (tree_of value.now) }
         ensures { OnOk result (IsAdded (IsCore (declared_of self.now.names.now) held
             (an_assign (place_of place.now) to_set (tree_of value.now)))

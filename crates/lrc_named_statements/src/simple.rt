@@ -1,6 +1,6 @@
 // The core of statements that set nothing and have no statements within.
 
-ghost use Rattle.std.specs.Prelude.{◌≡◌, OnOk, length};
+ghost use Rattle.std.specs.Prelude.{◌≡◌, OnOk, [], length};
 ghost use Rattle.lrc_named_tree.specs.Tree.{acquire as an_acquire, release as a_release, assert as an_assert};
 ghost use Rattle.lrc_named_tree.specs.View.{expression_of as tree_of, expressions_of as trees_of, place_of};
 ghost use Rattle.lrc_named_names.specs.View.{declared_of};
@@ -71,7 +71,7 @@ impl<'n, 'p> Statements<'n, 'p> {
         into: &mut Vec<Statement<'p>>,
     ) -> Result<(), AllocError>
         requires table { IsSound (declared_of self.now.names.now) }
-        requires well { AreWell (declared_of self.now.names.now)
+        requires well { AreWell (declared_of self.now.names.now) []
             (length (declared_of self.now.names.now)) (trees_of values.now) }
         ensures { OnOk result (IsAdded (ArePrinted (declared_of self.now.names.now) held token
             (trees_of values.now)) into.old.items into.new.items) }
@@ -94,7 +94,7 @@ impl<'n, 'p> Statements<'n, 'p> {
         into: &mut Vec<Statement<'p>>,
     ) -> Result<(), AllocError>
         requires table { IsSound (declared_of self.now.names.now) }
-        requires well { IsWell (declared_of self.now.names.now)
+        requires well { IsWell (declared_of self.now.names.now) []
             (length (declared_of self.now.names.now)) (tree_of condition.now) }
         ensures { OnOk result (IsAdded (IsCore (declared_of self.now.names.now) held
             (an_assert token (tree_of condition.now))) into.old.items into.new.items) }

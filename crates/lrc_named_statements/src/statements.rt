@@ -1,6 +1,6 @@
 // The core of the parts of statements.
 
-ghost use Rattle.std.specs.Prelude.{◌≡◌, Some, IfOk, MatchOption, length};
+ghost use Rattle.std.specs.Prelude.{◌≡◌, Some, IfOk, MatchOption, [], length};
 ghost use Rattle.lrc_named_tree.specs.View.{expression_of as tree_of, expressions_of as trees_of, place_of};
 ghost use Rattle.lrc_named_names.specs.Names.{lock, meaning_of};
 ghost use Rattle.lrc_named_names.specs.View.{declared_of, item_of};
@@ -43,7 +43,7 @@ impl<'n, 'p> Statements<'n, 'p> {
         into: &mut Vec<Statement<'p>>,
     ) -> Result<Core<'p>, AllocError>
         requires table { IsSound (declared_of self.now.names.now) }
-        requires well { IsWell (declared_of self.now.names.now)
+        requires well { IsWell (declared_of self.now.names.now) []
             (length (declared_of self.now.names.now)) (tree_of e.now) }
         ensures { IfOk result (λ p. IsAdded (λ b. IsMadeAt (declared_of self.now.names.now) token
             (tree_of e.now) taken.old b (expression_of p) taken.new) into.old.items into.new.items) }
@@ -71,7 +71,7 @@ impl<'n, 'p> Statements<'n, 'p> {
         into: &mut Vec<Statement<'p>>,
     ) -> Result<Core<'p>, AllocError>
         requires table { IsSound (declared_of self.now.names.now) }
-        requires well { AreWell (declared_of self.now.names.now)
+        requires well { AreWell (declared_of self.now.names.now) []
             (length (declared_of self.now.names.now)) (trees_of indices.now) }
         ensures { IfOk result (λ p. IsAdded (λ b. IsAddress (declared_of self.now.names.now) token
             (item_of item.now) (trees_of indices.now) taken.old b (expression_of p) taken.new)
@@ -101,7 +101,7 @@ impl<'n, 'p> Statements<'n, 'p> {
         into: &mut Vec<Statement<'p>>,
     ) -> Result<Core<'p>, AllocError>
         requires table { IsSound (declared_of self.now.names.now) }
-        requires well { AreWell (declared_of self.now.names.now)
+        requires well { AreWell (declared_of self.now.names.now) []
             (length (declared_of self.now.names.now)) (place_of place.now).indices }
         ensures { IfOk result (λ p. IsAdded (λ b. IsAddress (declared_of self.now.names.now) token
             (item_of item.now) (place_of place.now).indices taken.old b (expression_of p) taken.new)

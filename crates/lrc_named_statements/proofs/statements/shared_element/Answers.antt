@@ -1,5 +1,5 @@
 -- A shared item.
-use Rattle.std.proofs.Common.{◌≡◌, ap, sym, ◌∙◌}
+use Rattle.std.proofs.Common.{ap, sym, ◌∙◌}
 use Rattle.lrc_named_tree.specs.Tree as tree
 use Rattle.lrc_named_tree.specs.View.{expression_of, expressions_of, named_of}
 use Rattle.lrc_named_names.specs.Names.{meaning_of}

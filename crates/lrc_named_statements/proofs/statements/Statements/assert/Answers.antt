@@ -4,7 +4,7 @@ use Rattle.lrc_named_tree.specs.View as trees
 use Rattle.lrc_named_names.specs.View.{declared_of}
 use Rattle.lrc_named_core.specs.declared.tree.Statement.{Assign}
 use Rattle.lrc_named_core.specs.Tree.{assign, private}
-use Rattle.lrc_named_core.specs.View.{expression_of, origin_of, private_of}
+use Rattle.lrc_named_core.specs.View.{expression_of, private_of}
 use Rattle.lrc_named_translation.specs.Made.{holding}
 use Rattle.lrc_named_statements.specs.Statements.{asserting, from, trial_of}
 use Rattle.lrc_named_statements.proofs.Pushed.{assert_added, assert_added_after}

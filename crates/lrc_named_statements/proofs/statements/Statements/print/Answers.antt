@@ -1,6 +1,6 @@
 -- One value more is printed.
-use Rattle.std.proofs.Common.{◌≡◌, ap, sym, subst}
-use Rattle.std.specs.Prelude.{length}
+use Rattle.std.proofs.Common.{ap, sym, subst}
+use Rattle.std.specs.Prelude.{[], length}
 use Rattle.lrc_named_tree.specs.View as trees
 use Rattle.lrc_named_names.specs.View.{declared_of}
 use Rattle.lrc_named_constants.specs.Well.{IsWell}
@@ -17,8 +17,8 @@ loop-value-init c = printed_none (declared_of c.args.self.now.names.now) c.args.
 pub expression-requires-clause-well : goal.expression-requires-clause-well
 expression-requires-clause-well c =
     let declared = declared_of c.args.self.now.names.now in
-    subst (λ y. IsWell declared (length declared) (trees.expression_of y)) (sym c.value-item.is)
-    (well_at declared (length declared) c.args.values.now c.loop-value.value-index c.value-item.result c.loop-value-test.true c.requires.well)
+    subst (λ y. IsWell declared [] (length declared) (trees.expression_of y)) (sym c.value-item.is)
+    (well_at declared [] (length declared) c.args.values.now c.loop-value.value-index c.value-item.result c.loop-value-test.true c.requires.well)
 
 pub loop-value-preserved : goal.loop-value-preserved
 loop-value-preserved c =

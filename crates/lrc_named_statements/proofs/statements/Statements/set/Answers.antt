@@ -1,6 +1,6 @@
 -- A shared item alone, or another value.
 use Rattle.std.proofs.Common.{◌≡◌, sym, subst, ◌∙◌}
-use Rattle.std.specs.Prelude.{length}
+use Rattle.std.specs.Prelude.{[], length}
 use Rattle.lrc_named_tree.specs.Tree as tree
 use Rattle.lrc_named_tree.specs.View as trees
 use Rattle.lrc_named_tree.specs.View.{place_of}
@@ -19,9 +19,9 @@ use Rattle.lrc_named_statements.proofs.statements.Statements.set.Goals as goal
 pub read_into-requires-clause-well : goal.read_into-requires-clause-well
 read_into-requires-clause-well c =
     let declared = declared_of c.args.self.now.names.now in
-    let w : IsWell declared (length declared) (element_of c.in-Some.element) =
-    subst (IsWell declared (length declared)) (sym c.bare.ensures ∙ c.in-Some.ensures.0)
-    (bare_well declared (length declared) (trees.expression_of c.args.value.now) c.requires.well) in
+    let w : IsWell declared [] (length declared) (element_of c.in-Some.element) =
+    subst (IsWell declared [] (length declared)) (sym c.bare.ensures ∙ c.in-Some.ensures.0)
+    (bare_well declared [] (length declared) (trees.expression_of c.args.value.now) c.requires.well) in
     w.1
 
 pub set_to-requires-clause-alone : goal.set_to-requires-clause-alone

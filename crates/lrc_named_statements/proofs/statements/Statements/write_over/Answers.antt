@@ -1,5 +1,5 @@
 -- The indices, what the word is, the value, and then the statement.
-use Rattle.std.proofs.Common.{◌≡◌, ap, ◌∙◌}
+use Rattle.std.proofs.Common.{ap, ◌∙◌}
 use Rattle.lrc_named_tree.specs.View.{place_of}
 use Rattle.lrc_named_tree.specs.View as trees
 use Rattle.lrc_named_names.specs.View.{declared_of, item_of}
