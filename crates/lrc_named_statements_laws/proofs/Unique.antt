@@ -1,16 +1,16 @@
 -- What a statement is in the core is determined.
-use Rattle.std.proofs.Common.{◌≡◌, ℕ, ◌+◌, true, false, Some, None, List, ◌∷◌, [], refl, sym, ap, subst}
+use Rattle.std.proofs.Common.{◌≡◌, ℕ, ◌+◌, true, false, Some, None, List, ◌∷◌, [], refl, sym, subst}
 use Rattle.std.specs.Prelude.{Option}
 use Rattle.lrc_lang.specs.declared.program.Operator.{Operator}
-use Rattle.lrc_named_tree.specs.Tree.{Named, Expressions, Place, Arms, Update}
+use Rattle.lrc_named_tree.specs.Tree.{Named, Expressions, Place, Arms}
 use Rattle.lrc_named_tree.specs.Tree as tree
 use Rattle.lrc_named_names.specs.Names.{Declared, Item, Meaning, meaning_of}
 use Rattle.lrc_named_core.specs.Tree.{Expression, Block, Origin, has_division, has_name}
 use Rattle.lrc_named_constants.specs.Constant.{Known}
-use Rattle.lrc_named_translation.specs.Made.{AreMade, bare}
+use Rattle.lrc_named_translation.specs.Made.{AreMade}
 use Rattle.lrc_named_translation.specs.Made as made
 use Rattle.lrc_named_translation.proofs.Unique.{Same, made_unique}
-use Rattle.lrc_named_statements.specs.Statements.{IsCore, AreCores, IsChoice, IsElse, IsHeldWith, IsHeldFor, ArePrinted, IsAddress, IsMadeAt, IsNoItem, IsPrivate, operator_of}
+use Rattle.lrc_named_statements.specs.Statements.{IsCore, AreCores, IsChoice, IsElse, IsHeldWith, IsHeldFor, ArePrinted, IsAddress, IsMadeAt, IsNoItem, operator_of}
 use Rattle.lrc_named_statements.specs.Statements as rule
 
 record SameAll (b c : Block) (ps qs : List Expression) (n m : ℕ) : Type 0 where
