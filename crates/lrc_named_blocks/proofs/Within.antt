@@ -12,7 +12,7 @@ use Rattle.lrc_named_core.specs.View.{statement_of, block_of}
 use Rattle.lrc_named_core.specs.Tree.{Expression, named, number, private, binary, assign, acquire, release, if_else, while_do, Block, behind, next, only, empty, has_name}
 use Rattle.lrc_named_translation.specs.Added.{IsAdded}
 use Rattle.lrc_named_translation.specs.Made.{holding}
-use Rattle.lrc_named_translation.proofs.Adding.{added_none, added_as, added_then, block_of-append}
+use Rattle.lrc_named_translation.proofs.Adding.{added_none, added_as, added_then}
 use Rattle.lrc_named_translation.proofs.Making.{behind_empty, behind_behind}
 use Rattle.lrc_named_translation.proofs.Rules.{all_added}
 use Rattle.lrc_named_statements.specs.Statements.{IsCore, AreCores, IsChoice, IsElse, IsHeldWith, IsHeldFor, IsAddress, IsItem, IsMadeAt}

@@ -1,6 +1,6 @@
 // The core of statements with statements within, and of blocks.
 
-ghost use Rattle.std.specs.Prelude.{◌≡◌, OnOk, length};
+ghost use Rattle.std.specs.Prelude.{◌≡◌, OnOk, [], length};
 ghost use Rattle.lrc_named_tree.specs.Tree.{with_do, while_do, for_do};
 ghost use Rattle.lrc_named_tree.specs.View.{block_of, expression_of as tree_of, named_of, place_of, statement_of};
 ghost use Rattle.lrc_named_names.specs.View.{declared_of};
@@ -238,7 +238,7 @@ impl<'n, 'p> Blocks<'n, 'p> {
         into: &mut Vec<Statement<'p>>,
     ) -> Result<(), AllocError>
         requires table { IsSound (declared_of self.now.names.now) }
-        requires condition { IsWell (declared_of self.now.names.now)
+        requires condition { IsWell (declared_of self.now.names.now) []
             (length (declared_of self.now.names.now)) (tree_of condition.now) }
         requires well { IsWellBlock (declared_of self.now.names.now) (block_of inside.now) }
         ensures { OnOk result (IsAdded (IsCore (declared_of self.now.names.now) held
@@ -269,9 +269,9 @@ impl<'n, 'p> Blocks<'n, 'p> {
         into: &mut Vec<Statement<'p>>,
     ) -> Result<(), AllocError>
         requires table { IsSound (declared_of self.now.names.now) }
-        requires first { IsWell (declared_of self.now.names.now)
+        requires first { IsWell (declared_of self.now.names.now) []
             (length (declared_of self.now.names.now)) (tree_of count.first.now) }
-        requires end { IsWell (declared_of self.now.names.now)
+        requires end { IsWell (declared_of self.now.names.now) []
             (length (declared_of self.now.names.now)) (tree_of count.end.now) }
         requires well { IsWellBlock (declared_of self.now.names.now) (block_of count.inside.now) }
         ensures { OnOk result (IsAdded (IsCore (declared_of self.now.names.now) held
@@ -305,9 +305,9 @@ impl<'n, 'p> Blocks<'n, 'p> {
         into: &mut Vec<Statement<'p>>,
     ) -> Result<(), AllocError>
         requires table { IsSound (declared_of self.now.names.now) }
-        requires first { IsWell (declared_of self.now.names.now)
+        requires first { IsWell (declared_of self.now.names.now) []
             (length (declared_of self.now.names.now)) (tree_of count.first.now) }
-        requires end { IsWell (declared_of self.now.names.now)
+        requires end { IsWell (declared_of self.now.names.now) []
             (length (declared_of self.now.names.now)) (tree_of count.end.now) }
         requires well { IsWellBlock (declared_of self.now.names.now) (block_of count.inside.now) }
         ensures { OnOk result (IsAdded (IsHeldFor (declared_of self.now.names.now) held
@@ -373,7 +373,7 @@ impl<'n, 'p> Blocks<'n, 'p> {
         into: &mut Vec<Statement<'p>>,
     ) -> Result<(), AllocError>
         requires table { IsSound (declared_of self.now.names.now) }
-        requires condition { IsWell (declared_of self.now.names.now)
+        requires condition { IsWell (declared_of self.now.names.now) []
             (length (declared_of self.now.names.now)) (tree_of choice.condition.now) }
         requires then { IsWellBlock (declared_of self.now.names.now) (block_of choice.then.now) }
         requires arms { AreWellArms (declared_of self.now.names.now) (arms_of choice.arms.now) }

@@ -1,24 +1,22 @@
 -- Each statement has its rule.
 use Rattle.std.proofs.Common.{◌≡◌, ◌+◌, ◌-◌, ◌*◌, ◌<◌, ◌≤◌, true, false, length, take, drop, ap, sym, subst, arith, ◌∙◌}
-use Rattle.lrc_lang.specs.declared.program.Operator.TheVariants.{Add, Less}
+use Rattle.lrc_lang.specs.declared.program.Operator.TheVariants.{Less}
 use Rattle.lrc_named_tree.specs.Tree as tree
 use Rattle.lrc_named_tree.specs.View as trees
 use Rattle.lrc_named_tree.specs.View.{named_of, place_of}
 use Rattle.lrc_named_names.specs.View.{declared_of, item_of}
-use Rattle.lrc_named_constants.specs.Well.{IsWell, AreWell}
 use Rattle.lrc_named_core.specs.declared.tree.Statement.{Acquire, Assign, If, Release, While}
 use Rattle.lrc_named_core.specs.declared.tree.Private.TheVariants.{Named}
 use Rattle.lrc_named_core.specs.Tree.{acquire, assign, binary, if_else, named, number, private, release, while_do, only}
 use Rattle.lrc_named_core.specs.Tree as core
-use Rattle.lrc_named_core.specs.View.{block_of, expression_of, origin_of, private_of}
+use Rattle.lrc_named_core.specs.View.{block_of, expression_of, private_of}
 use Rattle.lrc_named_translation.specs.Added.{IsAdded}
-use Rattle.lrc_named_translation.specs.Made.{holding}
 use Rattle.lrc_named_translation.proofs.Adding.{added_as}
 use Rattle.lrc_named_translation.proofs.Rows.{if_seen, while_seen}
-use Rattle.lrc_named_statements.specs.Statements.{AreCores, ArePrinted, IsAddress, IsChoice, IsCore, IsElse, IsHeldFor, IsHeldWith, IsMadeAt}
-use Rattle.lrc_named_statements.specs.Statements.{at_barrier, chosen, closing, at_item, else_if, from, holding_place, last_block, printed}
+use Rattle.lrc_named_statements.specs.Statements.{AreCores, ArePrinted, IsAddress, IsChoice, IsCore, IsElse, IsHeldFor, IsHeldWith}
+use Rattle.lrc_named_statements.specs.Statements.{at_barrier, chosen, closing, from, printed}
 use Rattle.lrc_named_blocks.specs.View.{arms_of}
-use Rattle.lrc_named_statements.specs.Well.{IsWellStatement, IsWellBlock, AreWellArms}
+use Rattle.lrc_named_statements.specs.Well.{IsWellStatement}
 use Rattle.lrc_named_blocks.proofs.Within as blocks
 use Rattle.lrc_named_blocks.proofs.Within.{IsCounting, IsGuarded, cores_none, cores_step, smaller_at, well_at}
 use Rattle.lrc_named_statements.proofs.Chain.{taken_back, well}
