@@ -1,7 +1,5 @@
 -- One more is added.
-use Rattle.std.proofs.Common.{◌≡◌, ap, arith, drop, map, ◌∙◌}
-use Rattle.lrc_named_names.specs.View.{entry_of}
-use Rattle.lrc_named_constants.specs.Layout.{locks_in}
+use Rattle.std.proofs.Common.{◌≡◌, arith, ◌∙◌}
 use Rattle.lrc_named_program.proofs.Sums.{locks_step, locks_past}
 use Rattle.lrc_named_program.proofs.layout.locks_among.Goals as goal
 

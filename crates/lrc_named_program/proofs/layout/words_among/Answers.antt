@@ -1,7 +1,5 @@
 -- One more is added.
-use Rattle.std.proofs.Common.{◌≡◌, ap, arith, drop, map, ◌∙◌}
-use Rattle.lrc_named_names.specs.View.{entry_of}
-use Rattle.lrc_named_constants.specs.Layout.{words_in}
+use Rattle.std.proofs.Common.{◌≡◌, arith, ◌∙◌}
 use Rattle.lrc_named_program.proofs.Sums.{words_step, words_past}
 use Rattle.lrc_named_program.proofs.layout.words_among.Goals as goal
 
