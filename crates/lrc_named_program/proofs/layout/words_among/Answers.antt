@@ -1,0 +1,19 @@
+-- One more is added.
+use Rattle.std.proofs.Common.{◌≡◌, arith, ◌∙◌}
+use Rattle.lrc_named_program.proofs.Sums.{words_step, words_past}
+use Rattle.lrc_named_program.proofs.layout.words_among.Goals as goal
+
+pub overflow_add-all : goal.overflow_add-all
+overflow_add-all c =
+    let s = words_step c.args.declared.now c.loop-entry.entry-index c.entry-item.result c.loop-entry-test.true c.entry-item.is in
+    omega (arith, s, c.words_of-more.ensures, c.loop-entry.invariant, c.requires)
+
+pub loop-entry-preserved : goal.loop-entry-preserved
+loop-entry-preserved c =
+    let s = words_step c.args.declared.now c.loop-entry.entry-index c.entry-item.result c.loop-entry-test.true c.entry-item.is in
+    omega (arith, s, c.words_of-more.ensures, c.loop-entry.invariant)
+
+pub returns : goal.returns
+returns c =
+    let s = words_past c.args.declared.now c.loop-entry.entry-index (omega (arith, c.loop-entry-test.false)) in
+    omega (arith, s, c.loop-entry.invariant)

@@ -1,0 +1,5 @@
+pub mod Chain
+pub mod Indices
+pub mod Pushed
+pub mod Setting
+pub mod Wells

@@ -1,0 +1,11 @@
+pub mod Adding
+pub mod Blocks
+pub mod Copies
+pub mod Joined
+pub mod Making
+pub mod Measure
+pub mod Parameters
+pub mod Rows
+pub mod Rules
+pub mod Turned
+pub mod Unique

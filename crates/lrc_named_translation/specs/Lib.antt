@@ -1,0 +1,4 @@
+pub mod Added
+pub mod Made
+pub mod Meanings
+pub mod Turn
