@@ -46,12 +46,16 @@ where
     Ok((right, all))
 }
 
-/// The digits of a line's message, if it has one: a line that begins with `#` says what the file is.
+/// The digits of a line's message, if it has one: a line that begins with `#` says what the file is. What a message is stands
+/// behind a `#` of its own, also where the message has no byte.
 fn digits_of(line: &str) -> Option<&str> {
     if line.starts_with('#') {
         return None;
     }
-    line.split_whitespace().next()
+    match line.split_whitespace().next() {
+        Some("#") => Some(""),
+        digits => digits,
+    }
 }
 
 /// Whether a message that is written so has the fault of this name.
