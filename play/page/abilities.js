@@ -2,13 +2,9 @@
 
 /** Where an option of a command changes what the page offers: what the help of the command then has. */
 const signs = {
-  then: ["trace", /--then\b/],
   exact: ["explore", /\bexact\b/],
   events: ["explore", /--as\b/],
   tell: ["explore", /--tell\b/],
-  ends: ["explore", /--ends\b/],
-  ignoreRaces: ["explore", /--ignore-races\b/],
-  sure: ["races", /--sure\b/],
 };
 
 export class Abilities {

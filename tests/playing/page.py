@@ -122,6 +122,16 @@ def drop(name, text):
     settle()
 
 
+def press_text(scope, words):
+    """Clicks the button with these words."""
+    value(f"[...document.querySelectorAll('{scope} button')].find(it => it.textContent === {json.dumps(words)}).click()")
+    settle()
+
+
+def chosen_events():
+    return value("[...document.querySelectorAll('.events button')].map(it => it.textContent)")
+
+
 def told():
     return value("document.getElementById('told').textContent")
 
@@ -255,9 +265,8 @@ def check_trace(name, machine):
 
 
 def check_races(name, machine):
-    for form in ("by lines", "each"):
-        value(f"[...document.querySelectorAll('#result .choice button')].find(it => it.textContent === '{form}').click()")
-        settle()
+    for form in ("by lines", "each", "sure"):
+        press_text("#result .choice", form)
         check_text(f"{name} {form}", machine)
 
 
@@ -303,29 +312,34 @@ def check_explore(name, machine):
         hold(f"{name}: {line}", document_text(".outcome-acts").endswith(machine.play(line).stdout))
 
 
+TELLINGS = {"some order gets stuck:": "stuck", "some order traps:": "trap", "some order can no longer end:": "end"}
+says_events = "--as <" in subprocess.run([native, "help", "explore"], capture_output=True, text=True).stdout
+
+
 def check_opened(name, machine, told):
-    """An order that was told is opened in Choose, by the events that the program says for it, and Explore is asked again."""
-    opener = "[...document.querySelectorAll('.told .hint button')].find(it => it.textContent.startsWith('Choose on'))"
-    if not value(f"!!{opener}"):
-        return
-    value(f"{opener}.click()")
-    settle()
-    events = machine.play(f"{told} --as events").stdout
-    name_of_file = told.split()[2]
-    with open(f"{machine.folder.name}/found.events", "w") as file:
-        file.write(events)
+    """Each order that is told is opened in Choose, by the events that the program says for it, where it says them; then Explore is asked again."""
+    lines = machine.play(told).stdout.splitlines()
+    acts = [k for k, it in enumerate(lines) if re.fullmatch(r"\d+ [a-z]+( \d+)* # line \d+", it)]
+    titles = [lines[k - 1] for k in acts if k - 1 not in acts]
+    count = value("document.querySelectorAll('.told .opens').length")
+    same(f"{name}: which orders can be opened", count, len(titles) if says_events else 0)
     nodes = re.search(r" --nodes \d+|$", told)[0]
-    turns = [json.loads(it) for it in machine.play(f"treadmarks trace {name_of_file}{nodes} --events found.events --as states").stdout.splitlines()[1:]]
-    shown = value("[...document.querySelectorAll('.events button')].map(it => it.textContent)")
-    same(f"{name}: the order is opened", shown, [it["event"] for it in turns][-len(shown):])
-    set_fields(order="oldest")
-    ask("explore")
+    for k in range(count):
+        events = machine.play(f"{told} --as events" + (f" --tell {TELLINGS[titles[k]]}" if count > 1 else "")).stdout
+        value(f"document.querySelectorAll('.told .opens')[{k}].click()")
+        settle()
+        with open(f"{machine.folder.name}/found.events", "w") as file:
+            file.write(events)
+        turns = [json.loads(it) for it in machine.play(f"treadmarks trace {told.split()[2]}{nodes} --events found.events --as states").stdout.splitlines()[1:]]
+        hold(f"{name}: order {k} has events", events and value("document.body.dataset.view") == "choose")
+        same(f"{name}: order {k} is opened", chosen_events(), [it["event"] for it in turns])
+        set_fields(order="oldest")
+        ask("explore")
 
 
 def check_choose(name, file, text):
-    """From no event on, each time the last that may come; then the first; then undone."""
-    value("[...document.querySelectorAll('.side button')].find(it => it.textContent === 'Start again').click()")
-    settle()
+    """From no event on, each time the last that may come; then the first; then undone; then on by the program's own orders."""
+    press_text(".side", "Start again")
     events = []
     for k in range(12):
         machine = Native(text, file, "".join(f"{it}\n" for it in events))
@@ -337,25 +351,42 @@ def check_choose(name, file, text):
         state = json.loads(machine.play(f"{words} --as states --from 4000000000").stdout)
         may = [f"run {node}" for node, it in enumerate(state["states"]) if it["waits"] == "no"] + [f"deliver {place}" for place in range(len(state["flight"]))]
         same(f"{name} after {k}: what may come", value("[...document.querySelectorAll('.may .next')].map(it => it.dataset.event)"), may)
-        same(f"{name} after {k}: events", value("[...document.querySelectorAll('.events button')].map(it => it.textContent)"), events)
+        same(f"{name} after {k}: events", chosen_events(), events)
+        texts = [f"{it['from']} \u2192 {it['to']} {it['message']}" for it in state["flight"]]
+        shown = value("[...document.querySelectorAll('.may .next')].filter(it => it.querySelector('small')).map(it => [...it.querySelectorAll('.badge')].map(it => it.textContent).join(' \u2192 ') + ' ' + it.querySelector('small').textContent)")
+        same(f"{name} after {k}: the messages in flight", shown, texts)
         if not may:
             break
         events.append(may[-1] if k % 3 else may[0])
         click(f".may [data-event='{events[-1]}']")
     if value("!!document.querySelector('[title^=\"repeat\"]')"):
         click('[title^="repeat"]')
-        hold(f"{name}: repeat", value("[...document.querySelectorAll('.events button')].at(-1).textContent").startswith("repeat"))
+        hold(f"{name}: repeat", chosen_events()[-1].startswith("repeat"))
         click(".undo")
     click(".undo")
-    same(f"{name}: undo", value("[...document.querySelectorAll('.events button')].map(it => it.textContent)"), events[:-1])
-    if value("[...document.querySelectorAll('.side button')].some(it => it.textContent === 'rounds: 10')"):
-        value("[...document.querySelectorAll('.side button')].find(it => it.textContent === 'rounds: 10').click()")
+    same(f"{name}: undo", chosen_events(), events[:-1])
+    events = events[:-1]
+    for then, count in (("oldest", 10), ("newest", None), ("twice", 10), ("random", 10), ("random", None)):
+        check_goes_on(f"{name} {then} {count}", Native(text, file, "".join(f"{it}\n" for it in events)), events, then, count)
+
+
+def check_goes_on(name, machine, events, then, count):
+    """The first ten of the events that the program adds, or all; and back to where it went on from."""
+    words = re.sub(r"^treadmarks step", "treadmarks trace", heading()[0][0])
+    going = machine.play(f"{words} --then {then} {'--seed 5 ' if then == 'random' else ''}--as events").stdout.splitlines()
+    value(f"(it => {{ it.value = '{then}'; it.dispatchEvent(new Event('change')); }})(document.querySelector('.side select'))")
+    if then == "random":
+        value("(it => { it.value = '5'; it.dispatchEvent(new Event('change')); })(document.querySelector('.side input[type=number]'))")
+    if value("document.querySelector('[data-way=all]').disabled"):
+        return same(f"{name}: nothing is left", going, events)
+    press_text(".side", "10 events" if count else "all")
+    same(f"{name}: events", chosen_events()[-400:], going[:len(events) + count if count else None][-400:])
+    if events and len(chosen_events()) == len(going):
+        value(f"document.querySelectorAll('.events button')[{len(events) - 1}].click()")
         settle()
-        machine = Native(text, file, "".join(f"{it}\n" for it in events[:-1]))
-        words = re.sub(r"^treadmarks step", "treadmarks trace", heading()[0][0])
-        going = machine.play(f"{words} --then oldest --as events").stdout.splitlines()
-        shown = value("[...document.querySelectorAll('.events button')].map(it => it.textContent)")
-        same(f"{name}: ten more by rounds", shown, going[:len(events) - 1 + 10])
+    else:
+        drop("back.events", "".join(f"{it}\n" for it in events))
+    return same(f"{name}: back", chosen_events(), events)
 
 
 def check_guess(name, machine, options):
@@ -439,6 +470,10 @@ def undo():
     press("z", "KeyZ", modifiers=2, number=90, commands=["undo"])
 
 
+def bracket(sign):
+    press(sign, {"[": "BracketLeft", "]": "BracketRight"}[sign], modifiers=2, number={"[": 219, "]": 221}[sign])
+
+
 def check_editor():
     open_page()
     first = editor_text()
@@ -465,13 +500,21 @@ def check_editor():
     press("Delete", number=46)
     same("editor: all deleted", editor_text(), "\n")
     typed("words 1; locks 1;\nacquire 0;\n[0] = cuont + 1;\n")
+    hold("editor: what was said of an older text goes at once", not value("document.querySelector('#text [data-note], #lint > *')"))
     time.sleep(0.8)
     same("editor: warnings", value("[...document.getElementById('text').children].map(it => it.dataset.note ?? '')"), ["", "lock 0 is never released", "cuont is read and never set, so it is 0", ""])
+    before = editor_text()
+    bracket("]")
+    hold("editor: an empty line is indented", editor_text() == before[:-1] + "    \n", editor_text())
+    value("(text => getSelection().setBaseAndExtent(text.children[1].firstChild, 3, text.children[2].firstChild, 2))(document.getElementById('text'))")
+    bracket("]")
+    indented = before.replace("acquire", "    acquire").replace("[0]", "    [0]")[:-1] + "    \n"
+    same("editor: two lines are indented", editor_text(), indented)
+    bracket("[")
+    same("editor: and taken back", editor_text(), before[:-1] + "    \n")
     press("Tab", number=9)
-    hold("editor: Tab indents", editor_text().endswith("    \n"))
-    press("Escape", number=27)
-    press("Tab", number=9)
-    hold("editor: Escape, Tab leaves", not value("document.getElementById('text').contains(document.activeElement)"))
+    hold("editor: Tab leaves", not value("document.getElementById('text').contains(document.activeElement)"))
+    same("editor: and changes nothing", editor_text(), before[:-1] + "    \n")
     value("""(() => { const paste = new DataTransfer(); paste.setData('text/plain', 'a = <1>;\\n\\nb');
       document.getElementById('text').focus(); getSelection().selectAllChildren(document.getElementById('text'));
       document.getElementById('text').dispatchEvent(new ClipboardEvent('paste', { clipboardData: paste, bubbles: true, cancelable: true })); })()""")
@@ -503,7 +546,6 @@ def check_keys():
     typed("rsx")
     hold("what is typed in the text is no command", value("document.body.dataset.view") == "guess" or not value("document.body.dataset.view"), value("document.body.dataset.view"))
     hold("it is text", "rsx" in editor_text())
-    press("Escape", number=27)
     seen = set()
     for _ in range(60):
         press("Tab", number=9)
@@ -546,8 +588,8 @@ def check_files():
     hold("a file that is no text is refused in words", told() == "picture.tm is no text", told())
     same("the text stays", editor_text(), "words 1; locks 0;\nprint me;\n")
     drop("given.events", "run 1\nrun 0\nrun 7\nrun 1\n")
-    same("events dropped: those that are not skipped", value("[...document.querySelectorAll('.events button')].map(it => it.textContent)"), ["run 1", "run 0", "run 1"])
-    value("[...document.querySelectorAll('.side button')].find(it => it.textContent === 'Save events').click()")
+    same("events dropped: those that are not skipped", chosen_events(), ["run 1", "run 0", "run 1"])
+    press_text(".side", "Save events")
     same("save: events", value(saved), "run 1\nrun 0\nrun 1\n")
     ask("run")
     hold("the chosen events are played", heading()[0][0].endswith("--nodes 2 --events given_name.events"))
@@ -565,11 +607,10 @@ def check_haste():
     open_page()
     example("counter.tm")
     ask("choose")
-    value("[...document.querySelectorAll('.side button')].find(it => it.textContent === 'Start again').click()")
-    settle()
+    press_text(".side", "Start again")
     value("(() => { for (const node of [3, 1, 2]) document.querySelector(`[data-event='run ${node}']`).click(); })()")
     settle()
-    same("three quick choices", value("[...document.querySelectorAll('.events button')].map(it => it.textContent)"), ["run 3", "run 1", "run 2"])
+    same("three quick choices", chosen_events(), ["run 3", "run 1", "run 2"])
     value("(() => { for (const view of ['step', 'explore', 'trace', 'why', 'run']) document.querySelector(`[data-view=${view}]`).click(); })()")
     settle()
     set_fields(order="oldest")
@@ -628,12 +669,16 @@ def check_events():
     drop("turns.tm", "words 1; locks 0;\nwhile i < 900 { i = i + 1; }\n")
     set_fields(nodes=2)
     ask("choose")
-    value("(it => it ? it.click() : [...document.querySelectorAll('.side button')].find(it => it.textContent === 'rounds').click())([...document.querySelectorAll('.side button')].find(it => it.textContent === 'rounds: all'))")
-    settle()
+    press_text(".side", "all")
     (line, status), = heading()
     hold("many turns: the last part is shown", " --from " in line, line)
     events = Native(editor_text(), "turns.tm").play("treadmarks trace turns.tm --nodes 2 --as events").stdout
     same("many turns: the page", document_text(), Native(editor_text(), "turns.tm", events).play(line).stdout)
+    press_text(".side", "Undo")
+    fewer = "".join(events.splitlines(True)[:-1])
+    same("many turns: undone, the rest is played as before", document_text(), Native(editor_text(), "turns.tm", fewer).play(heading()[0][0]).stdout)
+    press_text(".side", "Save events")
+    same("many turns: all events are saved", value("(async () => await [...window.made.values()].at(-1).text())()"), fewer)
 
 
 class Quiet(http.server.SimpleHTTPRequestHandler):
