@@ -3,7 +3,8 @@
 
 All command lines of examples/ and of crates/test_examples, and those of CASES where it is given: a folder with a script `run-cases` that unpacks cases
 (`--unpack`), or one that has been unpacked, NAME.sh for each. They are played in one process; of each file of command lines the first one is
-played by `node SCRIPT` too, with pipes as standard streams. `run` and `--threads` are left out: no thread is started there."""
+played by `node SCRIPT` too, with pipes as standard streams. `run` and `--threads` start no thread there: they say that memory ran out, or what the
+program says where it starts none either."""
 import base64
 import json
 import re
@@ -18,6 +19,7 @@ HERE = Path(__file__).resolve().parent
 TOP = HERE.parent.parent
 TEST = TOP / "crates/test_examples"
 THREADED = {"run", "--threads"}
+REFUSED = {"status": 1, "out": b"", "err": b"treadmarks: out of memory\n"}
 
 
 def shown_lines(folder):
@@ -68,6 +70,18 @@ def differences(was, now):
     return said + ([now["crash"]] if now.get("crash") else [])
 
 
+def threads_refused(program, script, lines):
+    """Of lines that start threads: how many say so, and how many say something else than the program."""
+    refused = failed = 0
+    for line, now in zip(lines, in_one_process(script, lines), strict=True):
+        if not differences(REFUSED, now):
+            refused += 1
+        elif said := differences(native(program, line), now):
+            failed += 1
+            print(f"FAILS: {line['name']}: {'; '.join(said)}", flush=True)
+    return refused, failed
+
+
 def main():
     program, script = Path(sys.argv[1]).resolve(), Path(sys.argv[2]).resolve()
     with tempfile.TemporaryDirectory() as name:
@@ -76,9 +90,10 @@ def main():
         if len(sys.argv) > 3:
             (folder / "cases").mkdir()
             lines += case_lines(Path(sys.argv[3]).resolve(), folder / "cases")
-        left_out = sum(1 for it in lines if THREADED & set(it["words"]))
+        threaded = [it for it in lines if THREADED & set(it["words"])]
         lines = [it for it in lines if not THREADED & set(it["words"])]
-        failed = 0
+        refused, failed = threads_refused(program, script, threaded)
+        failed += not refused
         expected = []
         for line, now in zip(lines, in_one_process(script, lines), strict=True):
             expected.append(native(program, line))
@@ -96,7 +111,7 @@ def main():
             if said:
                 failed += 1
                 print(f"FAILS: {line['name']} by itself: {'; '.join(said)}", flush=True)
-    print(f"lines: {len(lines)} command lines, {own} of them by themselves too, {left_out} with threads left out; {failed} failed")
+    print(f"lines: {len(lines)} command lines, {own} of them by themselves too; {len(threaded)} with threads, of which {refused} are refused one; {failed} failed")
     return 1 if failed else 0
 
 

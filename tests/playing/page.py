@@ -5,7 +5,9 @@ end, memory that is refused, a page without its module, sizes and colours. Nothi
 Status 0 where all holds."""
 
 import functools
+import glob
 import http.server
+import itertools
 import json
 import os
 import re
@@ -37,6 +39,17 @@ barrier;
 assert sum == 4;
 print seen[1 - me];
 """
+# A stuck order and a trap; a trap, and an order that can no longer end.
+ORDERS = {
+    "two.tm": """words 2; locks 2;
+if me == 0 { acquire 0; acquire 1; release 1; release 0; }
+else { acquire 1; acquire 0; x = [0]; [0] = x + 1; release 0; release 1; y = 1 / (x - x); }
+""",
+    "hang.tm": """words 2; locks 1;
+if me == 1 { acquire 0; n = [0]; release 0; while n == 0 { acquire 0; n = [0]; release 0; } print n; }
+if me == 0 { acquire 0; f = [1]; if f == 0 { [1] = 1; [0] = 1; } release 0; acquire 0; [0] = 0; release 0; y = 1 / (f - f); }
+""",
+}
 VIEWS = "run step explore chart why trace races choose guess".split()
 # Keeps each document that the page makes, to be read by its address.
 KEEP = """(() => { const make = URL.createObjectURL; window.made = new Map();
@@ -99,7 +112,7 @@ def click(selector):
 
 
 def ask(view):
-    click(f"[data-view={view}]")
+    click(f"#views [data-view={view}]")
 
 
 def example(name):
@@ -295,7 +308,7 @@ def check_explore(name, machine):
     for line, kind in rows if len(answers) == 2 else []:
         expected = "both" if line in outcomes["flat"] and line in outcomes["lazy"] else "only-flat" if line in outcomes["flat"] else "only-lazy"
         same(f"{name}: {line}", kind, expected)
-    check_opened(name, machine, told)
+    check_opened(name, machine, told, lambda: ask("explore"))
     if rows:
         click(".outcomes td.memory button")
         line = heading(".outcome-acts")[0][0]
@@ -310,17 +323,22 @@ def check_explore(name, machine):
         settle()
         line = heading(".outcome-acts .reasons")[0][0]
         hold(f"{name}: {line}", document_text(".outcome-acts").endswith(machine.play(line).stdout))
+    check_opened_outcome(name, machine)
 
 
 TELLINGS = {"some order gets stuck:": "stuck", "some order traps:": "trap", "some order can no longer end:": "end"}
 says_events = "--as <" in subprocess.run([native, "help", "explore"], capture_output=True, text=True).stdout
 
 
-def check_opened(name, machine, told):
+def orders_in(text):
+    """The orders that `explore` tells: the line before the acts, and these."""
+    found = re.findall(r"(?:^|(?<=\n))(?!\d+ [a-z]+[^\n]* # line)([^\n]*\n)((?:\d+ [a-z]+(?: \d+)* # line \d+\n)+)", "\n" + text)
+    return [(title.strip(), acts) for title, acts in found]
+
+
+def check_opened(name, machine, told, again):
     """Each order that is told is opened in Choose, by the events that the program says for it, where it says them; then Explore is asked again."""
-    lines = machine.play(told).stdout.splitlines()
-    acts = [k for k, it in enumerate(lines) if re.fullmatch(r"\d+ [a-z]+( \d+)* # line \d+", it)]
-    titles = [lines[k - 1] for k in acts if k - 1 not in acts]
+    titles = [title for title, _ in orders_in(machine.play(told).stdout)]
     count = value("document.querySelectorAll('.told .opens').length")
     same(f"{name}: which orders can be opened", count, len(titles) if says_events else 0)
     nodes = re.search(r" --nodes \d+|$", told)[0]
@@ -333,6 +351,56 @@ def check_opened(name, machine, told):
         turns = [json.loads(it) for it in machine.play(f"treadmarks trace {told.split()[2]}{nodes} --events found.events --as states").stdout.splitlines()[1:]]
         hold(f"{name}: order {k} has events", events and value("document.body.dataset.view") == "choose")
         same(f"{name}: order {k} is opened", chosen_events(), [it["event"] for it in turns])
+        set_fields(order="oldest")
+        again()
+
+
+def check_orders():
+    """Several orders that are told at once, each by itself: its acts, what is asked of them, and its opening."""
+    for name, text in ORDERS.items():
+        open_page()
+        drop(name, text)
+        set_fields(nodes=2)
+        toggles = ()
+        for toggle in (None, "can all end?", "look for races"):
+            toggles = (*toggles, toggle) if toggle else ()
+
+            def again():
+                ask("explore")
+                for it in toggles:
+                    press_text("#result .fields", it)
+
+            again()
+            machine = Native(text, name)
+            told, status = heading(".told")[0]
+            done = machine.play(told)
+            hold(f"{name}: what is asked", (" --ends" in told) == ("can all end?" in toggles) and (" --ignore-races" in told) == ("look for races" in toggles), told)
+            same(f"{name}: {told}", told_text(".told"), done.stdout)
+            same(f"{name}: status", status, str(done.returncode))
+            orders = orders_in(done.stdout)
+            same(f"{name}: lists of acts", value("document.querySelectorAll('.told .acts').length"), len(orders))
+            for k, (_, acts) in enumerate(orders):
+                place = len(acts.splitlines()) - 1
+                value(f"document.querySelectorAll('.told .acts')[{k}].querySelector('[data-act=\"{place}\"]').click()")
+                settle()
+                machine = Native(text, name, acts=acts)
+                line = value(f"document.querySelectorAll('.told .reasons')[{k}].querySelector('code').textContent")
+                same(f"{name}: order {k}: {line}", value(f"[...document.querySelectorAll('.told .reasons')[{k}].querySelectorAll('.printed > li')].map(it => it.textContent + '\\n').join('')"), machine.play(line).stdout)
+            check_opened(f"{name} {len(toggles)}", machine, told, again)
+
+
+def check_opened_outcome(name, machine):
+    """A run of one flat memory with an outcome is opened likewise; of those of the lazy memory the program says no events."""
+    for memory in ("lazy", "flat"):
+        cell = f"[title*='on the {memory} memory']"
+        if value(f"!!document.querySelector({json.dumps(cell)})"):
+            click(cell)
+            can_be_opened = value("!!document.querySelector('.outcome-acts .opens')")
+            hold(f"{name}: whether a {memory} run can be opened", can_be_opened == (says_events and memory == "flat"), can_be_opened)
+    if value("!!document.querySelector('.outcome-acts .opens')"):
+        events = machine.play(f"{heading('.outcome-acts')[0][0]} --as events").stdout.splitlines()
+        click(".outcome-acts .opens")
+        same(f"{name}: a run with an outcome is opened", chosen_events(), events)
         set_fields(order="oldest")
         ask("explore")
 
@@ -523,6 +591,31 @@ def check_editor():
     check_text("a fault", Native(editor_text(), value("document.getElementById('name').value")))
 
 
+def check_examples():
+    """All programs of examples/ are there, each with the sentence that its comment begins with, and with the options and events of its run."""
+    open_page()
+    listed = value("[...document.querySelectorAll('.example')].map(it => [it.querySelector('code').textContent.trim(), it.querySelector('.says').textContent])")
+    files = {os.path.basename(it): it for it in glob.glob(f"{examples}/**/*.tm", recursive=True)}
+    same("examples: all of them", sorted(name for name, _ in listed), sorted(files))
+    for name, says in listed:
+        with open(files[name]) as file:
+            comment = " ".join(line[1:].strip() for line in itertools.takewhile(lambda it: it.startswith("#"), file))
+        hold(f"examples: {name} has a sentence", says.endswith((".", "?")) and comment.startswith(says), says, comment)
+    for name in ("wide.tm", "stopping.tm", "collecting.tm", "late.tm"):
+        example(name)
+        ask("run")
+        with open(files[name]) as file:
+            text = file.read()
+        events = files[name][:-3] + ".events"
+        machine = Native(text, name, open(events).read() if os.path.exists(events) else "")
+        check_text(f"the run of {name}", machine)
+        line = heading()[0][0]
+        words = files[name][:-3] + ".words"
+        given = open(words).read().split() if os.path.exists(words) else {"collecting.tm": ["--collect", "3"]}.get(name, [])
+        pairs = {(one, other) for one, other in zip(given[::2], given[1::2]) if (one, other) != ("--page", "64")}
+        hold(f"examples: {name} with the options of its run", all(f" {one} {other}" in line for one, other in pairs) and ("--events" in line) == os.path.exists(events), line)
+
+
 def check_keys():
     open_page()
     for key, view in zip("rsxcwtdng", VIEWS):
@@ -554,6 +647,47 @@ def check_keys():
     hold("names of fields and buttons", value("[...document.querySelectorAll('button, input, select')].every(it => it.textContent.trim() || it.ariaLabel || it.labels?.length)"))
 
 
+def check_keys_alone():
+    """A lesson without a pointer: why an act, a run of chosen events, and a guess."""
+    open_page()
+    value("document.activeElement.blur()")
+    press("o", text="o")
+    typed("lost upd")
+    press("Tab", number=9)
+    press("ArrowDown", number=40)
+    press("Enter", text="\r", number=13)
+    settle()
+    same("keys: an example is found by its name", value("document.getElementById('name').value"), "lost_updates.tm")
+    press("w", text="w")
+    settle()
+    for _ in range(60):
+        press("Tab", number=9)
+        if value("!!document.activeElement.closest('.acts')"):
+            break
+    for _ in range(4):
+        press("ArrowDown", number=40)
+    press("Enter", text="\r", number=13)
+    settle()
+    machine = Native(editor_text(), "lost_updates.tm")
+    check_text("keys: why", machine, "#result .reasons .printed", ".reasons")
+    hold("keys: of the act that was gone to", " --act 4" in heading(".reasons")[0][0], heading(".reasons"))
+    press("n", text="n")
+    settle()
+    for key in ("1", "2", "1", "3"):
+        first = value(f"document.querySelectorAll('button.next')[{int(key) - 1}].dataset.event")
+        press(key, text=key)
+        settle()
+        same(f"keys: {key} chooses", chosen_events()[-1], first)
+    press("u", text="u")
+    settle()
+    same("keys: undone", len(chosen_events()), 3)
+    press("g", text="g")
+    settle()
+    press("1", text="1")
+    settle()
+    hold("keys: a guess", value("!!document.querySelector('.guess .right, .guess .wrong')"))
+
+
 def check_link():
     open_page()
     example("dekker.tm")
@@ -569,13 +703,39 @@ def check_link():
     same("link: text", editor_text(), before[0])
     same("link: command and status", heading(), before[1])
     same("link: answer", text_of(".reasons .printed"), before[2])
+    long = "".join(f"[{k}] = {k * 7919 % 10007} + {k * 104729 % 65537};\n" for k in range(1500))
+    drop("long.tm", "words 2000; locks 0;\n" + long)
+    value("document.getElementById('link').click()")
+    time.sleep(0.5)
+    hold("link: one that is too long to send is said to be", "more than many programs send" in told(), told())
     for damaged in ("#nonsense", before[3][:40], before[3][:-7] + "AAAAAAA"):
         open_page(damaged)
         hold(f"link: {damaged[:20]} is said to be damaged", "damaged" in told() and "late.tm" == value("document.getElementById('name').value"), told())
 
 
+def check_opened_file():
+    """By the button and the browser's own dialog."""
+    browser.call("Page.setInterceptFileChooserDialog", enabled=True)
+    with tempfile.NamedTemporaryFile("w", suffix=".tm") as file:
+        file.write("words 1; locks 0;\nprint 12;\n")
+        file.flush()
+        browser.events.clear()
+        browser.call("Runtime.evaluate", expression="document.getElementById('open').click()", userGesture=True)
+        for _ in range(40):
+            chooser = next((it["params"] for it in browser.events if it.get("method") == "Page.fileChooserOpened"), None)
+            if chooser:
+                break
+            value("new Promise(done => setTimeout(done, 50))")
+        browser.call("DOM.setFileInputFiles", files=[file.name], backendNodeId=chooser["backendNodeId"])
+        time.sleep(0.4)
+        settle()
+        same("a file is opened", [editor_text(), value("document.getElementById('name').value")], ["words 1; locks 0;\nprint 12;\n", os.path.basename(file.name)])
+    browser.call("Page.setInterceptFileChooserDialog", enabled=False)
+
+
 def check_files():
     open_page()
+    check_opened_file()
     saved = "(async () => await [...window.made.values()].at(-1).text())()"
     value("document.getElementById('save').click()")
     same("save: the text", value(saved), editor_text())
@@ -611,7 +771,7 @@ def check_haste():
     value("(() => { for (const node of [3, 1, 2]) document.querySelector(`[data-event='run ${node}']`).click(); })()")
     settle()
     same("three quick choices", chosen_events(), ["run 3", "run 1", "run 2"])
-    value("(() => { for (const view of ['step', 'explore', 'trace', 'why', 'run']) document.querySelector(`[data-view=${view}]`).click(); })()")
+    value("(() => { for (const view of ['step', 'explore', 'trace', 'why', 'run']) document.querySelector(`#views [data-view=${view}]`).click(); })()")
     settle()
     set_fields(order="oldest")
     settle()
@@ -624,20 +784,26 @@ def check_stop():
     value("getSelection().selectAllChildren(document.getElementById('text'))")
     browser.call("Input.insertText", text="words 64; locks 1; while i < 60000 { acquire 0; x = [0]; [0] = x + 1; release 0; i = i + 1; }")
     set_fields(order="oldest", nodes=8)
-    value("document.querySelector('[data-view=run]').click()")
+    value("document.querySelector('#views [data-view=run]').click()")
     time.sleep(2)
+    value("document.getElementById('text').focus()")
+    typed(" p")
+    time.sleep(0.8)
+    hold("stop: the page answers while the program runs", editor_text().rstrip().endswith("p") and "here may stand" in value("document.querySelector('#text [data-note]')?.dataset.note ?? ''"))
+    for _ in range(2):
+        press("Backspace", number=8)
     hold("stop: runs", value("document.body.dataset.state") == "runs" and value("document.getElementById('state').textContent").startswith("runs"))
     start = time.time()
     value("document.getElementById('stop').click()")
     wait(most=5)
     took = time.time() - start
     hold(f"stop: {took:.2f} s", took < 0.5 and value("document.getElementById('state').textContent") == "stopped")
-    value("document.querySelector('[data-view=run]').click()")
+    value("document.querySelector('#views [data-view=run]').click()")
     time.sleep(1)
     press("Escape", number=27)
     wait(most=5)
     hold("stop: by Escape", value("document.getElementById('state').textContent") == "stopped")
-    value("document.querySelector('[data-view=run]').click()")
+    value("document.querySelector('#views [data-view=run]').click()")
     time.sleep(1)
     example("hello.tm")
     ask("run")
@@ -712,7 +878,7 @@ def check_without_module():
             made.write(re.sub(r'(<script type="text/plain" id="wasm">)[^<]*', r"\1", given.read()))
         browser.open(f"file://{page}")
         for view in VIEWS:
-            value(f"document.querySelector('[data-view={view}]').click()")
+            value(f"document.querySelector('#views [data-view={view}]').click()")
             time.sleep(0.2)
             hold(f"without the program {view} shows nothing", not value("document.querySelector('#result .command, #result .printed, #result iframe')?.textContent"))
         hold("and says so", "cannot run the program" in value("document.getElementById('state').textContent"))
@@ -757,7 +923,7 @@ if shots:
     os.makedirs(shots, exist_ok=True)
 browser.size(1366, 768)
 open_page()
-CHECKS = (check_programs, check_editor, check_keys, check_link, check_files, check_haste, check_stop, check_long, check_events, check_server, check_without_module, take_shots)
+CHECKS = (check_programs, check_orders, check_examples, check_editor, check_keys, check_keys_alone, check_link, check_files, check_haste, check_stop, check_long, check_events, check_server, check_without_module, take_shots)
 for check in [it for it in CHECKS if not sys.argv[4:] or it.__name__ in sys.argv[4:]]:
     check()
     check_quiet()
