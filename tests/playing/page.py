@@ -327,7 +327,7 @@ def check_explore(name, machine):
 
 
 TELLINGS = {"some order gets stuck:": "stuck", "some order traps:": "trap", "some order can no longer end:": "end"}
-says_events = "--as <" in subprocess.run([native, "help", "explore"], capture_output=True, text=True).stdout
+says_events = subprocess.run([native, "explore", "-", "--as", "events"], input="words 1; locks 0;\n", capture_output=True, text=True).returncode == 0
 
 
 def orders_in(text):
