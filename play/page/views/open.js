@@ -7,7 +7,7 @@ import { flatWords } from "../command.js";
 /** For `showOrder`: of each order that these words of `explore` tell a button that opens it, where the program says its events. */
 export function openerOf(context, words, able) {
   return ({ tell }, isOnly) => {
-    if (!able.events || (!isOnly && !able.tell)) return null;
+    if (!able.events || (!isOnly && !(able.tell && tell))) return null;
     return openingButton(context, [...words, "--as", "events", ...isOnly ? [] : ["--tell", tell]]);
   };
 }
