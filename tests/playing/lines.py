@@ -1,7 +1,7 @@
 #!/usr/bin/env python3
 """lines.py PROGRAM SCRIPT [CASES]: the script of play/ in node writes what the program writes, byte for byte: standard output, error and status.
 
-All command lines of examples/ and of crates/test_examples, and those of CASES where it is given: a folder with a script `run-cases` that unpacks cases
+All command lines of examples/ and of crates/test_examples, which have to give what their files show, and those of CASES where it is given: a folder with a script `run-cases` that unpacks cases
 (`--unpack`), or one that has been unpacked, NAME.sh for each. They are played in one process; of each file of command lines the first one is
 played by `node SCRIPT` too, with pipes as standard streams. `run` and `--threads` start no thread there: they say that memory ran out, or what the
 program says where it starts none either."""
@@ -22,15 +22,15 @@ THREADED = {"run", "--threads"}
 REFUSED = {"status": 1, "out": b"", "err": b"treadmarks: out of memory\n"}
 
 
-def shown_lines(folder):
-    """Those of test_examples lie in a folder `examples`, as its own test takes them; so do those of examples/."""
-    for root, place in ((TOP / "examples", folder / "top"), (TEST / "data", folder / "test")):
-        place.mkdir()
-        (place / "examples").symlink_to(root)
+def shown_lines():
+    """In the folder that they are shown in, without the words `examples/`, as test_examples plays them; each with what is shown behind it."""
+    for root in (TOP / "examples", TEST / "data"):
         for file in sorted(root.rglob("*.expected")):
-            lines = re.findall(r"^\$ \./run(.*)$", file.read_text(encoding="utf-8"), re.M)
-            for k, line in enumerate(lines):
-                yield {"folder": place, "words": line.split(), "stdin": b"", "is_first": k == 0, "name": f"{file.relative_to(TOP)}: {line.strip()}"}
+            parts = re.split(r"^\$ \./run(.*)\n", file.read_text(encoding="utf-8"), flags=re.M)[1:]
+            for k, (line, told) in enumerate(zip(parts[::2], parts[1::2])):
+                words = [it.removeprefix("examples/") for it in line.split()]
+                stdin = b"" if words else (TEST / "stdin").read_bytes()
+                yield {"folder": root, "words": words, "stdin": stdin, "told": told.encode(), "is_first": k == 0, "name": f"{file.relative_to(TOP)}: {line.strip()}"}
 
 
 def case_lines(cases, folder):
@@ -63,6 +63,12 @@ def in_one_process(script, lines):
         yield {**answer, "out": base64.b64decode(answer["out"]), "err": base64.b64decode(answer["err"])}
 
 
+def is_as_told(line, now):
+    """Whether it is what the file of the line shows."""
+    err = b"standard error:\n" + now["err"] if now["err"] else b""
+    return line.get("told") in (None, now["out"] + err + f"status {now['status']}\n".encode())
+
+
 def differences(was, now):
     said = [f"{part}: {was[part][:80]!r} and {now[part][:80]!r}" for part in ("out", "err") if was[part] != now[part]]
     if was["status"] != now["status"]:
@@ -86,7 +92,7 @@ def main():
     program, script = Path(sys.argv[1]).resolve(), Path(sys.argv[2]).resolve()
     with tempfile.TemporaryDirectory() as name:
         folder = Path(name)
-        lines = list(shown_lines(folder))
+        lines = list(shown_lines())
         if len(sys.argv) > 3:
             (folder / "cases").mkdir()
             lines += case_lines(Path(sys.argv[3]).resolve(), folder / "cases")
@@ -97,7 +103,7 @@ def main():
         expected = []
         for line, now in zip(lines, in_one_process(script, lines), strict=True):
             expected.append(native(program, line))
-            said = differences(expected[-1], now)
+            said = differences(expected[-1], now) + ([] if is_as_told(line, now) else ["it is not what the file shows"])
             if said:
                 failed += 1
                 print(f"FAILS: {line['name']}: {'; '.join(said)}", flush=True)

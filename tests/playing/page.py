@@ -706,7 +706,10 @@ def check_link():
     long = "".join(f"[{k}] = {k * 7919 % 10007} + {k * 104729 % 65537};\n" for k in range(1500))
     drop("long.tm", "words 2000; locks 0;\n" + long)
     value("document.getElementById('link').click()")
-    time.sleep(0.5)
+    for _ in range(60):
+        if "link" in told():
+            break
+        time.sleep(0.05)
     hold("link: one that is too long to send is said to be", "more than many programs send" in told(), told())
     for damaged in ("#nonsense", before[3][:40], before[3][:-7] + "AAAAAAA"):
         open_page(damaged)
