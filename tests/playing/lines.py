@@ -1,10 +1,10 @@
 #!/usr/bin/env python3
 """lines.py PROGRAM SCRIPT [CASES]: the script of play/ in node writes what the program writes, byte for byte: standard output, error and status.
 
-All command lines of examples/ and of crates/test_examples, which have to give what their files show, and those of CASES where it is given: a folder with a script `run-cases` that unpacks cases
-(`--unpack`), or one that has been unpacked, NAME.sh for each. They are played in one process; of each file of command lines the first one is
-played by `node SCRIPT` too, with pipes as standard streams. `run` and `--threads` start no thread there: they say that memory ran out, or what the
-program says where it starts none either."""
+All command lines of examples/ and of crates/test_examples, which have to give what their files show, and those of CASES where it is given: a folder
+with a script `run-cases` that unpacks cases (`--unpack`), or one that has been unpacked, NAME.sh for each. They are played in one process; of each
+file of command lines the first one is played by `node SCRIPT` too, with pipes as standard streams. `run` and `--threads` start no thread there: they
+say that memory ran out, or what the program says where it starts none either."""
 import base64
 import json
 import re
