@@ -1,14 +1,11 @@
-// Which options the program has: asked of its own help, once, so that the page offers what there is and nothing else.
+// Which options the program has: asked of it, once, so that the page offers what there is and nothing else.
 
-/** Where an option of a command changes what the page offers: what the help of the command then has. */
-const signs = {
-  then: ["trace", /--then\b/],
-  exact: ["explore", /\bexact\b/],
-  events: ["explore", /--as\b/],
-  tell: ["explore", /--tell\b/],
-  ends: ["explore", /--ends\b/],
-  ignoreRaces: ["explore", /--ignore-races\b/],
-  sure: ["races", /--sure\b/],
+/** For each option of `explore` a question about a text in which there is nothing to tell: status 0 where the program has the option, else 2. */
+const text = "words 1; locks 0;\n";
+const questions = {
+  exact: ["--memory", "exact", "--outcomes"],
+  events: ["--as", "events"],
+  tell: ["--as", "events", "--tell", "stuck"],
 };
 
 export class Abilities {
@@ -17,7 +14,7 @@ export class Abilities {
     this.asked = null;
   }
 
-  /** The names of `signs`, each with whether the program has it. */
+  /** The names of `questions`, each with whether the program answers. */
   get() {
     this.asked ??= this.ask().catch(fault => {
       this.asked = null;
@@ -28,10 +25,8 @@ export class Abilities {
 
   async ask() {
     const found = {};
-    const helps = new Map();
-    for (const [name, [command, sign]] of Object.entries(signs)) {
-      if (!helps.has(command)) helps.set(command, (await this.program.ask(["help", command], [])).out);
-      found[name] = sign.test(helps.get(command));
+    for (const [name, words] of Object.entries(questions)) {
+      found[name] = (await this.program.ask(["explore", "-", ...words], [], text)).status === 0;
     }
     return found;
   }

@@ -1,9 +1,10 @@
 #!/usr/bin/env python3
 """lines.py PROGRAM SCRIPT [CASES]: the script of play/ in node writes what the program writes, byte for byte: standard output, error and status.
 
-All command lines of examples/ and of crates/test_examples, and those of CASES where it is given: a folder with a script `run-cases` that unpacks cases
-(`--unpack`), or one that has been unpacked, NAME.sh for each. They are played in one process; of each file of command lines the first one is
-played by `node SCRIPT` too, with pipes as standard streams. `run` and `--threads` are left out: no thread is started there."""
+All command lines of examples/ and of crates/test_examples, which have to give what their files show, and those of CASES where it is given: a folder
+with a script `run-cases` that unpacks cases (`--unpack`), or one that has been unpacked, NAME.sh for each. They are played in one process; of each
+file of command lines the first one is played by `node SCRIPT` too, with pipes as standard streams. `run` and `--threads` start no thread there: they
+say that memory ran out, or what the program says where it starts none either."""
 import base64
 import json
 import re
@@ -18,17 +19,18 @@ HERE = Path(__file__).resolve().parent
 TOP = HERE.parent.parent
 TEST = TOP / "crates/test_examples"
 THREADED = {"run", "--threads"}
+REFUSED = {"status": 1, "out": b"", "err": b"treadmarks: out of memory\n"}
 
 
-def shown_lines(folder):
-    """Those of test_examples lie in a folder `examples`, as its own test takes them; so do those of examples/."""
-    for root, place in ((TOP / "examples", folder / "top"), (TEST / "data", folder / "test")):
-        place.mkdir()
-        (place / "examples").symlink_to(root)
+def shown_lines():
+    """In the folder that they are shown in, without the words `examples/`, as test_examples plays them; each with what is shown behind it."""
+    for root in (TOP / "examples", TEST / "data"):
         for file in sorted(root.rglob("*.expected")):
-            lines = re.findall(r"^\$ \./run(.*)$", file.read_text(encoding="utf-8"), re.M)
-            for k, line in enumerate(lines):
-                yield {"folder": place, "words": line.split(), "stdin": b"", "is_first": k == 0, "name": f"{file.relative_to(TOP)}: {line.strip()}"}
+            parts = re.split(r"^\$ \./run(.*)\n", file.read_text(encoding="utf-8"), flags=re.M)[1:]
+            for k, (line, told) in enumerate(zip(parts[::2], parts[1::2])):
+                words = [it.removeprefix("examples/") for it in line.split()]
+                stdin = b"" if words else (TEST / "stdin").read_bytes()
+                yield {"folder": root, "words": words, "stdin": stdin, "told": told.encode(), "is_first": k == 0, "name": f"{file.relative_to(TOP)}: {line.strip()}"}
 
 
 def case_lines(cases, folder):
@@ -61,6 +63,12 @@ def in_one_process(script, lines):
         yield {**answer, "out": base64.b64decode(answer["out"]), "err": base64.b64decode(answer["err"])}
 
 
+def is_as_told(line, now):
+    """Whether it is what the file of the line shows."""
+    err = b"standard error:\n" + now["err"] if now["err"] else b""
+    return line.get("told") in (None, now["out"] + err + f"status {now['status']}\n".encode())
+
+
 def differences(was, now):
     said = [f"{part}: {was[part][:80]!r} and {now[part][:80]!r}" for part in ("out", "err") if was[part] != now[part]]
     if was["status"] != now["status"]:
@@ -68,21 +76,34 @@ def differences(was, now):
     return said + ([now["crash"]] if now.get("crash") else [])
 
 
+def threads_refused(program, script, lines):
+    """Of lines that start threads: how many say so, and how many say something else than the program."""
+    refused = failed = 0
+    for line, now in zip(lines, in_one_process(script, lines), strict=True):
+        if not differences(REFUSED, now):
+            refused += 1
+        elif said := differences(native(program, line), now):
+            failed += 1
+            print(f"FAILS: {line['name']}: {'; '.join(said)}", flush=True)
+    return refused, failed
+
+
 def main():
     program, script = Path(sys.argv[1]).resolve(), Path(sys.argv[2]).resolve()
     with tempfile.TemporaryDirectory() as name:
         folder = Path(name)
-        lines = list(shown_lines(folder))
+        lines = list(shown_lines())
         if len(sys.argv) > 3:
             (folder / "cases").mkdir()
             lines += case_lines(Path(sys.argv[3]).resolve(), folder / "cases")
-        left_out = sum(1 for it in lines if THREADED & set(it["words"]))
+        threaded = [it for it in lines if THREADED & set(it["words"])]
         lines = [it for it in lines if not THREADED & set(it["words"])]
-        failed = 0
+        refused, failed = threads_refused(program, script, threaded)
+        failed += not refused
         expected = []
         for line, now in zip(lines, in_one_process(script, lines), strict=True):
             expected.append(native(program, line))
-            said = differences(expected[-1], now)
+            said = differences(expected[-1], now) + ([] if is_as_told(line, now) else ["it is not what the file shows"])
             if said:
                 failed += 1
                 print(f"FAILS: {line['name']}: {'; '.join(said)}", flush=True)
@@ -96,7 +117,7 @@ def main():
             if said:
                 failed += 1
                 print(f"FAILS: {line['name']} by itself: {'; '.join(said)}", flush=True)
-    print(f"lines: {len(lines)} command lines, {own} of them by themselves too, {left_out} with threads left out; {failed} failed")
+    print(f"lines: {len(lines)} command lines, {own} of them by themselves too; {len(threaded)} with threads, of which {refused} are refused one; {failed} failed")
     return 1 if failed else 0
 
 

@@ -5,7 +5,9 @@ end, memory that is refused, a page without its module, sizes and colours. Nothi
 Status 0 where all holds."""
 
 import functools
+import glob
 import http.server
+import itertools
 import json
 import os
 import re
@@ -37,6 +39,17 @@ barrier;
 assert sum == 4;
 print seen[1 - me];
 """
+# A stuck order and a trap; a trap, and an order that can no longer end.
+ORDERS = {
+    "two.tm": """words 2; locks 2;
+if me == 0 { acquire 0; acquire 1; release 1; release 0; }
+else { acquire 1; acquire 0; x = [0]; [0] = x + 1; release 0; release 1; y = 1 / (x - x); }
+""",
+    "hang.tm": """words 2; locks 1;
+if me == 1 { acquire 0; n = [0]; release 0; while n == 0 { acquire 0; n = [0]; release 0; } print n; }
+if me == 0 { acquire 0; f = [1]; if f == 0 { [1] = 1; [0] = 1; } release 0; acquire 0; [0] = 0; release 0; y = 1 / (f - f); }
+""",
+}
 VIEWS = "run step explore chart why trace races choose guess".split()
 # Keeps each document that the page makes, to be read by its address.
 KEEP = """(() => { const make = URL.createObjectURL; window.made = new Map();
@@ -99,7 +112,7 @@ def click(selector):
 
 
 def ask(view):
-    click(f"[data-view={view}]")
+    click(f"#views [data-view={view}]")
 
 
 def example(name):
@@ -120,6 +133,16 @@ def drop(name, text):
       window.dispatchEvent(new DragEvent('drop', {{ dataTransfer: given, bubbles: true, cancelable: true }})); }})()""")
     time.sleep(0.4)
     settle()
+
+
+def press_text(scope, words):
+    """Clicks the button with these words."""
+    value(f"[...document.querySelectorAll('{scope} button')].find(it => it.textContent === {json.dumps(words)}).click()")
+    settle()
+
+
+def chosen_events():
+    return value("[...document.querySelectorAll('.events button')].map(it => it.textContent)")
 
 
 def told():
@@ -255,9 +278,8 @@ def check_trace(name, machine):
 
 
 def check_races(name, machine):
-    for form in ("by lines", "each"):
-        value(f"[...document.querySelectorAll('#result .choice button')].find(it => it.textContent === '{form}').click()")
-        settle()
+    for form in ("by lines", "each", "sure"):
+        press_text("#result .choice", form)
         check_text(f"{name} {form}", machine)
 
 
@@ -286,7 +308,7 @@ def check_explore(name, machine):
     for line, kind in rows if len(answers) == 2 else []:
         expected = "both" if line in outcomes["flat"] and line in outcomes["lazy"] else "only-flat" if line in outcomes["flat"] else "only-lazy"
         same(f"{name}: {line}", kind, expected)
-    check_opened(name, machine, told)
+    check_opened(name, machine, told, lambda: ask("explore"))
     if rows:
         click(".outcomes td.memory button")
         line = heading(".outcome-acts")[0][0]
@@ -301,31 +323,91 @@ def check_explore(name, machine):
         settle()
         line = heading(".outcome-acts .reasons")[0][0]
         hold(f"{name}: {line}", document_text(".outcome-acts").endswith(machine.play(line).stdout))
+    check_opened_outcome(name, machine)
 
 
-def check_opened(name, machine, told):
-    """An order that was told is opened in Choose, by the events that the program says for it, and Explore is asked again."""
-    opener = "[...document.querySelectorAll('.told .hint button')].find(it => it.textContent.startsWith('Choose on'))"
-    if not value(f"!!{opener}"):
-        return
-    value(f"{opener}.click()")
-    settle()
-    events = machine.play(f"{told} --as events").stdout
-    name_of_file = told.split()[2]
-    with open(f"{machine.folder.name}/found.events", "w") as file:
-        file.write(events)
+TELLINGS = {"some order gets stuck:": "stuck", "some order traps:": "trap", "some order can no longer end:": "end"}
+says_events = subprocess.run([native, "explore", "-", "--as", "events"], input="words 1; locks 0;\n", capture_output=True, text=True).returncode == 0
+
+
+def orders_in(text):
+    """The orders that `explore` tells: the line before the acts, and these."""
+    found = re.findall(r"(?:^|(?<=\n))(?!\d+ [a-z]+[^\n]* # line)([^\n]*\n)((?:\d+ [a-z]+(?: \d+)* # line \d+\n)+)", "\n" + text)
+    return [(title.strip(), acts) for title, acts in found]
+
+
+def check_opened(name, machine, told, again):
+    """Each order that is told is opened in Choose, by the events that the program says for it, where it says them; then Explore is asked again."""
+    titles = [title for title, _ in orders_in(machine.play(told).stdout)]
+    count = value("document.querySelectorAll('.told .opens').length")
+    same(f"{name}: which orders can be opened", count, len(titles) if says_events else 0)
     nodes = re.search(r" --nodes \d+|$", told)[0]
-    turns = [json.loads(it) for it in machine.play(f"treadmarks trace {name_of_file}{nodes} --events found.events --as states").stdout.splitlines()[1:]]
-    shown = value("[...document.querySelectorAll('.events button')].map(it => it.textContent)")
-    same(f"{name}: the order is opened", shown, [it["event"] for it in turns][-len(shown):])
-    set_fields(order="oldest")
-    ask("explore")
+    for k in range(count):
+        events = machine.play(f"{told} --as events" + (f" --tell {TELLINGS[titles[k]]}" if count > 1 else "")).stdout
+        value(f"document.querySelectorAll('.told .opens')[{k}].click()")
+        settle()
+        with open(f"{machine.folder.name}/found.events", "w") as file:
+            file.write(events)
+        turns = [json.loads(it) for it in machine.play(f"treadmarks trace {told.split()[2]}{nodes} --events found.events --as states").stdout.splitlines()[1:]]
+        hold(f"{name}: order {k} has events", events and value("document.body.dataset.view") == "choose")
+        same(f"{name}: order {k} is opened", chosen_events(), [it["event"] for it in turns])
+        set_fields(order="oldest")
+        again()
+
+
+def check_orders():
+    """Several orders that are told at once, each by itself: its acts, what is asked of them, and its opening."""
+    for name, text in ORDERS.items():
+        open_page()
+        drop(name, text)
+        set_fields(nodes=2)
+        toggles = ()
+        for toggle in (None, "can all end?", "look for races"):
+            toggles = (*toggles, toggle) if toggle else ()
+
+            def again():
+                ask("explore")
+                for it in toggles:
+                    press_text("#result .fields", it)
+
+            again()
+            machine = Native(text, name)
+            told, status = heading(".told")[0]
+            done = machine.play(told)
+            hold(f"{name}: what is asked", (" --ends" in told) == ("can all end?" in toggles) and (" --ignore-races" in told) == ("look for races" in toggles), told)
+            same(f"{name}: {told}", told_text(".told"), done.stdout)
+            same(f"{name}: status", status, str(done.returncode))
+            orders = orders_in(done.stdout)
+            same(f"{name}: lists of acts", value("document.querySelectorAll('.told .acts').length"), len(orders))
+            for k, (_, acts) in enumerate(orders):
+                place = len(acts.splitlines()) - 1
+                value(f"document.querySelectorAll('.told .acts')[{k}].querySelector('[data-act=\"{place}\"]').click()")
+                settle()
+                machine = Native(text, name, acts=acts)
+                line = value(f"document.querySelectorAll('.told .reasons')[{k}].querySelector('code').textContent")
+                same(f"{name}: order {k}: {line}", value(f"[...document.querySelectorAll('.told .reasons')[{k}].querySelectorAll('.printed > li')].map(it => it.textContent + '\\n').join('')"), machine.play(line).stdout)
+            check_opened(f"{name} {len(toggles)}", machine, told, again)
+
+
+def check_opened_outcome(name, machine):
+    """A run of one flat memory with an outcome is opened likewise; of those of the lazy memory the program says no events."""
+    for memory in ("lazy", "flat"):
+        cell = f"[title*='on the {memory} memory']"
+        if value(f"!!document.querySelector({json.dumps(cell)})"):
+            click(cell)
+            can_be_opened = value("!!document.querySelector('.outcome-acts .opens')")
+            hold(f"{name}: whether a {memory} run can be opened", can_be_opened == (says_events and memory == "flat"), can_be_opened)
+    if value("!!document.querySelector('.outcome-acts .opens')"):
+        events = machine.play(f"{heading('.outcome-acts')[0][0]} --as events").stdout.splitlines()
+        click(".outcome-acts .opens")
+        same(f"{name}: a run with an outcome is opened", chosen_events(), events)
+        set_fields(order="oldest")
+        ask("explore")
 
 
 def check_choose(name, file, text):
-    """From no event on, each time the last that may come; then the first; then undone."""
-    value("[...document.querySelectorAll('.side button')].find(it => it.textContent === 'Start again').click()")
-    settle()
+    """From no event on, each time the last that may come; then the first; then undone; then on by the program's own orders."""
+    press_text(".side", "Start again")
     events = []
     for k in range(12):
         machine = Native(text, file, "".join(f"{it}\n" for it in events))
@@ -337,25 +419,42 @@ def check_choose(name, file, text):
         state = json.loads(machine.play(f"{words} --as states --from 4000000000").stdout)
         may = [f"run {node}" for node, it in enumerate(state["states"]) if it["waits"] == "no"] + [f"deliver {place}" for place in range(len(state["flight"]))]
         same(f"{name} after {k}: what may come", value("[...document.querySelectorAll('.may .next')].map(it => it.dataset.event)"), may)
-        same(f"{name} after {k}: events", value("[...document.querySelectorAll('.events button')].map(it => it.textContent)"), events)
+        same(f"{name} after {k}: events", chosen_events(), events)
+        texts = [f"{it['from']} \u2192 {it['to']} {it['message']}" for it in state["flight"]]
+        shown = value("[...document.querySelectorAll('.may .next')].filter(it => it.querySelector('small')).map(it => [...it.querySelectorAll('.badge')].map(it => it.textContent).join(' \u2192 ') + ' ' + it.querySelector('small').textContent)")
+        same(f"{name} after {k}: the messages in flight", shown, texts)
         if not may:
             break
         events.append(may[-1] if k % 3 else may[0])
         click(f".may [data-event='{events[-1]}']")
     if value("!!document.querySelector('[title^=\"repeat\"]')"):
         click('[title^="repeat"]')
-        hold(f"{name}: repeat", value("[...document.querySelectorAll('.events button')].at(-1).textContent").startswith("repeat"))
+        hold(f"{name}: repeat", chosen_events()[-1].startswith("repeat"))
         click(".undo")
     click(".undo")
-    same(f"{name}: undo", value("[...document.querySelectorAll('.events button')].map(it => it.textContent)"), events[:-1])
-    if value("[...document.querySelectorAll('.side button')].some(it => it.textContent === 'rounds: 10')"):
-        value("[...document.querySelectorAll('.side button')].find(it => it.textContent === 'rounds: 10').click()")
+    same(f"{name}: undo", chosen_events(), events[:-1])
+    events = events[:-1]
+    for then, count in (("oldest", 10), ("newest", None), ("twice", 10), ("random", 10), ("random", None)):
+        check_goes_on(f"{name} {then} {count}", Native(text, file, "".join(f"{it}\n" for it in events)), events, then, count)
+
+
+def check_goes_on(name, machine, events, then, count):
+    """The first ten of the events that the program adds, or all; and back to where it went on from."""
+    words = re.sub(r"^treadmarks step", "treadmarks trace", heading()[0][0])
+    going = machine.play(f"{words} --then {then} {'--seed 5 ' if then == 'random' else ''}--as events").stdout.splitlines()
+    value(f"(it => {{ it.value = '{then}'; it.dispatchEvent(new Event('change')); }})(document.querySelector('.side select'))")
+    if then == "random":
+        value("(it => { it.value = '5'; it.dispatchEvent(new Event('change')); })(document.querySelector('.side input[type=number]'))")
+    if value("document.querySelector('[data-way=all]').disabled"):
+        return same(f"{name}: nothing is left", going, events)
+    press_text(".side", "10 events" if count else "all")
+    same(f"{name}: events", chosen_events()[-400:], going[:len(events) + count if count else None][-400:])
+    if events and len(chosen_events()) == len(going):
+        value(f"document.querySelectorAll('.events button')[{len(events) - 1}].click()")
         settle()
-        machine = Native(text, file, "".join(f"{it}\n" for it in events[:-1]))
-        words = re.sub(r"^treadmarks step", "treadmarks trace", heading()[0][0])
-        going = machine.play(f"{words} --then oldest --as events").stdout.splitlines()
-        shown = value("[...document.querySelectorAll('.events button')].map(it => it.textContent)")
-        same(f"{name}: ten more by rounds", shown, going[:len(events) - 1 + 10])
+    else:
+        drop("back.events", "".join(f"{it}\n" for it in events))
+    return same(f"{name}: back", chosen_events(), events)
 
 
 def check_guess(name, machine, options):
@@ -439,6 +538,10 @@ def undo():
     press("z", "KeyZ", modifiers=2, number=90, commands=["undo"])
 
 
+def bracket(sign):
+    press(sign, {"[": "BracketLeft", "]": "BracketRight"}[sign], modifiers=2, number={"[": 219, "]": 221}[sign])
+
+
 def check_editor():
     open_page()
     first = editor_text()
@@ -467,17 +570,52 @@ def check_editor():
     typed("words 1; locks 1;\nacquire 0;\n[0] = cuont + 1;\n")
     time.sleep(0.8)
     same("editor: warnings", value("[...document.getElementById('text').children].map(it => it.dataset.note ?? '')"), ["", "lock 0 is never released", "cuont is read and never set, so it is 0", ""])
+    typed("x")
+    hold("editor: what was said of an older text goes at once", not value("!!document.querySelector('#text [data-note], #lint > *')"))
+    press("Backspace", number=8)
+    before = editor_text()
+    bracket("]")
+    hold("editor: an empty line is indented", editor_text() == before[:-1] + "    \n", editor_text())
+    value("(text => getSelection().setBaseAndExtent(text.children[1].firstChild, 3, text.children[2].firstChild, 2))(document.getElementById('text'))")
+    bracket("]")
+    indented = before.replace("acquire", "    acquire").replace("[0]", "    [0]")[:-1] + "    \n"
+    same("editor: two lines are indented", editor_text(), indented)
+    bracket("[")
+    same("editor: and taken back", editor_text(), before[:-1] + "    \n")
     press("Tab", number=9)
-    hold("editor: Tab indents", editor_text().endswith("    \n"))
-    press("Escape", number=27)
-    press("Tab", number=9)
-    hold("editor: Escape, Tab leaves", not value("document.getElementById('text').contains(document.activeElement)"))
+    hold("editor: Tab leaves", not value("document.getElementById('text').contains(document.activeElement)"))
+    same("editor: and changes nothing", editor_text(), before[:-1] + "    \n")
     value("""(() => { const paste = new DataTransfer(); paste.setData('text/plain', 'a = <1>;\\n\\nb');
       document.getElementById('text').focus(); getSelection().selectAllChildren(document.getElementById('text'));
       document.getElementById('text').dispatchEvent(new ClipboardEvent('paste', { clipboardData: paste, bubbles: true, cancelable: true })); })()""")
     same("editor: pasted", editor_text(), "a = <1>;\n\nb\n")
     ask("run")
     check_text("a fault", Native(editor_text(), value("document.getElementById('name').value")))
+
+
+def check_examples():
+    """All programs of examples/ are there, each with the sentence that its comment begins with, and with the options and events of its run."""
+    open_page()
+    listed = value("[...document.querySelectorAll('.example')].map(it => [it.querySelector('code').textContent.trim(), it.querySelector('.says').textContent])")
+    files = {os.path.basename(it): it for it in glob.glob(f"{examples}/**/*.tm", recursive=True)}
+    same("examples: all of them", sorted(name for name, _ in listed), sorted(files))
+    for name, says in listed:
+        with open(files[name]) as file:
+            comment = " ".join(line[1:].strip() for line in itertools.takewhile(lambda it: it.startswith("#"), file))
+        hold(f"examples: {name} has a sentence", says.endswith((".", "?")) and comment.startswith(says), says, comment)
+    for name in ("wide.tm", "stopping.tm", "collecting.tm", "late.tm"):
+        example(name)
+        ask("run")
+        with open(files[name]) as file:
+            text = file.read()
+        events = files[name][:-3] + ".events"
+        machine = Native(text, name, open(events).read() if os.path.exists(events) else "")
+        check_text(f"the run of {name}", machine)
+        line = heading()[0][0]
+        words = files[name][:-3] + ".words"
+        given = open(words).read().split() if os.path.exists(words) else {"collecting.tm": ["--collect", "3"]}.get(name, [])
+        pairs = {(one, other) for one, other in zip(given[::2], given[1::2]) if (one, other) != ("--page", "64")}
+        hold(f"examples: {name} with the options of its run", all(f" {one} {other}" in line for one, other in pairs) and ("--events" in line) == os.path.exists(events), line)
 
 
 def check_keys():
@@ -503,13 +641,53 @@ def check_keys():
     typed("rsx")
     hold("what is typed in the text is no command", value("document.body.dataset.view") == "guess" or not value("document.body.dataset.view"), value("document.body.dataset.view"))
     hold("it is text", "rsx" in editor_text())
-    press("Escape", number=27)
     seen = set()
     for _ in range(60):
         press("Tab", number=9)
         seen.add(value("document.activeElement.id || document.activeElement.textContent"))
     hold("Tab comes to each part", {"Run", "Guess", "nodes", "order", "examples-button"} <= seen, seen)
     hold("names of fields and buttons", value("[...document.querySelectorAll('button, input, select')].every(it => it.textContent.trim() || it.ariaLabel || it.labels?.length)"))
+
+
+def check_keys_alone():
+    """A lesson without a pointer: why an act, a run of chosen events, and a guess."""
+    open_page()
+    value("document.activeElement.blur()")
+    press("o", text="o")
+    typed("lost upd")
+    press("Tab", number=9)
+    press("ArrowDown", number=40)
+    press("Enter", text="\r", number=13)
+    settle()
+    same("keys: an example is found by its name", value("document.getElementById('name').value"), "lost_updates.tm")
+    press("w", text="w")
+    settle()
+    for _ in range(60):
+        press("Tab", number=9)
+        if value("!!document.activeElement.closest('.acts')"):
+            break
+    for _ in range(4):
+        press("ArrowDown", number=40)
+    press("Enter", text="\r", number=13)
+    settle()
+    machine = Native(editor_text(), "lost_updates.tm")
+    check_text("keys: why", machine, "#result .reasons .printed", ".reasons")
+    hold("keys: of the act that was gone to", " --act 4" in heading(".reasons")[0][0], heading(".reasons"))
+    press("n", text="n")
+    settle()
+    for key in ("1", "2", "1", "3"):
+        first = value(f"document.querySelectorAll('button.next')[{int(key) - 1}].dataset.event")
+        press(key, text=key)
+        settle()
+        same(f"keys: {key} chooses", chosen_events()[-1], first)
+    press("u", text="u")
+    settle()
+    same("keys: undone", len(chosen_events()), 3)
+    press("g", text="g")
+    settle()
+    press("1", text="1")
+    settle()
+    hold("keys: a guess", value("!!document.querySelector('.guess .right, .guess .wrong')"))
 
 
 def check_link():
@@ -527,13 +705,42 @@ def check_link():
     same("link: text", editor_text(), before[0])
     same("link: command and status", heading(), before[1])
     same("link: answer", text_of(".reasons .printed"), before[2])
+    long = "".join(f"[{k}] = {k * 7919 % 10007} + {k * 104729 % 65537};\n" for k in range(1500))
+    drop("long.tm", "words 2000; locks 0;\n" + long)
+    value("document.getElementById('link').click()")
+    for _ in range(60):
+        if "link" in told():
+            break
+        time.sleep(0.05)
+    hold("link: one that is too long to send is said to be", "more than many programs send" in told(), told())
     for damaged in ("#nonsense", before[3][:40], before[3][:-7] + "AAAAAAA"):
         open_page(damaged)
         hold(f"link: {damaged[:20]} is said to be damaged", "damaged" in told() and "late.tm" == value("document.getElementById('name').value"), told())
 
 
+def check_opened_file():
+    """By the button and the browser's own dialog."""
+    browser.call("Page.setInterceptFileChooserDialog", enabled=True)
+    with tempfile.NamedTemporaryFile("w", suffix=".tm") as file:
+        file.write("words 1; locks 0;\nprint 12;\n")
+        file.flush()
+        browser.events.clear()
+        browser.call("Runtime.evaluate", expression="document.getElementById('open').click()", userGesture=True)
+        for _ in range(40):
+            chooser = next((it["params"] for it in browser.events if it.get("method") == "Page.fileChooserOpened"), None)
+            if chooser:
+                break
+            value("new Promise(done => setTimeout(done, 50))")
+        browser.call("DOM.setFileInputFiles", files=[file.name], backendNodeId=chooser["backendNodeId"])
+        time.sleep(0.4)
+        settle()
+        same("a file is opened", [editor_text(), value("document.getElementById('name').value")], ["words 1; locks 0;\nprint 12;\n", os.path.basename(file.name)])
+    browser.call("Page.setInterceptFileChooserDialog", enabled=False)
+
+
 def check_files():
     open_page()
+    check_opened_file()
     saved = "(async () => await [...window.made.values()].at(-1).text())()"
     value("document.getElementById('save').click()")
     same("save: the text", value(saved), editor_text())
@@ -546,8 +753,8 @@ def check_files():
     hold("a file that is no text is refused in words", told() == "picture.tm is no text", told())
     same("the text stays", editor_text(), "words 1; locks 0;\nprint me;\n")
     drop("given.events", "run 1\nrun 0\nrun 7\nrun 1\n")
-    same("events dropped: those that are not skipped", value("[...document.querySelectorAll('.events button')].map(it => it.textContent)"), ["run 1", "run 0", "run 1"])
-    value("[...document.querySelectorAll('.side button')].find(it => it.textContent === 'Save events').click()")
+    same("events dropped: those that are not skipped", chosen_events(), ["run 1", "run 0", "run 1"])
+    press_text(".side", "Save events")
     same("save: events", value(saved), "run 1\nrun 0\nrun 1\n")
     ask("run")
     hold("the chosen events are played", heading()[0][0].endswith("--nodes 2 --events given_name.events"))
@@ -565,12 +772,11 @@ def check_haste():
     open_page()
     example("counter.tm")
     ask("choose")
-    value("[...document.querySelectorAll('.side button')].find(it => it.textContent === 'Start again').click()")
-    settle()
+    press_text(".side", "Start again")
     value("(() => { for (const node of [3, 1, 2]) document.querySelector(`[data-event='run ${node}']`).click(); })()")
     settle()
-    same("three quick choices", value("[...document.querySelectorAll('.events button')].map(it => it.textContent)"), ["run 3", "run 1", "run 2"])
-    value("(() => { for (const view of ['step', 'explore', 'trace', 'why', 'run']) document.querySelector(`[data-view=${view}]`).click(); })()")
+    same("three quick choices", chosen_events(), ["run 3", "run 1", "run 2"])
+    value("(() => { for (const view of ['step', 'explore', 'trace', 'why', 'run']) document.querySelector(`#views [data-view=${view}]`).click(); })()")
     settle()
     set_fields(order="oldest")
     settle()
@@ -583,20 +789,26 @@ def check_stop():
     value("getSelection().selectAllChildren(document.getElementById('text'))")
     browser.call("Input.insertText", text="words 64; locks 1; while i < 60000 { acquire 0; x = [0]; [0] = x + 1; release 0; i = i + 1; }")
     set_fields(order="oldest", nodes=8)
-    value("document.querySelector('[data-view=run]').click()")
+    value("document.querySelector('#views [data-view=run]').click()")
     time.sleep(2)
+    value("document.getElementById('text').focus()")
+    typed(" p")
+    time.sleep(0.8)
+    hold("stop: the page answers while the program runs", editor_text().rstrip().endswith("p") and "here may stand" in value("document.querySelector('#text [data-note]')?.dataset.note ?? ''"))
+    for _ in range(2):
+        press("Backspace", number=8)
     hold("stop: runs", value("document.body.dataset.state") == "runs" and value("document.getElementById('state').textContent").startswith("runs"))
     start = time.time()
     value("document.getElementById('stop').click()")
     wait(most=5)
     took = time.time() - start
     hold(f"stop: {took:.2f} s", took < 0.5 and value("document.getElementById('state').textContent") == "stopped")
-    value("document.querySelector('[data-view=run]').click()")
+    value("document.querySelector('#views [data-view=run]').click()")
     time.sleep(1)
     press("Escape", number=27)
     wait(most=5)
     hold("stop: by Escape", value("document.getElementById('state').textContent") == "stopped")
-    value("document.querySelector('[data-view=run]').click()")
+    value("document.querySelector('#views [data-view=run]').click()")
     time.sleep(1)
     example("hello.tm")
     ask("run")
@@ -628,12 +840,16 @@ def check_events():
     drop("turns.tm", "words 1; locks 0;\nwhile i < 900 { i = i + 1; }\n")
     set_fields(nodes=2)
     ask("choose")
-    value("(it => it ? it.click() : [...document.querySelectorAll('.side button')].find(it => it.textContent === 'rounds').click())([...document.querySelectorAll('.side button')].find(it => it.textContent === 'rounds: all'))")
-    settle()
+    press_text(".side", "all")
     (line, status), = heading()
     hold("many turns: the last part is shown", " --from " in line, line)
     events = Native(editor_text(), "turns.tm").play("treadmarks trace turns.tm --nodes 2 --as events").stdout
     same("many turns: the page", document_text(), Native(editor_text(), "turns.tm", events).play(line).stdout)
+    press_text(".side", "Undo")
+    fewer = "".join(events.splitlines(True)[:-1])
+    same("many turns: undone, the rest is played as before", document_text(), Native(editor_text(), "turns.tm", fewer).play(heading()[0][0]).stdout)
+    press_text(".side", "Save events")
+    same("many turns: all events are saved", value("(async () => await [...window.made.values()].at(-1).text())()"), fewer)
 
 
 class Quiet(http.server.SimpleHTTPRequestHandler):
@@ -667,7 +883,7 @@ def check_without_module():
             made.write(re.sub(r'(<script type="text/plain" id="wasm">)[^<]*', r"\1", given.read()))
         browser.open(f"file://{page}")
         for view in VIEWS:
-            value(f"document.querySelector('[data-view={view}]').click()")
+            value(f"document.querySelector('#views [data-view={view}]').click()")
             time.sleep(0.2)
             hold(f"without the program {view} shows nothing", not value("document.querySelector('#result .command, #result .printed, #result iframe')?.textContent"))
         hold("and says so", "cannot run the program" in value("document.getElementById('state').textContent"))
@@ -712,7 +928,7 @@ if shots:
     os.makedirs(shots, exist_ok=True)
 browser.size(1366, 768)
 open_page()
-CHECKS = (check_programs, check_editor, check_keys, check_link, check_files, check_haste, check_stop, check_long, check_events, check_server, check_without_module, take_shots)
+CHECKS = (check_programs, check_orders, check_examples, check_editor, check_keys, check_keys_alone, check_link, check_files, check_haste, check_stop, check_long, check_events, check_server, check_without_module, take_shots)
 for check in [it for it in CHECKS if not sys.argv[4:] or it.__name__ in sys.argv[4:]]:
     check()
     check_quiet()
