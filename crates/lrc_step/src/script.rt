@@ -306,7 +306,7 @@ function draw() {
   drawHeadings(pages);
   drawStory(turn, flight);
   drawTimeline(turn, states, flight, scale);
-  reveal(regions.source.querySelector(".now, .badge"), regions.source);
+  reveal(regions.source.querySelector(".now") ?? regions.source.querySelector(".badge"), regions.source);
   if (turn) reveal(document.getElementById(`node-${turn.node}`), regions.nodes);
   for (const word of regions.nodes.querySelectorAll(".node.now .word.touched")) revealWord(word);
   regions.slider.value = at;
