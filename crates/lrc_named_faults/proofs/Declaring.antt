@@ -1,20 +1,18 @@
 -- A constant and a function, declared behind what is.
-use Rattle.std.proofs.Common.{◌≡◌, ◌≤◌, ◌<◌, ◌+◌, ◌⊎◌, inl, inr, ℕ, Bool, true, List, [], ◌∷◌, ◌++◌, refl, sym, ap, subst, ◌∙◌, arith}
-use Rattle.std.specs.Prelude.{Option, Some, None}
+use Rattle.std.proofs.Common.{◌≡◌, inl, inr, ℕ, List, [], ◌∷◌, refl, sym, ap, subst, arith}
+use Rattle.std.specs.Prelude.{None}
 use Rattle.lrc_named_tree.specs.Tree.{Named, Expression, Declaration}
 use Rattle.lrc_named_tree.specs.Tree as tree
-use Rattle.lrc_named_names.specs.Names.{Declared, Meaning, constant, function}
+use Rattle.lrc_named_names.specs.Names.{Declared, constant, function}
 use Rattle.lrc_named_names.specs.View.{declared_of}
 use Rattle.lrc_named_constants.specs.Constant.{names_of}
 use Rattle.lrc_named_constants.specs.Layout.{Declares, a_constant, a_function, as_meaning}
 use Rattle.lrc_named_constants.specs.Well.{bytes_of}
 use Rattle.lrc_named_expression_faults.specs.declared.extent.Extent.{Extent}
-use Rattle.lrc_named_expression_faults.specs.declared.fault.Fault.{Fault}
 use Rattle.lrc_named_expression_faults.specs.Extent.{IsExtent}
-use Rattle.lrc_named_expression_faults.specs.Fault.{IsFirstOf, IsNone}
+use Rattle.lrc_named_expression_faults.specs.Fault.{IsNone}
 use Rattle.lrc_named_faults.specs.declared.layout.Layout as code_layout
-use Rattle.lrc_named_faults.specs.declared.values.Found.{Found}
-use Rattle.lrc_named_faults.specs.declared.values.Found.TheVariants.{Good, Bad}
+use Rattle.lrc_named_faults.specs.declared.values.Found.TheVariants.{Good}
 use Rattle.lrc_named_faults.specs.Declarations.{IsClean, IsInBody, IsInConstant, body_scope, constant_scope, varying}
 use Rattle.lrc_named_faults.specs.Found.{IsFunctionFound, IsNamedConstantFound, IsTaken}
 use Rattle.lrc_named_faults.specs.Layout.{IsLaidOut, IsOneMore}

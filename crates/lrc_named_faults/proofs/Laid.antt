@@ -1,6 +1,6 @@
 -- What is declared, with one name more.
-use Rattle.std.proofs.Common.{◌≡◌, ◌≤◌, ◌+◌, ◌⊎◌, inl, inr, ℕ, List, [], ◌∷◌, ◌++◌, length, refl, sym, ap, subst, ◌∙◌, arith, length-append}
-use Rattle.std.specs.Prelude.{Option, Some, None}
+use Rattle.std.proofs.Common.{◌≡◌, ◌≤◌, ◌+◌, ◌⊎◌, inl, inr, List, [], ◌∷◌, ◌++◌, length, sym, ap, subst, ◌∙◌, length-append}
+use Rattle.std.specs.Prelude.{Option, Some}
 use Rattle.lrc_named_tree.specs.Tree.{Named, Expression}
 use Rattle.lrc_named_names.specs.Names.{Meaning, function}
 use Rattle.lrc_named_names.specs.View.{declared_of}

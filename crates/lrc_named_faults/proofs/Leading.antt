@@ -1,9 +1,9 @@
 -- Items and declarations, taken one behind the other.
-use Rattle.std.proofs.Common.{◌≡◌, ◌⊎◌, inl, inr, ℕ, List, [], ◌∷◌, refl, sym, ap, subst, ◌∙◌}
-use Rattle.std.specs.Prelude.{Option, Some, None}
+use Rattle.std.proofs.Common.{inl, inr, ℕ, List, ◌∷◌, refl, subst}
+use Rattle.std.specs.Prelude.{Option, Some}
 use Rattle.lrc_named_tree.specs.Tree.{Block, Declaration, Place}
 use Rattle.lrc_named_names.specs.Names.{Declared}
-use Rattle.lrc_named_constants.specs.Layout.{AreDeclared, Declares, HaveSizes, one_declaration, one_more_lock, one_more_shared}
+use Rattle.lrc_named_constants.specs.Layout.{Declares, HaveSizes, one_declaration, one_more_lock, one_more_shared}
 use Rattle.lrc_named_constants.proofs.Unique.{one_list_of_sizes}
 use Rattle.lrc_named_expression_faults.specs.declared.fault.Fault.{Fault}
 use Rattle.lrc_named_expression_faults.specs.Fault.{IsFirstOf, IsNone}
@@ -11,7 +11,7 @@ use Rattle.lrc_named_expression_faults.proofs.First.{same_first}
 use Rattle.lrc_named_faults.specs.Declarations.{IsInDeclaration, IsInItem, IsInItems, Kind, words, locks, with_item}
 use Rattle.lrc_named_faults.specs.Found.{AreItemsDeclared}
 use Rattle.lrc_named_faults.specs.Program.{IsInProgram, counted_with}
-use Rattle.lrc_named_faults.specs.Checked.{LeadsTo, counted_in}
+use Rattle.lrc_named_faults.specs.Checked.{LeadsTo}
 use Rattle.lrc_named_faults.proofs.Declared.{one_table}
 
 -- items lead up to some that are left

@@ -1,5 +1,5 @@
 -- Items and declarations of the code, as a loop comes to them.
-use Rattle.std.proofs.Common.{◌≡◌, ◌≤◌, ◌<◌, ◌+◌, ◌⊎◌, inl, inr, ◌||◌, ℕ, Bool, true, false, List, [], ◌∷◌, map, length, drop, get_or, nat_lt, refl, sym, ap, subst, ◌∙◌, add-one, arith}
+use Rattle.std.proofs.Common.{◌≡◌, ◌≤◌, ◌<◌, ◌+◌, ◌||◌, ℕ, Bool, true, false, List, [], ◌∷◌, map, length, drop, get_or, nat_lt, refl, sym, ap, subst, ◌∙◌, add-one, arith}
 use Rattle.std.specs.Prelude.{Option, Some, None, IsSome, is_some}
 use Rattle.std.proofs.Math.Seq.{drop-cons}
 use Rattle.std.proofs.lemmas.Bool.Decides.{nat_tests}
@@ -11,19 +11,18 @@ use Rattle.lrc_named_tree.specs.Tree as tree
 use Rattle.lrc_named_tree.specs.View.{declaration_of, place_of}
 use Rattle.lrc_named_names.specs.Names.{Declared}
 use Rattle.lrc_named_names.specs.View.{declared_of}
-use Rattle.lrc_named_constants.specs.Layout.{AreDeclared, Declares, HaveSizes, a_node_count, locks as some_locks, no_declaration, no_more_lock, no_more_shared, shared_items}
+use Rattle.lrc_named_constants.specs.Layout.{HaveSizes, a_node_count, locks as some_locks, no_declaration, no_more_lock, no_more_shared, shared_items}
 use Rattle.lrc_named_expression_faults.specs.declared.fault.Fault.{Fault}
 use Rattle.lrc_named_expression_faults.specs.Fault.{IsFirstOf, IsNone}
 use Rattle.lrc_named_expression_faults.proofs.First.{same_first}
 use Rattle.lrc_named_statement_faults.specs.Statements.{IsInStatements}
 use Rattle.lrc_named_faults.specs.declared.layout.Layout as code_layout
-use Rattle.lrc_named_faults.specs.declared.values.Found.{Found}
 use Rattle.lrc_named_faults.specs.declared.values.Found.TheVariants.{Good, Bad}
 use Rattle.lrc_named_faults.specs.Declarations.{IsInDeclaration, IsInItem, IsInItems, Kind, words, locks, with_item}
 use Rattle.lrc_named_faults.specs.Found.{AreItemsDeclared, AreItemsTaken, IsTaken}
 use Rattle.lrc_named_faults.specs.Layout.{IsLaidOut}
-use Rattle.lrc_named_faults.specs.Program.{IsFaultOf, IsInProgram, counted_with}
-use Rattle.lrc_named_faults.specs.Checked.{AreDeclarationsTaken, IsChecked, LeadsTo, counted_in}
+use Rattle.lrc_named_faults.specs.Program.{IsFaultOf, IsInProgram}
+use Rattle.lrc_named_faults.specs.Checked.{AreDeclarationsTaken, IsChecked, LeadsTo}
 use Rattle.lrc_named_faults.proofs.Leading.{ItemsLead, fault_here, items_fault, items_next, next}
 
 one_left : {A : Type 0} (xs : List A) (i : ℕ) (x : A) → i < length xs → x ≡ get_or xs i x → drop i xs ≡ x ∷ drop (i + 1) xs

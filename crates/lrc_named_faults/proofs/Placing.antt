@@ -1,8 +1,8 @@
 -- The faults of an item, and what it declares.
-use Rattle.std.proofs.Common.{◌≡◌, ◌≤◌, ◌<◌, ◌+◌, ◌⊎◌, inl, inr, ℕ, min, Bool, true, false, List, [], ◌∷◌, ◌++◌, refl, sym, ap, subst, ◌∙◌, arith}
+use Rattle.std.proofs.Common.{◌≡◌, ◌≤◌, ◌<◌, ◌+◌, ◌⊎◌, inl, inr, ℕ, min, Bool, true, List, [], ◌∷◌, ◌++◌, refl, ap, subst, ◌∙◌, arith}
 use Rattle.std.specs.Prelude.{Option, Some, None, if◌then◌else◌}
 use Rattle.std.proofs.lemmas.Bool.{cases_lt}
-use Rattle.lrc_named_tree.specs.Tree.{Named, Expression, Expressions, Place}
+use Rattle.lrc_named_tree.specs.Tree.{Named, Expression, Place}
 use Rattle.lrc_named_names.specs.Elements.{elements}
 use Rattle.lrc_named_names.specs.Names.{Declared, Meaning, function}
 use Rattle.lrc_named_names.specs.Names as table_names
@@ -15,7 +15,7 @@ use Rattle.lrc_named_expression_faults.specs.declared.fault.FaultKind.TheVariant
 use Rattle.lrc_named_expression_faults.specs.Fault.{IsFirstOf, IsNone, earlier, fault_at}
 use Rattle.lrc_named_expression_faults.proofs.First.{joined, same_first, where_first}
 use Rattle.lrc_named_faults.specs.declared.layout.Layout as code_layout
-use Rattle.lrc_named_faults.specs.Declarations.{IsInItem, IsInName, IsInSizes, IsTooLarge, Kind, words, locks, constant_scope, limit_of, most, used, with_item}
+use Rattle.lrc_named_faults.specs.Declarations.{IsInItem, IsInName, IsInSizes, IsTooLarge, Kind, words, locks, constant_scope, limit_of, most, used}
 use Rattle.lrc_named_faults.specs.Found.{IsItemDeclared}
 use Rattle.lrc_named_faults.specs.Layout.{IsLaidOut, IsOneMore}
 use Rattle.lrc_named_faults.proofs.Laid.{laid_out_more}

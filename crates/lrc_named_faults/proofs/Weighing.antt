@@ -1,5 +1,5 @@
 -- An expression has one weight.
-use Rattle.std.proofs.Common.{◌≡◌, ◌+◌, ◌<◌, ◌≤◌, ℕ, min, List, refl, sym, ap, subst, ◌∙◌, arith}
+use Rattle.std.proofs.Common.{◌≡◌, ◌+◌, ◌<◌, ◌≤◌, ℕ, List, refl, ap, subst, arith}
 use Rattle.std.specs.Prelude.{Option, Some}
 use Rattle.lrc_named_tree.specs.Tree.{Named, Expression, Expressions}
 use Rattle.lrc_named_names.specs.Names.{Declared, Meaning, meaning_of}

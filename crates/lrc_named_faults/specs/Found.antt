@@ -1,6 +1,6 @@
 -- What is found of an item and of a declaration: what it declares, or the first fault.
 use Rattle.std.specs.declared.alloc.Global.{Global}
-use Rattle.std.specs.Prelude.{◌≡◌, ◌≤◌, ◌+◌, ◌⊎◌, ℕ, Option, Some, None, List, [], ◌∷◌, ◌++◌, Vec}
+use Rattle.std.specs.Prelude.{◌≡◌, ◌≤◌, ◌+◌, ◌⊎◌, ℕ, Option, Some, None, List, [], ◌∷◌, Vec}
 use Rattle.lrc_named_tree.specs.Tree.{Named, Expression, Expressions, Place, Declaration}
 use Rattle.lrc_named_names.specs.declared.item.Item as code_item
 use Rattle.lrc_named_names.specs.Elements.{elements}

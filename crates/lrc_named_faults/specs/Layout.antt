@@ -1,5 +1,5 @@
 -- What is known of what is declared so far, where it has no fault.
-use Rattle.std.specs.Prelude.{◌≡◌, ◌≤◌, length, List, [], ◌∷◌, ◌++◌}
+use Rattle.std.specs.Prelude.{◌≡◌, ◌≤◌, length, [], ◌∷◌, ◌++◌}
 use Rattle.lrc_named_names.specs.Names.{Declared}
 use Rattle.lrc_named_names.specs.View.{declared_of}
 use Rattle.lrc_named_constants.specs.Layout.{locks_in, words_in}

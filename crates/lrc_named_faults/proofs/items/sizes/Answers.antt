@@ -1,5 +1,5 @@
 -- Each size is found, or its fault.
-use Rattle.std.proofs.Common.{take, refl, subst}
+use Rattle.std.proofs.Common.{subst}
 use Rattle.lrc_named_tree.specs.View.{expression_of}
 use Rattle.lrc_named_names.specs.View.{declared_of}
 use Rattle.lrc_named_faults.specs.Values.{IsSizeFound}

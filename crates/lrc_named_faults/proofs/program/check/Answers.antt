@@ -1,13 +1,12 @@
 -- A fault of the declarations, or one of the statements, or none.
-use Rattle.std.proofs.Common.{map, ap, subst, ◌∙◌}
-use Rattle.std.specs.Prelude.{None, Some}
+use Rattle.std.proofs.Common.{map, subst}
 use Rattle.lrc_named_tree.specs.View.{block_of, declaration_of, program_of}
 use Rattle.lrc_named_names.specs.View.{declared_of}
 use Rattle.lrc_named_expression_faults.specs.Fault.{IsFirstOf}
 use Rattle.lrc_named_statement_faults.specs.Statements.{IsInStatements}
 use Rattle.lrc_named_faults.specs.Checked.{AreDeclarationsTaken}
 use Rattle.lrc_named_faults.proofs.Laid.{laid_out_is_sound}
-use Rattle.lrc_named_faults.proofs.Looping.{faulty_declarations, faulty_statements, without_fault}
+use Rattle.lrc_named_faults.proofs.Looping.{faulty_declarations, without_fault}
 use Rattle.lrc_named_faults.proofs.program.check.Goals as goal
 
 pub returns-in-Some : goal.returns-in-Some

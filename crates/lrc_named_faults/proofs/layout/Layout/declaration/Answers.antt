@@ -1,5 +1,5 @@
 -- Each form of a declaration.
-use Rattle.std.proofs.Common.{map, ap, sym, subst, ◌∙◌}
+use Rattle.std.proofs.Common.{map, sym, subst}
 use Rattle.std.specs.Prelude.{IfOk}
 use Rattle.lrc_named_tree.specs.View.{declaration_of, expression_of, named_of, place_of}
 use Rattle.lrc_named_tree.specs.Tree as tree

@@ -1,6 +1,5 @@
 -- Each declaration is taken behind those before it.
 use Rattle.std.proofs.Common.{map, subst}
-use Rattle.std.specs.Prelude.{None, Some}
 use Rattle.lrc_named_tree.specs.View.{declaration_of}
 use Rattle.lrc_named_names.specs.View.{declared_of}
 use Rattle.lrc_named_faults.specs.Found.{IsTaken}

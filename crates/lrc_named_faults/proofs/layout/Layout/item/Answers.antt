@@ -1,12 +1,12 @@
 -- The name, the sizes, and how many words or locks there would be.
-use Rattle.std.proofs.Common.{◌≡◌, ◌≤◌, ◌<◌, ◌+◌, [], min, true, ap, sym, subst, ◌∙◌}
+use Rattle.std.proofs.Common.{◌≡◌, ◌≤◌, ◌<◌, ◌+◌, min, ap, sym, subst, ◌∙◌}
 use Rattle.std.specs.Prelude.{Some, None}
 use Rattle.lrc_named_tree.specs.View.{expressions_of, place_of}
 use Rattle.lrc_named_names.specs.Elements.{elements}
 use Rattle.lrc_named_names.specs.View.{declared_of}
 use Rattle.lrc_named_expression_faults.specs.declared.fault.FaultKind.TheVariants.{OverLimit}
 use Rattle.lrc_named_expression_faults.specs.Fault.{fault_at}
-use Rattle.lrc_named_faults.specs.Declarations.{most, used}
+use Rattle.lrc_named_faults.specs.Declarations.{most}
 use Rattle.lrc_named_faults.specs.Found.{AreSizesFound, kind_of}
 use Rattle.lrc_named_faults.proofs.Placing.{bad_sizes, count_exact, count_few, count_some, counted_over, good_sizes, over_counted, room_left}
 use Rattle.lrc_named_faults.proofs.layout.Layout.item.Goals as goal

@@ -1,5 +1,5 @@
 -- Each item is declared behind those before it.
-use Rattle.std.proofs.Common.{◌≡◌, map, refl, subst, ◌∙◌}
+use Rattle.std.proofs.Common.{map, refl, subst, ◌∙◌}
 use Rattle.lrc_named_tree.specs.View.{place_of}
 use Rattle.lrc_named_names.specs.View.{declared_of}
 use Rattle.lrc_named_faults.specs.Found.{IsItemFound, kind_of}
