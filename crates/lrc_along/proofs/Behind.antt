@@ -1,5 +1,5 @@
 -- What deliveries behind a run along an order make.
-use Rattle.std.proofs.Common.{◌≡◌, ◌∙◌, ◌⊎◌, ◌<◌, ◌++◌, ℕ, suc, true, List, [], ◌∷◌, Some, inl, inr, sym, ap, subst, length, append-nil, append_assoc, arith}
+use Rattle.std.proofs.Common.{◌≡◌, ◌∙◌, ◌++◌, ℕ, suc, true, List, [], ◌∷◌, Some, inl, inr, sym, ap, subst, length, append-nil, append_assoc, arith}
 use Rattle.std.specs.Prelude.{All}
 use Rattle.std.proofs.lemmas.List.Elements.{All-append}
 use Rattle.std.proofs.lemmas.Option.{same_Some, slice_get_within}
@@ -41,8 +41,7 @@ module _ (program : Program) (nodes : ℕ) (options : OptionsRecord) (at : World
       let is : event ≡ kinds.Deliver 0 = first_of IsDelivery event rest all in
       let e : event_on world (kinds.Deliver 0) ≡ Some next.0 = subst (λ w. event_on w (kinds.Deliver 0) ≡ Some next.0) same (ap (event_on b.0) (sym is) ∙ b.2) in
       let on = behind program nodes options before world at runs begun next.0 e in
-      delivered rest (before ++ event ∷ []) next.0 end (more ++ on.more) next.1
-      (
+      delivered rest (before ++ event ∷ []) next.0 end (more ++ on.more) next.1 (
         on.acts_are ∙ ap (λ a. a ++ on.more) stand.0 ∙ append_assoc at.acts more on.more,
         All-append (MayStandBehind at) more on.more stand.1 on.stand,
       )

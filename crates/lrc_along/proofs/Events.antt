@@ -14,7 +14,7 @@ use Rattle.lrc_protocol.specs.Run.{Flying, Input, Logged, Logging, World, after_
 use Rattle.lrc_protocol.specs.Run.{logs, outcome_of, refused, run_of, step_of, too_large, with_turn}
 use Rattle.lrc_protocol.specs.Run as log
 use Rattle.lrc_protocol.specs.Turn.{TurnRecord, done}
-use Rattle.lrc_protocol.proofs.Worlds.{Entries, IsEntry, logs-entries}
+use Rattle.lrc_protocol.proofs.Worlds.{Entries, logs-entries}
 
 -- a node has taken a turn of an input
 pub record Moves (world next : World) (n : ℕ) (input : Input) : Type 0 where

@@ -1,10 +1,10 @@
 -- One event more along an order, or behind it.
-use Rattle.std.proofs.Common.{◌≡◌, ◌∙◌, ◌⊎◌, ◌<◌, ◌≤◌, ◌+◌, ◌++◌, ℕ, zero, suc, Bool, true, false, List, [], ◌∷◌, Option, Some, None, inl, inr, refl, sym, ap, ap₂, subst, length, take, get_or, map}
-use Rattle.std.proofs.Common.{append-nil, append_assoc, arith, length-append}
+use Rattle.std.proofs.Common.{◌≡◌, ◌∙◌, ◌⊎◌, ◌<◌, ◌+◌, ◌++◌, ℕ, zero, suc, Bool, true, false, List, [], ◌∷◌, Option, Some, None, inl, inr, refl, sym, ap, ap₂, subst, length, take, get_or, map}
+use Rattle.std.proofs.Common.{append-nil, arith, length-append}
 use Rattle.std.specs.Prelude.{◌||◌, ◌==◌, All, not, option_map, position, remove, slice_get, if◌then◌else◌}
 use Rattle.std.specs.List.{range_with_len}
 use Rattle.std.specs.Option.{option_to_list}
-use Rattle.std.proofs.lemmas.Bool.{cases_eq, eqb-true, lt-ltb}
+use Rattle.std.proofs.lemmas.Bool.{cases_eq, eqb-true}
 use Rattle.std.proofs.lemmas.List.{map-append, take_more}
 use Rattle.std.proofs.lemmas.Option.{get_or_from_slice_get, same_Some, slice_get_within}
 use Rattle.std.proofs.lemmas.List.FromFn.{get_or-map-range_with_len}
@@ -12,39 +12,37 @@ use Rattle.lrc_lang.specs.declared.program.Program.{Program}
 use Rattle.lrc_trace.specs.declared.act.Act.{Act}
 use Rattle.lrc_trace.specs.declared.act.Deed.{Deed}
 use Rattle.lrc_trace.specs.declared.act.Deed.TheVariants.{Depart}
-use Rattle.lrc_trace.specs.Run.{Does, act_of}
+use Rattle.lrc_trace.specs.Run.{act_of}
 use Rattle.lrc_exec.specs.declared.machine.Ask.TheVariants.{End}
 use Rattle.lrc_exec.specs.Ask.{ask_of}
 use Rattle.lrc_exec.specs.Meaning.{next_of}
 use Rattle.lrc_exec.specs.Plain.{start_of}
-use Rattle.lrc_envelope.specs.Envelope.{EnvelopeRecord}
 use Rattle.lrc_lines.specs.Makes.{MakesNext}
 use Rattle.lrc_lines.specs.Statements.{act_statements, numbers_of}
-use Rattle.lrc_lines.specs.Walks.{Walk, line_behind, walk_behind, walks_behind}
+use Rattle.lrc_lines.specs.Walks.{Walk, walk_behind}
 use Rattle.lrc_lines.proofs.Agreeing.{agrees_behind}
 use Rattle.lrc_lines.proofs.Making.{makes_behind}
 use Rattle.lrc_lines.proofs.Several.{lines_of_more}
 use Rattle.lrc_protocol.specs.declared.event.Event.{Event}
 use Rattle.lrc_protocol.specs.declared.event.Event.TheVariants as kinds
-use Rattle.lrc_protocol.specs.Node.{OptionsRecord, Wait, next_in}
+use Rattle.lrc_protocol.specs.Node.{OptionsRecord, next_in}
 use Rattle.lrc_protocol.specs.Run.{Flying, Input, Logged, World, event_on, outcome_of, run_of}
 use Rattle.lrc_protocol.specs.Run as log
-use Rattle.lrc_protocol.specs.Turn.{TurnRecord, done}
 use Rattle.lrc_protocol.proofs.Texts.{text}
 use Rattle.lrc_protocol.proofs.Turned.{Turns, turns}
 use Rattle.lrc_protocol.proofs.Worlds.{get_set_other, get_set_same, run-whole}
-use Rattle.lrc_order_laws.specs.Waiting.{FixesNext, is_departing}
+use Rattle.lrc_order_laws.specs.Waiting.{FixesNext}
 use Rattle.lrc_order_laws.proofs.Inputs.{at_each}
 use Rattle.lrc_order_laws.proofs.Shape.{shape_at}
 use Rattle.lrc_order_laws.proofs.Shift.{deed_made}
 use Rattle.lrc_order_laws.proofs.Waiting.{NodeFits, departs_arrived, node-fits}
 use Rattle.lrc_along.specs.Along.{BeginsInTurn, IsAlong}
 use Rattle.lrc_along.specs.Asked.{IsAsked, bare, bare_act}
-use Rattle.lrc_along.specs.Due.{IsAtTurn, IsDue, ask_behind, envelopes_in, event_for, has_begun, has_begun_at, is_depart, is_midway, is_ready_at, lets_go, may_come}
+use Rattle.lrc_along.specs.Due.{IsAtTurn, IsDue, ask_behind, envelopes_in, has_begun, has_begun_at, is_depart, is_midway, is_ready_at, lets_go, may_come}
 use Rattle.lrc_along.specs.Due.{needs_message, statement_behind}
 use Rattle.lrc_along.proofs.Asking.{makes_asked, none_departs, same_deed}
-use Rattle.lrc_along.proofs.Events.{Moves, MovesOrNot, deliver_moves, found, run_moves}
-use Rattle.lrc_along.proofs.Turns.{IsActed, IsOfNone, Takes, acted, goes_on, is_of_none, it_departs, it_departs_not, makes, rests, takes_so}
+use Rattle.lrc_along.proofs.Events.{Moves, deliver_moves, found, run_moves}
+use Rattle.lrc_along.proofs.Turns.{IsActed, Takes, acted, goes_on, is_of_none, it_departs, it_departs_not, makes, rests, takes_so}
 use Rattle.lrc_along.proofs.Turns.{waits_for_nothing}
 
 -- ---- the acts so far

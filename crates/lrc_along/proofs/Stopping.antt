@@ -1,5 +1,5 @@
 -- Where a run along an order begins, and where it stops.
-use Rattle.std.proofs.Common.{◌≡◌, ◌∙◌, ◌⊎◌, ◌<◌, ◌≤◌, ◌++◌, ℕ, zero, suc, Bool, true, false, List, [], ◌∷◌, Option, Some, None, inl, inr, refl, sym, ap, ap₂, subst, length, map, append-nil, append_assoc, arith}
+use Rattle.std.proofs.Common.{◌≡◌, ◌∙◌, ◌⊎◌, ◌++◌, ℕ, zero, suc, Bool, true, false, List, [], ◌∷◌, Option, Some, None, inl, inr, refl, sym, ap, ap₂, subst, length, map, append-nil, append_assoc, arith}
 use Rattle.std.specs.Prelude.{option_map, position, slice_get, if◌then◌else◌}
 use Rattle.std.specs.List.{range_with_len}
 use Rattle.std.proofs.lemmas.Option.{same_Some, slice_get_cases}
@@ -12,7 +12,7 @@ use Rattle.lrc_protocol.specs.Run.{World, event_on, fresh_world, run_of}
 use Rattle.lrc_along.proofs.Events.{all_before, one_before}
 use Rattle.lrc_along.proofs.Onward.{onward}
 use Rattle.lrc_along.specs.Along.{AreDue, BeginsInTurn, IsAlong, NoneDue, Stops, alone, done, elsewhere, unready}
-use Rattle.lrc_along.specs.Due.{IsAtTurn, IsDue, envelopes_in, event_for, has_begun, has_begun_at, is_midway, is_ready_at, may_come, needs_message}
+use Rattle.lrc_along.specs.Due.{IsAtTurn, IsDue, envelopes_in, has_begun, is_midway, is_ready_at, may_come, needs_message}
 
 -- ---- where a run along an order stops
 

@@ -1,7 +1,5 @@
 -- What a turn of a node makes: whether its text goes on, and what it waits for then.
 use Rattle.std.proofs.Common.{◌≡◌, ◌∙◌, ℕ, Bool, true, false, List, Option, Some, None, refl, sym, ap, subst}
-use Rattle.std.specs.Prelude.{option_map}
-use Rattle.lrc_trace.specs.declared.act.Act.{Act}
 use Rattle.lrc_trace.specs.declared.act.Deed.{Deed}
 use Rattle.lrc_trace.specs.declared.act.Deed.TheVariants as deeds
 use Rattle.lrc_exec.specs.Meaning.{Next, acquires, arrives, departs, ends, next_of, prints, quiet, reads, releases, traps, writes}
