@@ -7,7 +7,7 @@ use Rattle.lrc_named_text.specs.declared.expression.Room.{Room}
 use Rattle.lrc_named_text.specs.declared.expression.Room.TheVariants.{Whole}
 use Rattle.lrc_named_text.specs.Expressions.{left_room, right_room}
 use Rattle.lrc_named_limits.specs.declared.measure.Measure.{Measure}
-use Rattle.lrc_named_limits.specs.Limits.{greatest_own, open_in, operators, own_number, rank_of, surrounded}
+use Rattle.lrc_named_limits.specs.Limits.{greatest_own, open_in, operators, own_number, surrounded}
 use Rattle.lrc_named_limits.specs.Measure.{IsMeasure, needs_parentheses, top_of}
 
 -- the open `(` by those inside

@@ -1,7 +1,6 @@
 -- The limits that the core of a named program has to keep: of each expression the number of operators, of the text the `{` and `(` that
 -- are open, and of the translation's own names the numbers.
 use Rattle.std.specs.Prelude.{◌≡◌, ◌≤◌, ◌<◌, ◌+◌, ◌⊎◌, ℕ, Bool, true, false, max, Option, Some, None}
-use Rattle.lrc_lang.specs.declared.program.Operator.{Operator}
 use Rattle.lrc_lang.specs.Grammar.{joins}
 use Rattle.lrc_named_core.specs.Tree.{Private, named, own, Expression, number, private, me, nodes, binary, Origin}
 use Rattle.lrc_named_core.specs.Tree.{Statement, assign, read, write, acquire, release, barrier, print, if_else, while_do, Block, empty, next}
