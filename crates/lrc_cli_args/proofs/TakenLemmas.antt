@@ -296,28 +296,7 @@ lint_keyed : AllByRecursion (IsKeyed lint_built.rules) lint_built.rules
 lint_keyed = (record { own = refl; acts = inl (refl, lit< tt) }, (record { own = refl; acts = inr (inr refl) }, tt))
 
 races_keyed : AllByRecursion (IsKeyed races_built.rules) races_built.rules
-races_keyed = (
-  record { own = refl; acts = inl (refl, lit< tt) },
-  (
-    record { own = refl; acts = inl (refl, lit< tt) },
-    (
-      record { own = refl; acts = inr (inl (refl, lit< tt)) },
-      (
-        record { own = refl; acts = inr (inl (refl, lit< tt)) },
-        (
-          record { own = refl; acts = inr (inl (refl, lit< tt)) },
-          (
-            record { own = refl; acts = inl (refl, lit< tt) },
-            (
-              record { own = refl; acts = inr (inr refl) },
-              tt,
-            ),
-          ),
-        ),
-      ),
-    ),
-  ),
-)
+races_keyed = (record { own = refl; acts = inl (refl, lit< tt) }, (record { own = refl; acts = inl (refl, lit< tt) }, (record { own = refl; acts = inr (inl (refl, lit< tt)) }, (record { own = refl; acts = inr (inl (refl, lit< tt)) }, (record { own = refl; acts = inr (inl (refl, lit< tt)) }, (record { own = refl; acts = inr (inl (refl, lit< tt)) }, (record { own = refl; acts = inl (refl, lit< tt) }, (record { own = refl; acts = inl (refl, lit< tt) }, (record { own = refl; acts = inr (inr refl) }, tt)))))))))
 
 -- a value that the parser of numbers let through
 bare_passed : (text : Option Text) → IfSome text (λ t. value_kinds false (Unsigned 0 18446744073709551615) t ≡ [])
@@ -541,6 +520,7 @@ races_taken words none =
       file = given_some races_built.rules (codes "FILE") rows level.good ((required_given races_built rows level.checked).0 refl);
       form = level.there (filled trace_form) refl (lit< tt);
       group = flag_taken races_built rows level (codes "group") refl;
+      locations = flag_taken races_built rows level (codes "locations") refl;
       sure = flag_taken races_built rows level (codes "sure") refl;
       json = flag_taken races_built rows level (codes "json") refl;
     }

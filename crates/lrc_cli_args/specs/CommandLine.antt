@@ -1,5 +1,6 @@
 -- The words of the command line, as clap reads them, and the choice that they make.
 use Rattle.std.specs.Prelude.{◌≡◌, ◌≢◌, ◌⊎◌, Bool, true, false, List, [], ◌∷◌, Option, None, Some, Result, Ok, Err, IsSome, IsSomeAnd, codes, option_map}
+use Rattle.std.specs.Borrow.{Bor}
 use Rattle.std.specs.Int.{IsOutOfRange}
 use Rattle.clap.specs.Words.{IsAmong, Row, Text, fault_of, first_of, kind_of, subcommand_of}
 use Rattle.clap.specs.declared.error.Error.{Error}
@@ -21,8 +22,9 @@ use Rattle.lrc_cli_args.specs.declared.choice.Judging.{Judging}
 use Rattle.lrc_cli_args.specs.declared.choice.Memory.{Memory}
 use Rattle.lrc_cli_args.specs.declared.choice.PlainRun.{PlainRun}
 use Rattle.lrc_cli_args.specs.declared.choice.Racing.{Racing}
+use Rattle.lrc_cli_args.specs.declared.choice.Reasoning.{Reasoning}
 use Rattle.lrc_cli_args.specs.declared.choice.Request.{Request}
-use Rattle.lrc_cli_args.specs.declared.choice.Request.TheVariants.{About, Races, Witness as WitnessOf, Answer}
+use Rattle.lrc_cli_args.specs.declared.choice.Request.TheVariants.{About, Races, Witness as WitnessOf, Reasons as ReasonsOf, Answer}
 use Rattle.lrc_cli_args.specs.declared.choice.RunChoice.{RunChoice}
 use Rattle.lrc_cli_args.specs.declared.choice.Shape.{Shape}
 use Rattle.lrc_cli_args.specs.declared.choice.Shape.TheVariants.{Report, Trace, Step, Explain, Stats, Chart, Why}
@@ -31,11 +33,12 @@ use Rattle.lrc_cli_args.specs.declared.choice.Topic.TheVariants.{Commands, Comma
 use Rattle.lrc_cli_args.specs.declared.choice.Way.{Way}
 use Rattle.lrc_cli_args.specs.declared.choice.Witnessing.{Witnessing}
 use Rattle.lrc_cli_args.specs.declared.misfit.Misfit.{Misfit}
-use Rattle.lrc_cli_args.specs.declared.misfit.Misfit.TheVariants.{Order, RunOrder, Page, Form as FormMisfit, Seed, Then as ThenMisfit, Followed as FollowedMisfit, Threads, Messages, Part as PartMisfit, Memory as MemoryMisfit, ExactMemory, ExactOption, Tries as TriesMisfit, IgnoredRaces, Ends as EndsMisfit, Topic as TopicMisfit, TraceForm, Lines, Witness, Hide, TextSource, SameAct, Sources, NoSource, RunOption, ChartRunOption, Number}
+use Rattle.lrc_cli_args.specs.declared.misfit.Misfit.TheVariants.{Order, RunOrder, Page, Form as FormMisfit, Seed, Then as ThenMisfit, Followed as FollowedMisfit, Threads, Messages, Part as PartMisfit, Memory as MemoryMisfit, ExactMemory, ExactOption, Tries as TriesMisfit, IgnoredRaces, Ends as EndsMisfit, Topic as TopicMisfit, TraceForm, Questions, Reasons, ReasonLines, Witness, WitnessLines, Hide, TextSource, SameAct, Sources, NoSource, RunOption, ChartRunOption, Number}
+use Rattle.lrc_cli_args.specs.declared.races.Question.TheVariants.{Told, Reasoned, Witnessed}
 use Rattle.lrc_cli_words.specs.Commands.{is_command, treadmarks}
-use Rattle.lrc_cli_args.specs.Options.{AreChartedActs, AreForeignActs, AreLines, AreOptions, AreRunOptions, HasBadCount, HasBadExploreNumber, HasChartedActsMisfit, HasExactMisfit, HasForeignMisfit, HasFormMisfitIn, HasOptionsMisfit, HasRacesMisfit, HasValue, HasWayMisfitIn, IsAlone, IsAsking, IsChartTaken, IsHiding}
-use Rattle.lrc_cli_args.specs.Options.{IsExactChosen, IsExploreTaken, IsFlag, IsFormIn, IsJudgeTaken, IsMemory, IsPart, IsPicker, IsPlainTaken, IsRacesTaken, IsRunTaken, IsShowingTaken, IsStepTaken}
-use Rattle.lrc_cli_args.specs.Options.{asks_outcomes, IsSimTaken, IsThreadsWayIn, IsTraceForm, IsTraceTaken, IsWayIn, IsWhyTaken, most_in, nodes_in, option_number, outcome_in, some_number_in, takes_tries, tries_in, witness_in}
+use Rattle.lrc_cli_args.specs.Options.{AreChartedActs, AreForeignActs, AreLines, AreOptions, AreRunOptions, HasBadCount, HasBadExploreNumber, HasChartedActsMisfit, HasExactMisfit, HasForeignMisfit, HasFormMisfitIn, HasOptionsMisfit, HasRacesMisfit, HasValue, HasWayMisfitIn, IsAsking, IsChartTaken, IsHiding}
+use Rattle.lrc_cli_args.specs.Options.{IsExactChosen, IsExploreTaken, IsFlag, IsFormIn, IsJudgeTaken, IsMemory, IsPart, IsPicker, IsPlainTaken, IsQuestion, IsRacesTaken, IsRunTaken, IsShowingTaken, IsStepTaken}
+use Rattle.lrc_cli_args.specs.Options.{asks_outcomes, IsSimTaken, IsThreadsWayIn, IsTraceForm, IsTraceTaken, IsWayIn, IsWhyTaken, most_in, nodes_in, option_number, outcome_in, some_number_in, takes_tries, texts_of, tries_in}
 
 -- no words at all stand for `sim -`
 abbrev pub words_meant : List Text → List Text
@@ -196,24 +199,37 @@ IsTopic found Version = found.0 ≡ codes "version"
 pub record IsRacing (rows : List Row) (racing : Racing) : Type 0 where
   pub file : first_of (codes "FILE") rows ≡ Some racing.file.now
   pub form : IsTraceForm (first_of (codes "as") rows) racing.form
-  pub group : IsFlag (codes "group") racing.group rows
+  pub asked : IsQuestion rows (Told racing.grouping)
   pub sure : IsFlag (codes "sure") racing.sure rows
   pub json : IsFlag (codes "json") racing.json rows
-  pub plainly : witness_in rows ≡ None
+
+-- Of which two lines it is asked how their events are ordered.
+pub record IsReasoning (rows : List Row) (reasoning : Reasoning) : Type 0 where
+  pub file : first_of (codes "FILE") rows ≡ Some reasoning.file.now
+  pub form : IsTraceForm (first_of (codes "as") rows) reasoning.form
+  pub texts : Bor (List (Bor Text))
+  pub asked : IsQuestion rows (Reasoned texts)
+  pub lines : AreLines (texts_of texts) reasoning.lines
+  pub sure : IsFlag (codes "sure") false rows
+  pub json : IsFlag (codes "json") false rows
 
 -- Of which two lines it is asked whether they are a sure race. The trace may be read twice, so it is a file.
 pub record IsWitnessing (rows : List Row) (witnessing : Witnessing) : Type 0 where
   pub file : first_of (codes "FILE") rows ≡ Some witnessing.file.now
   pub no_input : witnessing.file.now ≢ codes "-"
   pub form : IsTraceForm (first_of (codes "as") rows) witnessing.form
-  pub alone : IsAlone rows
-  pub lines : IsSomeAnd (witness_in rows) (λ texts. AreLines texts witnessing.lines)
+  pub texts : Bor (List (Bor Text))
+  pub asked : IsQuestion rows (Witnessed texts)
+  pub lines : AreLines (texts_of texts) witnessing.lines
+  pub sure : IsFlag (codes "sure") false rows
+  pub json : IsFlag (codes "json") false rows
 
 -- what the command that clap found asks for, with its matches
 abbrev pub IsRequest : Text × List Row → Request → Type 0
 IsRequest found (About topic) = IsTopic found topic
 IsRequest found (Races racing) = (found.0 ≡ codes "races") × IsRacing found.1 racing
 IsRequest found (WitnessOf witnessing) = (found.0 ≡ codes "races") × IsWitnessing found.1 witnessing
+IsRequest found (ReasonsOf reasoning) = (found.0 ≡ codes "races") × IsReasoning found.1 reasoning
 IsRequest found (Answer choice) = IsChoice found choice
 
 -- ---- what does not fit
@@ -347,8 +363,11 @@ IsUsageKind IgnoredRaces kind = kind ≡ ArgumentConflict
 IsUsageKind EndsMisfit kind = kind ≡ ArgumentConflict
 IsUsageKind TopicMisfit kind = kind ≡ InvalidSubcommand
 IsUsageKind TraceForm kind = kind ≡ InvalidValue
-IsUsageKind Lines kind = kind ≡ InvalidValue
+IsUsageKind Questions kind = kind ≡ ArgumentConflict
+IsUsageKind Reasons kind = kind ≡ ArgumentConflict
+IsUsageKind ReasonLines kind = kind ≡ InvalidValue
 IsUsageKind Witness kind = kind ≡ ArgumentConflict
+IsUsageKind WitnessLines kind = kind ≡ InvalidValue
 IsUsageKind Hide kind = kind ≡ InvalidValue
 IsUsageKind TextSource kind = kind ≡ ArgumentConflict
 IsUsageKind SameAct kind = kind ≡ ArgumentConflict

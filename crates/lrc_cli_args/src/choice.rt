@@ -226,14 +226,24 @@ pub enum TraceForm {
     Acts,
 }
 
+/// How the races of a trace are put together.
+#[derive(Clone, Copy)]
+pub enum Grouping {
+    /// Each race is reported by itself, as the trace is read.
+    Each,
+    /// The reported races are put together by their locations, after the trace has ended.
+    Groups,
+    /// Each pair of locations that race is reported once, after the trace has ended.
+    Locations,
+}
+
 /// The options of the command `races`.
 #[derive(Clone, Copy)]
 pub struct Racing<'w> {
     /// The file of the trace; `-` is standard input.
     pub file: &'w str,
     pub form: TraceForm,
-    /// Whether the races are reported by groups, after the trace has ended.
-    pub group: bool,
+    pub grouping: Grouping,
     /// Whether only the sure races are reported: those that another trace of the same program shows, too.
     pub sure: bool,
     /// Whether each line is a JSON object.
@@ -256,6 +266,16 @@ pub struct Witnessing<'w> {
     pub file: &'w str,
     pub form: TraceForm,
     /// The lines of the two accesses.
+    pub lines: LinePair,
+}
+
+/// The options of the command `races` if it is asked how two events of a trace are ordered.
+#[derive(Clone, Copy)]
+pub struct Reasoning<'w> {
+    /// The file of the trace; `-` is standard input.
+    pub file: &'w str,
+    pub form: TraceForm,
+    /// The lines of the two events.
     pub lines: LinePair,
 }
 
@@ -327,6 +347,8 @@ pub enum Request<'w> {
     Races(Racing<'w>),
     /// The events that show a sure race of a trace.
     Witness(Witnessing<'w>),
+    /// How two events of a trace are ordered.
+    Reasons(Reasoning<'w>),
     /// An answer to the texts in files.
     Answer(Choice<'w>),
 }

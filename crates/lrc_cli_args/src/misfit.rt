@@ -61,11 +61,19 @@ const BAD_SOURCE: &str = "the argument '--source' cannot be used with '--text'";
 
 const BAD_TRACE_FORM: &str = "invalid value for '--as <FORM>': it is std or acts";
 
-const BAD_LINES: &str =
-    "invalid value for '--witness <I> <J>': they are the numbers of two lines, from 1 on, the lesser one first";
+const BAD_QUESTIONS: &str =
+    "the arguments '--group', '--locations', '--why <I> <J>' and '--witness <I> <J>' cannot be used with one another";
+
+const BAD_REASONS: &str = "the argument '--why <I> <J>' cannot be used with '--sure' or '--json'";
+
+const BAD_REASON_LINES: &str =
+    "invalid value for '--why <I> <J>': they are the numbers of two lines, from 1 on, the lesser one first";
 
 const BAD_WITNESS: &str =
-    "the argument '--witness <I> <J>' cannot be used with '--group', '--sure' or '--json', or where FILE is '-'";
+    "the argument '--witness <I> <J>' cannot be used with '--sure' or '--json', or where FILE is '-'";
+
+const BAD_WITNESS_LINES: &str =
+    "invalid value for '--witness <I> <J>': they are the numbers of two lines, from 1 on, the lesser one first";
 
 const SAME_ACT: &str = "the argument '--and <Q>' cannot be the act of '--act <P>'";
 
@@ -118,10 +126,16 @@ pub(crate) enum Misfit {
     Topic,
     /// The value of `--as` in the command `races` is not one of its words.
     TraceForm,
-    /// The values of `--witness` are not the numbers of two lines, the lesser one first.
-    Lines,
-    /// A sure race is to be shown, but groups or sure races are asked for, or the trace is standard input.
+    /// More than one thing is asked of a trace.
+    Questions,
+    /// It is asked how two events are ordered, but sure races or objects are asked for too.
+    Reasons,
+    /// The values of `--why` are not the numbers of two lines, the lesser one first.
+    ReasonLines,
+    /// A sure race is to be shown, but sure races or objects are asked for, or the trace is standard input.
     Witness,
+    /// The values of `--witness` are not the numbers of two lines, the lesser one first.
+    WitnessLines,
     /// The value of `--hide` is not one of its words.
     Hide,
     /// The program's text is asked for together with a chart for a terminal.
@@ -182,6 +196,8 @@ fn usage_kind(misfit: Misfit) -> ErrorKind
         | Misfit::Tries
         | Misfit::IgnoredRaces
         | Misfit::Ends
+        | Misfit::Questions
+        | Misfit::Reasons
         | Misfit::Witness
         | Misfit::TextSource
         | Misfit::SameAct
@@ -214,8 +230,11 @@ fn message_of(misfit: Misfit) -> &'static str {
         Misfit::Ends => BAD_ENDS,
         Misfit::Topic => BAD_TOPIC,
         Misfit::TraceForm => BAD_TRACE_FORM,
-        Misfit::Lines => BAD_LINES,
+        Misfit::Questions => BAD_QUESTIONS,
+        Misfit::Reasons => BAD_REASONS,
+        Misfit::ReasonLines => BAD_REASON_LINES,
         Misfit::Witness => BAD_WITNESS,
+        Misfit::WitnessLines => BAD_WITNESS_LINES,
         Misfit::Hide => BAD_HIDE,
         Misfit::TextSource => BAD_SOURCE,
         Misfit::SameAct => SAME_ACT,

@@ -122,10 +122,16 @@ const TRACE_FORM_HELP: &str =
 const GROUP_HELP: &str =
     "Tells the races by their locations, with how often each was told, when the trace has ended";
 
+const LOCATIONS_HELP: &str =
+    "Tells each pair of locations that race once, when the trace has ended";
+
 const SURE_HELP: &str =
     "Tells only the sure races: those of which another trace of the same program shows the two accesses side by side";
 
 const JSON_HELP: &str = "Prints each line as a JSON object";
+
+const REASONS_HELP: &str =
+    "Says step by step how the events at lines I and J are ordered, or that they race. I is less than J; not with `--sure` or `--json`";
 
 // What the help of `races` says of traces.
 const TRACE_NOTES: &str = "Operations:
@@ -142,13 +148,15 @@ What orders, of two events the earlier before the later:
   a rel or post, and an acq or wait of the same lock
   a fork of the later one's thread; a join of the earlier one's thread; a fork and a join of one thread
   an arrive and a depart in one cycle of a barrier: the first depart closes the cycle
-  and what follows from these step by step";
+  and what follows from these step by step
+
+Of `--group`, `--locations`, `--why` and `--witness` one can be given";
 
 const WITNESS_HELP: &str =
-    "Shows that the accesses at lines I and J are a sure race: prints the events by way of which they were reached, and then the two. If they are none, says why. I is less than J; not with `--group`, `--sure` or `--json`, or where FILE is `-`";
+    "Shows by which events the accesses at lines I and J were reached, if they are a sure race; else says why, with status 4. I is less than J; not with `--sure` or `--json`, or where FILE is `-`";
 
-// The two lines that `--witness` takes.
-static WITNESS_LINES: [&str; 2] = ["I", "J"];
+// The two lines that `--why` and `--witness` take.
+static LINE_PAIR: [&str; 2] = ["I", "J"];
 
 const COMMAND_HELP: &str = "The command. Left out, the commands are listed";
 
@@ -157,14 +165,14 @@ const VERSION: &str = "0.1.0";
 
 // What the help says of the exit status, and of the one line that cannot say which option it means.
 const STATUSES: &str = "Exit status:
-  0  all nodes ended, and no race was found (check: the text is a program; chart: the run was drawn; judge, explore:
-     nothing was found; races: no race was told; lint: the text is a program; why, help, version: always)
+  0  all nodes ended, and no race was found (check, lint: the text is a program; chart: the run was drawn; judge, explore:
+     nothing was found; races: no race was told; why, help, version: always)
   1  a fault of the text, a file, the events, memory or the output (lint: the text is no program)
   2  a fault of the words, or `--help` or `--version`. `number out of range` says that a number is not in the range that the help of
      its command gives
   3  a race was found
-  4  no race, and a node trapped or is unfinished (judge: the acts are of no run; explore: some order gets stuck
-     or traps)";
+  4  no race, and a node trapped or is unfinished (judge: the acts are of no run; explore: some order gets stuck or traps,
+     or can no longer end; races --witness: it is no sure race)";
 
 // The names of the commands.
 static COMMANDS: [&str; 16] = [
@@ -451,8 +459,10 @@ fn races_command<'w>(alloc: Global) -> Result<Command<'w>, AllocError>
     let command = taking(Ok(command), file(alloc, TRACE_HELP));
     let command = taking(command, trace_form(alloc));
     let command = taking(command, flag_option(alloc, "group", GROUP_HELP));
+    let command = taking(command, flag_option(alloc, "locations", LOCATIONS_HELP));
     let command = taking(command, flag_option(alloc, "sure", SURE_HELP));
     let command = taking(command, flag_option(alloc, "json", JSON_HELP));
+    let command = taking(command, line_pair(alloc, "why", REASONS_HELP));
     taking(command, line_pair(alloc, "witness", WITNESS_HELP))
 }
 
@@ -581,7 +591,7 @@ fn line_pair<'w>(alloc: Global, name: &'w str, help: &'w str) -> Arg<'w>
 {
     Arg::new(alloc, name)
         .long(name)
-        .value_names(&WITNESS_LINES)
+        .value_names(&LINE_PAIR)
         .help(help)
 }
 

@@ -1,10 +1,10 @@
 // Lines of words, and the choice that they make.
 
 use crate::checks::passes;
+use crate::traces::{TwoLines, is_wanted_of_trace};
 use lrc_cli_args::choice::{
     Asking, ChartedActs, Charting, Choice, ChooseFault, Exploring, ForeignActs, Form, Judging,
-    LinePair, Memory, Part, PlainRun, Racing, Request, RunOptions, Shape, Then, Topic, TraceForm,
-    Way, Witnessing,
+    Memory, Part, PlainRun, Racing, Request, RunOptions, Shape, Then, Topic, Way,
 };
 use lrc_cli_args::choose;
 use lrc_envelope::Picker;
@@ -38,10 +38,9 @@ pub struct Run {
 #[derive(Clone, Copy)]
 pub enum Wanted {
     Lint(&'static str),
-    /// The races of a trace, in the form of acts or not, by groups or not, as objects or not.
-    Races(&'static str, bool, bool, bool),
-    /// Of a trace, in the form of acts or not: the two lines of which it is asked.
-    Witness(&'static str, bool, u64, u64),
+    Races(Racing<'static>),
+    Witness(TwoLines),
+    Reasons(TwoLines),
     /// Of a run: of which act it is asked, and of which other.
     Why(Run, u64, Option<u64>),
     /// The same of acts from a file, of so many nodes, with pages of this size.
@@ -170,18 +169,6 @@ fn are_charted(made: &ChartedActs<'_>, file: &str, nodes: Option<u32>) -> bool {
     made.file == file && made.nodes.map(|nodes| nodes.count) == nodes
 }
 
-fn is_racing(made: &Racing<'_>, file: &str, acts: bool, group: bool) -> bool {
-    made.file == file && matches!(made.form, TraceForm::Acts) == acts && made.group == group
-}
-
-fn is_witnessing(made: &Witnessing<'_>, file: &str, acts: bool) -> bool {
-    made.file == file && matches!(made.form, TraceForm::Acts) == acts
-}
-
-fn are_lines(made: LinePair, first: u64, second: u64) -> bool {
-    made.first == first && made.second == second
-}
-
 fn is_wanted_why(made: &Choice<'_>, wanted: &Wanted) -> bool {
     match (made, wanted) {
         (Choice::Show(made, Shape::Why(asking)), Wanted::Why(run, act, other)) => {
@@ -242,18 +229,9 @@ fn is_wanted_topic(made: &Topic<'_>, wanted: &Wanted) -> bool {
 fn is_wanted_request(made: &Request<'_>, wanted: &Wanted) -> bool {
     match made {
         Request::About(topic) => is_wanted_topic(topic, wanted),
-        Request::Races(racing) => match wanted {
-            Wanted::Races(file, acts, group, json) => {
-                is_racing(racing, file, *acts, *group) && racing.json == *json
-            }
-            _ => false,
-        },
-        Request::Witness(made) => match wanted {
-            Wanted::Witness(file, acts, first, second) => {
-                is_witnessing(made, file, *acts) && are_lines(made.lines, *first, *second)
-            }
-            _ => false,
-        },
+        Request::Races(_) | Request::Witness(_) | Request::Reasons(_) => {
+            is_wanted_of_trace(made, wanted)
+        }
         Request::Answer(choice) => is_wanted(choice, wanted),
     }
 }
@@ -570,27 +548,6 @@ const CHOICES: &[Row] = &[
     // What is wrong with texts and traces, and why acts are as they are.
     ("lint a.tm", Wanted::Lint("a.tm")),
     ("lint -", Wanted::Lint("-")),
-    ("races -", Wanted::Races("-", false, false, false)),
-    (
-        "races t.std --as std --group",
-        Wanted::Races("t.std", false, true, false),
-    ),
-    (
-        "races --as=acts t.acts",
-        Wanted::Races("t.acts", true, false, false),
-    ),
-    (
-        "races --json t.std",
-        Wanted::Races("t.std", false, false, true),
-    ),
-    (
-        "races t.std --witness 3 18446744073709551615",
-        Wanted::Witness("t.std", false, 3, u64::MAX),
-    ),
-    (
-        "races --witness 01 +2 --as=acts t.acts",
-        Wanted::Witness("t.acts", true, 1, 2),
-    ),
     ("why a.tm --act 3", Wanted::Why(A_RUN, 3, None)),
     (
         "why --act=0 - --nodes 3 --and 18446744073709551615",

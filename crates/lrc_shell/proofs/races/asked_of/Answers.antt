@@ -1,11 +1,13 @@
-use Rattle.std.proofs.Common.{Bool, ap₂}
+use Rattle.std.proofs.Common.{Bool, ◌∙◌, ap, ap₂}
 use Rattle.lrc_races_text.specs.declared.asked.Asked.{Asked}
 use Rattle.lrc_races_text.specs.declared.asked.Layout.{Layout}
 use Rattle.lrc_races_text.specs.declared.asked.Sought.{Sought}
+use Rattle.lrc_shell.specs.Plays.{is_grouped}
 use Rattle.lrc_shell.proofs.races.asked_of.Goals as goal
 
 abbrev made : Bool → Sought → Layout → Asked
 made group sought layout = record { sought = sought; group = group; layout = layout }
 
 pub returns : goal.returns
-returns c = ap₂ (made c.args.racing.now.group) c.sought_of.ensures c.layout_of.ensures
+returns c = ap (λ (group : Bool). made group c.sought_of.result c.layout_of.result) c.is_grouped.ensures
+    ∙ ap₂ (made (is_grouped c.args.racing.now.grouping)) c.sought_of.ensures c.layout_of.ensures

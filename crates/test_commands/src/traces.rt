@@ -1,0 +1,158 @@
+// Lines of words that ask something of a trace, and the request that they make.
+
+use crate::checks::passes;
+use crate::words::{Row, Wanted, first_wrong};
+use lrc_cli_args::choice::{Grouping, LinePair, Racing, Reasoning, Request, TraceForm, Witnessing};
+
+/// Two lines of a trace, which has the form of acts or not.
+#[derive(Clone, Copy)]
+pub struct TwoLines {
+    file: &'static str,
+    acts: bool,
+    first: u64,
+    second: u64,
+}
+
+fn is_acts(form: TraceForm) -> bool {
+    matches!(form, TraceForm::Acts)
+}
+
+fn is_same_grouping(made: Grouping, wanted: Grouping) -> bool {
+    matches!(
+        (made, wanted),
+        (Grouping::Each, Grouping::Each)
+            | (Grouping::Groups, Grouping::Groups)
+            | (Grouping::Locations, Grouping::Locations)
+    )
+}
+
+fn is_racing(made: &Racing<'_>, wanted: &Racing<'_>) -> bool {
+    made.file == wanted.file
+        && is_acts(made.form) == is_acts(wanted.form)
+        && is_same_grouping(made.grouping, wanted.grouping)
+        && made.sure == wanted.sure
+        && made.json == wanted.json
+}
+
+fn is_witnessing(made: &Witnessing<'_>, wanted: &TwoLines) -> bool {
+    made.file == wanted.file
+        && is_acts(made.form) == wanted.acts
+        && are_lines(made.lines, wanted.first, wanted.second)
+}
+
+fn is_reasoning(made: &Reasoning<'_>, wanted: &TwoLines) -> bool {
+    made.file == wanted.file
+        && is_acts(made.form) == wanted.acts
+        && are_lines(made.lines, wanted.first, wanted.second)
+}
+
+fn are_lines(made: LinePair, first: u64, second: u64) -> bool {
+    made.first == first && made.second == second
+}
+
+/// Whether what is asked of a trace is what is wanted.
+pub fn is_wanted_of_trace(made: &Request<'_>, wanted: &Wanted) -> bool {
+    match (made, wanted) {
+        (Request::Races(made), Wanted::Races(racing)) => is_racing(made, racing),
+        (Request::Witness(made), Wanted::Witness(lines)) => is_witnessing(made, lines),
+        (Request::Reasons(made), Wanted::Reasons(lines)) => is_reasoning(made, lines),
+        _ => false,
+    }
+}
+
+/// The races of this trace, as they are told without options.
+const THE_RACES: Racing<'static> = Racing {
+    file: "t.std",
+    form: TraceForm::Std,
+    grouping: Grouping::Each,
+    sure: false,
+    json: false,
+};
+
+/// The greatest lines of this trace.
+const THE_LAST_LINES: TwoLines = TwoLines {
+    file: "t.std",
+    acts: false,
+    first: u64::MAX - 1,
+    second: u64::MAX,
+};
+
+const TRACES: &[Row] = &[
+    (
+        "races -",
+        Wanted::Races(Racing {
+            file: "-",
+            ..THE_RACES
+        }),
+    ),
+    (
+        "races t.std --as std --group",
+        Wanted::Races(Racing {
+            grouping: Grouping::Groups,
+            ..THE_RACES
+        }),
+    ),
+    (
+        "races --locations t.std",
+        Wanted::Races(Racing {
+            grouping: Grouping::Locations,
+            ..THE_RACES
+        }),
+    ),
+    (
+        "races --as=acts t.std --sure",
+        Wanted::Races(Racing {
+            form: TraceForm::Acts,
+            sure: true,
+            ..THE_RACES
+        }),
+    ),
+    (
+        "races --json t.std --group --sure",
+        Wanted::Races(Racing {
+            grouping: Grouping::Groups,
+            sure: true,
+            json: true,
+            ..THE_RACES
+        }),
+    ),
+    (
+        "races --json t.std --locations",
+        Wanted::Races(Racing {
+            grouping: Grouping::Locations,
+            json: true,
+            ..THE_RACES
+        }),
+    ),
+    (
+        "races t.std --witness 18446744073709551614 18446744073709551615",
+        Wanted::Witness(THE_LAST_LINES),
+    ),
+    (
+        "races --witness 01 +2 --as=acts t.acts",
+        Wanted::Witness(TwoLines {
+            file: "t.acts",
+            acts: true,
+            first: 1,
+            second: 2,
+        }),
+    ),
+    (
+        "races t.std --why 18446744073709551614 18446744073709551615",
+        Wanted::Reasons(THE_LAST_LINES),
+    ),
+    (
+        "races - --why 01 +2 --as=acts",
+        Wanted::Reasons(TwoLines {
+            file: "-",
+            acts: true,
+            first: 1,
+            second: 2,
+        }),
+    ),
+];
+
+#[test]
+fn words_ask_of_traces(rt: HostRuntime) {
+    passes(&rt, first_wrong(rt.alloc(), TRACES));
+}
