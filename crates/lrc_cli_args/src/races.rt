@@ -3,7 +3,7 @@
 ghost use Rattle.std.specs.Prelude.{◌≡◌, ◌≤◌, ◌∷◌, [], ℕ, IfErr, IfOk, MatchOption, codes, map, option_map};
 ghost use Rattle.clap.specs.Words.{found_of, first_of, rows_of};
 ghost use Rattle.lrc_cli_args.specs.CommandLine.{IsRacing, IsReasoning, IsRequest, IsScoring, IsWitnessing};
-ghost use Rattle.lrc_cli_args.specs.Options.{AreLines, HasMisfitBeside, HasRacesMisfit, IsGrouping, IsLine, IsOneOf, IsQuestion, IsRacesTaken, IsTraceForm, texts_of};
+ghost use Rattle.lrc_cli_args.specs.Options.{AreLines, HasMisfitBeside, HasRacesMisfit, IsFlag, IsGrouping, IsLine, IsOneOf, IsQuestion, IsRacesTaken, IsTraceForm, texts_of};
 ghost use Rattle.lrc_cli_args.specs.declared.choice.Grouping.{Grouping as AnyGrouping};
 ghost use Rattle.lrc_cli_args.specs.declared.choice.LinePair.{LinePair as AnyLines};
 ghost use Rattle.lrc_cli_args.specs.declared.choice.TraceForm.{TraceForm as AnyTraceForm};
@@ -97,6 +97,14 @@ fn grouping_of(options: &ArgMatches<'_>) -> Result<Grouping, Misfit>
     }
 }
 
+// Whether the first event that no program would give is a fault.
+fn is_strict(options: &ArgMatches<'_>) -> bool
+    requires { IsRacesTaken (rows_of (found_of options.now)) }
+    ensures { IsFlag (codes "strict") result (rows_of (found_of options.now)) }
+{
+    is_named(options, "strict")
+}
+
 // What is asked where races are told.
 fn racing<'w>(options: &ArgMatches<'w>, form: TraceForm, grouping: Grouping) -> Racing<'w>
     requires taken { IsRacesTaken (rows_of (found_of options.now)) }
@@ -110,7 +118,7 @@ fn racing<'w>(options: &ArgMatches<'w>, form: TraceForm, grouping: Grouping) -> 
         grouping,
         sure: is_named(options, "sure"),
         json: is_named(options, "json"),
-        strict: is_named(options, "strict"),
+        strict: is_strict(options),
     }
 }
 
@@ -131,12 +139,13 @@ fn scoring<'w>(
     if is_named(options, "json") || (file == "-" && report == "-") {
         return Err(Misfit::Score);
     }
+    let sure = is_named(options, "sure");
     Ok(Scoring {
         file,
         form,
         report,
-        sure: is_named(options, "sure"),
-        strict: is_named(options, "strict"),
+        sure,
+        strict: is_strict(options),
     })
 }
 
@@ -161,7 +170,7 @@ fn reasoning<'w>(
             file: text_of(options, "FILE"),
             form,
             lines,
-            strict: is_named(options, "strict"),
+            strict: is_strict(options),
         }),
         None => Err(Misfit::ReasonLines),
     }
@@ -189,7 +198,7 @@ fn witnessing<'w>(
             file,
             form,
             lines,
-            strict: is_named(options, "strict"),
+            strict: is_strict(options),
         }),
         None => Err(Misfit::WitnessLines),
     }
