@@ -129,20 +129,20 @@ const GROUP_HELP: &str =
     "Tells the races by their locations, with how often each was told, when the trace has ended";
 
 const LOCATIONS_HELP: &str =
-    "Tells each pair of locations that race, once, when the trace has ended. One of `--group`, `--locations`, `--score`, `--why` and `--witness` can be used";
+    "Tells each pair of locations that race once, when the trace has ended";
 
 const SURE_HELP: &str =
     "Tells only the sure races: those of which another trace of the same program shows the two accesses side by side";
 
 const JSON_HELP: &str = "Prints each line as a JSON object";
 
-const STRICT_HELP: &str = "Takes the first event that no program would give for a fault: status 1";
+const STRICT_HELP: &str = "Takes the first event that no program would give for a fault";
 
 const SCORE_HELP: &str =
-    "Says of each claim of a detector's report, a file or `-`, whether it is true, and what the report missed; not with `--json`, or where FILE and REPORT are `-`. A line of REPORT: `event J`, `pair I J`, `locations A|B`, `variable V` or `first V J`. Status 3 where a claim is false, else 4 where something is missed";
+    "Says of each claim of a detector's report, a file or `-`, whether it is true, and what the report missed. Status 3 where a claim is false, else 4 where something is missed; not with `--json`, or where FILE is `-` too";
 
 const REASONS_HELP: &str =
-    "Says how the events at lines I and J are ordered, step by step, or that they race. I is less than J; not with `--sure` or `--json`";
+    "Says step by step how the events at lines I and J are ordered, or that they race. I is less than J; not with `--sure` or `--json`";
 
 // What the help of `races` says of traces.
 const TRACE_NOTES: &str = "Operations:
@@ -159,7 +159,16 @@ What orders, of two events the earlier before the later:
   a rel or post, and an acq or wait of the same lock
   a fork of the later one's thread; a join of the earlier one's thread; a fork and a join of one thread
   an arrive and a depart in one cycle of a barrier: the first depart closes the cycle
-  and what follows from these step by step";
+  and what follows from these step by step
+
+Claims of a report, one on each line:
+  event J                the access at line J races with an earlier one
+  pair I J               the accesses at lines I and J race
+  locations A|B          some two accesses race, one at the location A and the other at B
+  variable V             some two accesses of V race
+  first V J              line J is the first access of V that races with an earlier one
+
+Of `--group`, `--locations`, `--score`, `--why` and `--witness` one can be given";
 
 const WITNESS_HELP: &str =
     "Shows that the accesses at lines I and J are a sure race: prints the events by way of which they were reached, and then the two. If they are none, says why, with status 4. I is less than J; not with `--sure` or `--json`, or where FILE is `-`";
