@@ -214,7 +214,7 @@ pub record IsScoring (rows : List Row) (scoring : Scoring) : Type 0 where
   pub file : first_of (codes "FILE") rows ≡ Some scoring.file.now
   pub form : IsTraceForm (first_of (codes "as") rows) scoring.form
   pub asked : IsQuestion rows (Scored scoring.report)
-  pub apart : (scoring.report.now ≢ codes "-") ⊎ (scoring.file.now ≢ codes "-")
+  pub apart : scoring.report.now ≡ codes "-" → scoring.file.now ≢ codes "-"
   pub sure : IsFlag (codes "sure") scoring.sure rows
   pub json : IsFlag (codes "json") false rows
   pub strict : IsFlag (codes "strict") scoring.strict rows

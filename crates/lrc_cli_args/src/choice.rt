@@ -1,6 +1,6 @@
 // What the words of the command line ask for.
 
-ghost use Rattle.std.specs.Prelude.{◌≡◌, ◌≢◌, ◌<◌, ◌≤◌, ◌⊎◌, Some, codes, true};
+ghost use Rattle.std.specs.Prelude.{◌≡◌, ◌≢◌, ◌<◌, ◌≤◌, Some, codes, true};
 ghost use Rattle.lrc_cli_words.specs.Commands.{is_command};
 
 use lrc_envelope::Picker;
@@ -313,7 +313,7 @@ pub struct Scoring<'w> {
     pub sure: bool,
     /// Whether the first event that no program would give is a fault.
     pub strict: bool,
-    pub ghost apart: { (report.now ≢ codes "-") ⊎ (file.now ≢ codes "-") },
+    pub ghost apart: { report.now ≡ codes "-" → file.now ≢ codes "-" },
 }
 
 /// A text of acts for the command `why`. The acts may come from any system.

@@ -80,9 +80,9 @@ fn events_of(
 
 // No events are asked for, so no order of theirs may be named.
 fn none_told(order: Option<&str>) -> Result<Option<Tell>, Misfit>
-    ensures ok { IfOk result (λ tell. (tell ≡ None) × (option_map (λ word. word.now) order ≡ None)) }
+    ensures ok { IfOk result (λ tell. (tell ≡ None) × (option_map (λ word. word.now) order.entry ≡ None)) }
     ensures err { IfErr result (λ misfit. (misfit ≡ unfit.Tell)
-        × IsSome (option_map (λ word. word.now) order)) }
+        × IsSome (option_map (λ word. word.now) order.entry)) }
 {
     match order {
         None => Ok(None),
@@ -92,9 +92,9 @@ fn none_told(order: Option<&str>) -> Result<Option<Tell>, Misfit>
 
 // The order that a word names: the first, if there is no word.
 fn tell_named(word: Option<&str>) -> Result<Tell, Misfit>
-    ensures ok { IfOk result (IsTell (option_map (λ word. word.now) word)) }
+    ensures ok { IfOk result (IsTell (option_map (λ word. word.now) word.entry)) }
     ensures err { IfErr result (λ misfit. (misfit ≡ unfit.ToldOrder)
-        × ((tell : AnyTell) → ¬ IsTell (option_map (λ word. word.now) word) tell)) }
+        × ((tell : AnyTell) → ¬ IsTell (option_map (λ word. word.now) word.entry) tell)) }
 {
     match word {
         None => Ok(Tell::First),

@@ -1,10 +1,11 @@
 // What is asked of a trace.
 
-ghost use Rattle.std.specs.Prelude.{◌≡◌, ◌≤◌, ◌∷◌, [], ℕ, IfErr, IfOk, MatchOption, codes, map, option_map};
+ghost use Rattle.std.specs.Prelude.{◌≡◌, ◌≢◌, ◌≤◌, ◌∷◌, [], ℕ, IfErr, IfOk, MatchOption, codes, map, option_map};
 ghost use Rattle.clap.specs.Words.{found_of, first_of, rows_of};
 ghost use Rattle.lrc_cli_args.specs.CommandLine.{IsRacing, IsReasoning, IsRequest, IsScoring, IsWitnessing};
 ghost use Rattle.lrc_cli_args.specs.Options.{AreLines, HasMisfitBeside, HasRacesMisfit, IsFlag, IsGrouping, IsLine, IsOneOf, IsQuestion, IsRacesTaken, IsTraceForm, texts_of};
 ghost use Rattle.lrc_cli_args.specs.declared.choice.Grouping.{Grouping as AnyGrouping};
+ghost use Rattle.lrc_cli_args.specs.declared.choice.Grouping.TheVariants as groupings;
 ghost use Rattle.lrc_cli_args.specs.declared.choice.LinePair.{LinePair as AnyLines};
 ghost use Rattle.lrc_cli_args.specs.declared.choice.TraceForm.{TraceForm as AnyTraceForm};
 ghost use Rattle.lrc_cli_args.specs.declared.misfit.Misfit.TheVariants as unfit;
@@ -57,7 +58,7 @@ fn question_of<'q, 'w>(options: &'q ArgMatches<'w>) -> Result<Question<'q, 'w>, 
     let report = some_text_of(options, "score");
     let why = some_texts_of(options, "why");
     let witness = some_texts_of(options, "witness");
-    one_of(grouping, report, why, witness).ok_or(Misfit::Questions)
+    one_of(grouping, report, why, witness)
 }
 
 // The one question among these options, if no two of them ask one.
@@ -66,19 +67,30 @@ fn one_of<'q, 'w>(
     report: Option<&'w str>,
     why: Option<&'q [&'w str]>,
     witness: Option<&'q [&'w str]>,
-) -> Option<Question<'q, 'w>>
-    ensures { MatchOption result
-        ((question : AnyQuestion) → ¬ IsOneOf grouping (option_map (λ text. text.now) report)
-        (option_map texts_of why) (option_map texts_of witness) question)
-        (IsOneOf grouping (option_map (λ text. text.now) report) (option_map texts_of why)
-        (option_map texts_of witness)) }
+) -> Result<Question<'q, 'w>, Misfit>
+    ensures ok { IfOk result (IsOneOf grouping (option_map (λ text. text.now) report.entry)
+        (option_map texts_of why.entry) (option_map texts_of witness.entry)) }
+    ensures err { IfErr result (λ misfit. (misfit ≡ unfit.Questions) × ((question : AnyQuestion)
+        → ¬ IsOneOf grouping (option_map (λ text. text.now) report.entry)
+        (option_map texts_of why.entry) (option_map texts_of witness.entry) question)) }
 {
-    match (grouping, report, why, witness) {
-        (_, None, None, None) => Some(Question::Told(grouping)),
-        (Grouping::Each, Some(report), None, None) => Some(Question::Scored(report)),
-        (Grouping::Each, None, Some(lines), None) => Some(Question::Reasoned(lines)),
-        (Grouping::Each, None, None, Some(lines)) => Some(Question::Witnessed(lines)),
-        _ => None,
+    match (report, why, witness) {
+        (None, None, None) => Ok(Question::Told(grouping)),
+        (Some(report), None, None) => alone(grouping, Question::Scored(report)),
+        (None, Some(lines), None) => alone(grouping, Question::Reasoned(lines)),
+        (None, None, Some(lines)) => alone(grouping, Question::Witnessed(lines)),
+        _ => Err(Misfit::Questions),
+    }
+}
+
+// A question beside which no races are put together.
+fn alone<'q, 'w>(grouping: Grouping, question: Question<'q, 'w>) -> Result<Question<'q, 'w>, Misfit>
+    ensures ok { IfOk result (λ asked. (asked ≡ question.entry) × (grouping ≡ groupings.Each)) }
+    ensures err { IfErr result (λ misfit. (misfit ≡ unfit.Questions) × (grouping ≢ groupings.Each)) }
+{
+    match grouping {
+        Grouping::Each => Ok(question),
+        Grouping::Groups | Grouping::Locations => Err(Misfit::Questions),
     }
 }
 
@@ -133,7 +145,7 @@ fn scoring<'w>(
     requires asked { IsQuestion (rows_of (found_of options.now)) (questions.Scored report) }
     ensures ok { IfOk result (IsScoring (rows_of (found_of options.now))) }
     ensures err { IfErr result (HasMisfitBeside (rows_of (found_of options.now))
-        (questions.Scored report)) }
+        (questions.Scored report.entry)) }
 {
     let file = text_of(options, "FILE");
     if is_named(options, "json") || (file == "-" && report == "-") {
@@ -160,7 +172,7 @@ fn reasoning<'w>(
     requires asked { IsQuestion (rows_of (found_of options.now)) (questions.Reasoned lines) }
     ensures ok { IfOk result (IsReasoning (rows_of (found_of options.now))) }
     ensures err { IfErr result (HasMisfitBeside (rows_of (found_of options.now))
-        (questions.Reasoned lines)) }
+        (questions.Reasoned lines.entry)) }
 {
     if is_named(options, "sure") || is_named(options, "json") {
         return Err(Misfit::Reasons);
@@ -187,7 +199,7 @@ fn witnessing<'w>(
     requires asked { IsQuestion (rows_of (found_of options.now)) (questions.Witnessed lines) }
     ensures ok { IfOk result (IsWitnessing (rows_of (found_of options.now))) }
     ensures err { IfErr result (HasMisfitBeside (rows_of (found_of options.now))
-        (questions.Witnessed lines)) }
+        (questions.Witnessed lines.entry)) }
 {
     let file = text_of(options, "FILE");
     if is_named(options, "sure") || is_named(options, "json") || file == "-" {
