@@ -18,8 +18,8 @@ text_of-requires c =
     check_rows (subcommand_rows_of c.args.matches.now) (rows_of (found_of c.in-Some.options.now)) c.in-Some.ensures.rows c.requires
     (name_before (out-ArgMatches c.args.matches.now).subcommand ∙ c.in-Some.ensures.found.0 refl)
 
-pub text_of-2-requires : goal.text_of-2-requires
-text_of-2-requires c =
+pub text_of-requires-in-Some-subcommand_matches : goal.text_of-requires-in-Some-subcommand_matches
+text_of-requires-in-Some-subcommand_matches c =
     core_rows (subcommand_rows_of c.args.matches.now) (rows_of (found_of c.in-Some-subcommand_matches.options.now))
     c.in-Some-subcommand_matches.ensures.rows c.requires
     (name_before (out-ArgMatches c.args.matches.now).subcommand ∙ c.in-Some-subcommand_matches.ensures.found.0 refl)
@@ -67,7 +67,7 @@ returns-in-Some-subcommand_matches-clause-ok c =
     let rows = rows_of (found_of c.in-Some-subcommand_matches.options.now) in
     let named = name_before (out-ArgMatches c.args.matches.now).subcommand ∙ c.in-Some-subcommand_matches.ensures.found.0 refl in
     found_as (subcommand_rows_of c.args.matches.now) (codes "core") rows (λ rows. first_of (codes "FILE") rows ≡ Some _) named
-    c.in-Some-subcommand_matches.ensures.rows c.text_of-2.ensures
+    c.in-Some-subcommand_matches.ensures.rows c.text_of-in-Some-subcommand_matches.ensures
 
 pub returns-in-Some-subcommand_matches-2-clause-ok : goal.returns-in-Some-subcommand_matches-2-clause-ok
 returns-in-Some-subcommand_matches-2-clause-ok c =

@@ -1,5 +1,5 @@
 -- What does not fit in the events that are asked for does not fit in `explore`.
-use Rattle.std.proofs.Common.{rules, ◌≡◌, ◌∙◌, Bool, List, Option, ap, codes, false, inl, inr, subst, sym, true, IsSome}
+use Rattle.std.proofs.Common.{rules, ◌≡◌, ◌∙◌, Bool, List, Option, ap, codes, inl, inr, subst, sym, true, IsSome}
 use Rattle.clap.specs.Words.{Row, Text, found_of, rows_of}
 use Rattle.lrc_cli_args.specs.CommandLine.{AreSought, HasExploreMisfit, StandsPlainly}
 use Rattle.lrc_cli_args.specs.Options.{HasEventsMisfit, IsFlag, IsMemory, asks_outcomes, outcome_in, takes_tries, tries_in}
