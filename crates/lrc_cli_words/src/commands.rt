@@ -139,7 +139,7 @@ const JSON_HELP: &str = "Prints each line as a JSON object";
 const STRICT_HELP: &str = "Takes the first event that no program would give for a fault";
 
 const SCORE_HELP: &str =
-    "Says of each claim of a detector's report, a file or `-`, whether it is true, and what the report missed. Status 3 where a claim is false, else 4 where something is missed; not with `--json`, or where FILE is `-` too";
+    "Says of each claim of a detector's report, a file or `-`, whether it is true, and what the report missed; not with `--json`, or where FILE is `-` too";
 
 const REASONS_HELP: &str =
     "Says step by step how the events at lines I and J are ordered, or that they race. I is less than J; not with `--sure` or `--json`";
@@ -161,7 +161,7 @@ What orders, of two events the earlier before the later:
   an arrive and a depart in one cycle of a barrier: the first depart closes the cycle
   and what follows from these step by step
 
-Claims of a report, one on each line:
+Claims of a report, one on each line; status 3 where one is false, else 4 where something is missed:
   event J                the access at line J races with an earlier one
   pair I J               the accesses at lines I and J race
   locations A|B          some two accesses race, one at the location A and the other at B
@@ -171,7 +171,7 @@ Claims of a report, one on each line:
 Of `--group`, `--locations`, `--score`, `--why` and `--witness` one can be given";
 
 const WITNESS_HELP: &str =
-    "Shows that the accesses at lines I and J are a sure race: prints the events by way of which they were reached, and then the two. If they are none, says why, with status 4. I is less than J; not with `--sure` or `--json`, or where FILE is `-`";
+    "Shows by which events the accesses at lines I and J were reached, if they are a sure race; else says why, with status 4. I is less than J; not with `--sure` or `--json`, or where FILE is `-`";
 
 // The two lines that `--why` and `--witness` take.
 static LINE_PAIR: [&str; 2] = ["I", "J"];
