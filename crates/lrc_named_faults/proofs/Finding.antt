@@ -1,6 +1,6 @@
 -- The first fault of what has faults inside, and one of its own where it has none inside.
-use Rattle.std.proofs.Common.{true, ◌||◌, Bool, ◌≡◌, ◌≤◌, ◌+◌, ◌⊎◌, inl, inr, ℕ, suc, List, [], ◌∷◌, ◌++◌, map, length, take, drop, get_or, refl, sym, ap, subst, ◌∙◌, arith}
-use Rattle.std.specs.Prelude.{Option, Some, None, is_some, option_map}
+use Rattle.std.proofs.Common.{true, false, ◌||◌, Bool, ◌≡◌, ◌≤◌, ◌+◌, ◌⊎◌, inl, inr, ℕ, suc, List, [], ◌∷◌, ◌++◌, map, length, take, drop, get_or, refl, sym, ap, subst, ◌∙◌, arith}
+use Rattle.std.specs.Prelude.{Option, Some, None, is_some, option_map, unwrap_or, if◌then◌else◌}
 use Rattle.std.proofs.Math.Seq.{drop-cons, drop-length}
 use Rattle.lrc_named_tree.specs.declared.tree.Name as code_name
 use Rattle.lrc_named_tree.specs.Tree.{Expression}
@@ -12,7 +12,7 @@ use Rattle.lrc_named_constants.specs.Well.{bytes_of, is_among}
 use Rattle.lrc_named_constants.proofs.Unique.{one_constancy, value_alike}
 use Rattle.lrc_named_expression_faults.specs.declared.fault.Fault.{Fault}
 use Rattle.lrc_named_expression_faults.specs.declared.fault.FaultKind.TheVariants.{DeclaredTwice}
-use Rattle.lrc_named_expression_faults.specs.Fault.{IsFirstOf, IsNone, earlier, fault_at}
+use Rattle.lrc_named_expression_faults.specs.Fault.{IsFirstOf, IsNone, earlier, fault_at, precedes}
 use Rattle.lrc_named_expression_faults.specs.Scope.{Scope}
 use Rattle.lrc_named_expression_faults.proofs.First.{joined, nothing_first, same_first, when_so}
 use Rattle.lrc_named_statement_faults.specs.Statements.{IsReserved}
@@ -67,3 +67,12 @@ parameters_step table function ps front i k d stood one first found next lt cut 
     let later = subst (λ l. IsFirstOf (λ f. IsInParameters table l (map named_of (drop i ps)) f) first) more b in
     subst (λ l. IsFirstOf (λ f. IsInParameters table before (map named_of l) f) found) (sym row)
     (joined (λ f. IsInName table before p f) (λ f. IsInParameters table (before ++ p.bytes ∷ []) (map named_of (drop i ps)) f) one first found is here later)
+
+-- what is told where one fault was found
+by_choice : (b : Bool) (one other : Fault) → Some (unwrap_or (if b then Some other else Some one) other) ≡ (if b then Some other else Some one)
+by_choice true one other = refl
+by_choice false one other = refl
+
+pub told_is : (own : Option Fault) (fault : Fault) → Some (unwrap_or (earlier own (Some fault)) fault) ≡ earlier own (Some fault)
+told_is None fault = refl
+told_is (Some one) fault = by_choice (precedes fault one) one fault

@@ -1,1 +1,10 @@
+pub mod Declared
+pub mod Declaring
 pub mod Finding
+pub mod Laid
+pub mod Leading
+pub mod Looping
+pub mod Placing
+pub mod Sizes
+pub mod Tables
+pub mod Weighing

@@ -1,6 +1,6 @@
 // The faults of names, constants, sizes and bodies.
 
-ghost use Rattle.std.specs.Prelude.{◌≡◌, ◌≤◌, ◌||◌, ◌⊎◌, ◌∷◌, IfOk, true, is_some, length, [], map, take};
+ghost use Rattle.std.specs.Prelude.{◌≡◌, ◌≤◌, ◌||◌, ◌⊎◌, ◌∷◌, IfOk, Some, true, is_some, length, [], map, take};
 ghost use Rattle.std.specs.Str.{bytes_eq};
 ghost use Rattle.lrc_named_tree.specs.Ends.{first_of};
 ghost use Rattle.lrc_named_tree.specs.View.{expression_of, named_of};
@@ -10,7 +10,7 @@ ghost use Rattle.lrc_named_constants.specs.Well.{IsSound, bytes_of, is_among};
 ghost use Rattle.lrc_named_expression_faults.specs.declared.fault.FaultKind.TheVariants.{DeclaredTwice, OverLimit};
 ghost use Rattle.lrc_named_expression_faults.specs.declared.fault.Limit.TheVariants.{Size};
 ghost use Rattle.lrc_named_expression_faults.specs.Extent.{AreExtents};
-ghost use Rattle.lrc_named_expression_faults.specs.Fault.{IsFirstOf, fault_at};
+ghost use Rattle.lrc_named_expression_faults.specs.Fault.{IsFirstOf, earlier, fault_at};
 ghost use Rattle.lrc_named_expression_faults.specs.View.{scope_of};
 ghost use Rattle.lrc_named_statement_faults.specs.Statements.{IsReserved};
 ghost use Rattle.lrc_named_faults.specs.Declarations.{IsClean, IsInParameters};
@@ -96,6 +96,13 @@ pub fn in_parameters(
 pub enum Found<T> {
     Good(T),
     Bad(Fault),
+}
+
+/// Returns the fault that is told where this one has been found, and maybe another one before.
+pub fn told(own: Option<Fault>, fault: Fault) -> Fault
+    ensures { Some result ≡ earlier own (Some fault) }
+{
+    earlier(own, Some(fault)).unwrap_or(fault)
 }
 
 /// Returns the value of a constant, or its first fault. It fails only if memory runs out.

@@ -1,0 +1,3 @@
+pub mod Earlier
+pub mod Limits
+pub mod Measure
