@@ -97,7 +97,7 @@ IsRequestTaken found = IsSomeAnd found IsTopicTaken ⊎ IsSomeAnd found IsRacesF
 
 -- a run on the plain machine is chosen by these matches
 abbrev pub IsPlainRun : List Row → PlainRun → Type 0
-IsPlainRun rows run = AreOptions run.file.now run.nodes.count run.steps.count rows
+IsPlainRun rows run = AreOptions run.file.now run.nodes.count run.nodes_given run.steps.count rows
 
 -- a run of the nodes, on threads or not
 pub record IsRun (threads : Bool) (rows : List Row) (run : RunChoice) : Type 0 where

@@ -106,6 +106,7 @@ const OF_SIXTEEN: Choice<'static> = Choice::Show(
     RunChoice {
         options: RunOptions {
             nodes: Nodes { count: 16 },
+            nodes_given: true,
             ..ON_ONE_NODE
         },
         way: Way::Rounds(Picker::Oldest),

@@ -18,6 +18,7 @@ const OF_TWO: Choice<'static> = Choice::Show(
         options: RunOptions {
             file: "some/where/program.tm",
             nodes: Nodes { count: 2 },
+            nodes_given: true,
             ..ON_ONE_NODE
         },
         way: OLDEST,

@@ -15,6 +15,7 @@ const PRINTED: &[u8] =
 
 const OF_THREE: RunOptions<'static> = RunOptions {
     nodes: Nodes { count: 3 },
+    nodes_given: true,
     ..ON_ONE_NODE
 };
 

@@ -69,6 +69,7 @@ const PRINTING: Choice<'static> = Choice::Show(
     RunChoice {
         options: RunOptions {
             nodes: Nodes { count: 2 },
+            nodes_given: true,
             ..ON_ONE_NODE
         },
         way: Way::Threads(Picker::Oldest),

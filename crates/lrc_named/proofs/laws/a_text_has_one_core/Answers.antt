@@ -1,0 +1,11 @@
+use Rattle.lrc_named.proofs.OneCore.{no_fault, one_core, one_count}
+use Rattle.lrc_named.proofs.laws.a_text_has_one_core.Goals as goal
+
+pub returns-clause-core : goal.returns-clause-core
+returns-clause-core c = one_core
+
+pub returns-clause-nodes : goal.returns-clause-nodes
+returns-clause-nodes c = one_count
+
+pub returns-clause-either : goal.returns-clause-either
+returns-clause-either c = no_fault
