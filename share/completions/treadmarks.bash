@@ -13,8 +13,8 @@ _treadmarks_options() {
     stats) echo "--nodes --steps --collect --order --page --events --then --seed --threads" ;;
     chart) echo "--nodes --steps --collect --order --page --events --then --seed --threads --acts --text --from --to --hide --source" ;;
     judge) echo "--nodes --pairs --all --memory --page --collect" ;;
-    races) echo "--as --group --sure --json --witness" ;;
-    explore) echo "--nodes --most --outcomes --outcome --memory --tries --ignore-races --ends" ;;
+    races) echo "--as --group --locations --sure --json --strict --score --why --witness" ;;
+    explore) echo "--nodes --most --outcomes --outcome --memory --tries --ignore-races --ends --as --tell" ;;
     esac
 }
 
@@ -24,20 +24,22 @@ _treadmarks_values() {
     run,--order) echo "oldest newest twice" ;;
     trace,--as) echo "acts bytes events json rapid states" ;;
     races,--as) echo "std acts" ;;
+    explore,--as) echo "events" ;;
+    explore,--tell) echo "stuck trap end" ;;
     *,--order) echo "oldest newest twice random" ;;
     *,--page) echo "64 256" ;;
     *,--hide) echo "quiet" ;;
     judge,--memory) echo "exact" ;;
     *,--memory) echo "flat lazy" ;;
-    *,--events | *,--acts) echo FILE ;;
-    *,--threads | *,--messages | *,--text | *,--source | *,--pairs | *,--all | *,--group | *,--sure | *,--json | *,--outcomes | *,--ignore-races | *,--ends) ;;
+    *,--events | *,--acts | *,--score) echo FILE ;;
+    *,--threads | *,--messages | *,--text | *,--source | *,--pairs | *,--all | *,--group | *,--locations | *,--sure | *,--json | *,--strict | *,--outcomes | *,--ignore-races | *,--ends) ;;
     *,--*) echo NUMBER ;;
     esac
 }
 
 _treadmarks() {
     local word=${COMP_WORDS[COMP_CWORD]} before=${COMP_WORDS[COMP_CWORD - 1]} command=${COMP_WORDS[1]} values
-    local commands="check lint plain sim run trace step explain why stats chart judge races explore help version"
+    local commands="check core lint plain sim run trace step explain why stats chart judge races explore help version"
     COMPREPLY=()
     if ((COMP_CWORD == 1)) || [[ $command == help ]]; then
         COMPREPLY=($(compgen -W "$commands" -- "$word"))

@@ -81,6 +81,7 @@ pub fn answer_any<R: Threads + Wait + Sync>(
     match choice {
         Choice::Show(run, shape) => printed(show_any(rt, alloc, run, *shape, text, events)),
         Choice::Check(_)
+        | Choice::Core(_)
         | Choice::Plain(_)
         | Choice::Judge(_)
         | Choice::Explore(_)

@@ -1,5 +1,6 @@
 -- The words of the command line, as clap reads them, and the choice that they make.
 use Rattle.std.specs.Prelude.{◌≡◌, ◌≢◌, ◌⊎◌, Bool, true, false, List, [], ◌∷◌, Option, None, Some, Result, Ok, Err, IsSome, IsSomeAnd, codes, option_map}
+use Rattle.std.specs.Borrow.{Bor}
 use Rattle.std.specs.Int.{IsOutOfRange}
 use Rattle.clap.specs.Words.{IsAmong, Row, Text, fault_of, first_of, kind_of, subcommand_of}
 use Rattle.clap.specs.declared.error.Error.{Error}
@@ -10,7 +11,7 @@ use Rattle.lrc_cli_args.specs.declared.choice.Asking.{Asking}
 use Rattle.lrc_cli_args.specs.declared.choice.ChartedActs.{ChartedActs}
 use Rattle.lrc_cli_args.specs.declared.choice.Charting.{Charting}
 use Rattle.lrc_cli_args.specs.declared.choice.Choice.{Choice}
-use Rattle.lrc_cli_args.specs.declared.choice.Choice.TheVariants.{Check, Plain, Show, Judge, Explore, Lint, WhyActs, ChartActs}
+use Rattle.lrc_cli_args.specs.declared.choice.Choice.TheVariants.{Check, Core, Plain, Show, Judge, Explore, Lint, WhyActs, ChartActs}
 use Rattle.lrc_cli_args.specs.declared.choice.ChooseFault.{ChooseFault}
 use Rattle.lrc_cli_args.specs.declared.choice.ChooseFault.TheVariants.{Usage, BadNumber, NoMemory}
 use Rattle.lrc_cli_args.specs.declared.choice.ExactOptions.{ExactOptions}
@@ -21,21 +22,25 @@ use Rattle.lrc_cli_args.specs.declared.choice.Judging.{Judging}
 use Rattle.lrc_cli_args.specs.declared.choice.Memory.{Memory}
 use Rattle.lrc_cli_args.specs.declared.choice.PlainRun.{PlainRun}
 use Rattle.lrc_cli_args.specs.declared.choice.Racing.{Racing}
+use Rattle.lrc_cli_args.specs.declared.choice.Reasoning.{Reasoning}
 use Rattle.lrc_cli_args.specs.declared.choice.Request.{Request}
-use Rattle.lrc_cli_args.specs.declared.choice.Request.TheVariants.{About, Races, Witness as WitnessOf, Answer}
+use Rattle.lrc_cli_args.specs.declared.choice.Request.TheVariants.{About, Races, Witness as WitnessOf, Reasons as ReasonsOf, Score as ScoreOf, Answer}
 use Rattle.lrc_cli_args.specs.declared.choice.RunChoice.{RunChoice}
+use Rattle.lrc_cli_args.specs.declared.choice.Scoring.{Scoring}
 use Rattle.lrc_cli_args.specs.declared.choice.Shape.{Shape}
 use Rattle.lrc_cli_args.specs.declared.choice.Shape.TheVariants.{Report, Trace, Step, Explain, Stats, Chart, Why}
+use Rattle.lrc_cli_args.specs.declared.choice.Tell.{Tell as Tells}
 use Rattle.lrc_cli_args.specs.declared.choice.Topic.{Topic}
 use Rattle.lrc_cli_args.specs.declared.choice.Topic.TheVariants.{Commands, Command, Version}
 use Rattle.lrc_cli_args.specs.declared.choice.Way.{Way}
 use Rattle.lrc_cli_args.specs.declared.choice.Witnessing.{Witnessing}
 use Rattle.lrc_cli_args.specs.declared.misfit.Misfit.{Misfit}
-use Rattle.lrc_cli_args.specs.declared.misfit.Misfit.TheVariants.{Order, RunOrder, Page, Form as FormMisfit, Seed, Then as ThenMisfit, Followed as FollowedMisfit, Threads, Messages, Part as PartMisfit, Memory as MemoryMisfit, ExactMemory, ExactOption, Tries as TriesMisfit, IgnoredRaces, Ends as EndsMisfit, Topic as TopicMisfit, TraceForm, Lines, Witness, Hide, TextSource, SameAct, Sources, NoSource, RunOption, ChartRunOption, Number}
+use Rattle.lrc_cli_args.specs.declared.misfit.Misfit.TheVariants.{Order, RunOrder, Page, Form as FormMisfit, Seed, Then as ThenMisfit, Followed as FollowedMisfit, Threads, Messages, Part as PartMisfit, Memory as MemoryMisfit, ExactMemory, ExactOption, Tries as TriesMisfit, IgnoredRaces, Ends as EndsMisfit, ExploreForm, Events, ToldOrder, Tell, Topic as TopicMisfit, TraceForm, Questions, Score, Reasons, ReasonLines, Witness, WitnessLines, Hide, TextSource, SameAct, Sources, NoSource, RunOption, ChartRunOption, Number}
+use Rattle.lrc_cli_args.specs.declared.races.Question.TheVariants.{Told, Scored, Reasoned, Witnessed}
 use Rattle.lrc_cli_words.specs.Commands.{is_command, treadmarks}
-use Rattle.lrc_cli_args.specs.Options.{AreChartedActs, AreForeignActs, AreLines, AreOptions, AreRunOptions, HasBadCount, HasBadExploreNumber, HasChartedActsMisfit, HasExactMisfit, HasForeignMisfit, HasFormMisfitIn, HasOptionsMisfit, HasRacesMisfit, HasValue, HasWayMisfitIn, IsAlone, IsAsking, IsChartTaken, IsHiding}
-use Rattle.lrc_cli_args.specs.Options.{IsExactChosen, IsExploreTaken, IsFlag, IsFormIn, IsJudgeTaken, IsMemory, IsPart, IsPicker, IsPlainTaken, IsRacesTaken, IsRunTaken, IsShowingTaken, IsStepTaken}
-use Rattle.lrc_cli_args.specs.Options.{asks_outcomes, IsSimTaken, IsThreadsWayIn, IsTraceForm, IsTraceTaken, IsWayIn, IsWhyTaken, most_in, nodes_in, option_number, outcome_in, some_number_in, takes_tries, tries_in, witness_in}
+use Rattle.lrc_cli_args.specs.Options.{AreChartedActs, AreEventsChosen, AreForeignActs, AreLines, AreOptions, AreRunOptions, HasBadCount, HasBadExploreNumber, HasChartedActsMisfit, HasEventsMisfit, HasExactMisfit, HasForeignMisfit, HasFormMisfitIn, HasOptionsMisfit, HasRacesMisfit, HasValue, HasWayMisfitIn, IsAsking, IsChartTaken, IsHiding}
+use Rattle.lrc_cli_args.specs.Options.{IsExactChosen, IsExploreTaken, IsFlag, IsFormIn, IsJudgeTaken, IsMemory, IsPart, IsPicker, IsPlainTaken, IsQuestion, IsRacesTaken, IsRunTaken, IsShowingTaken, IsStepTaken}
+use Rattle.lrc_cli_args.specs.Options.{asks_outcomes, IsSimTaken, IsThreadsWayIn, IsTraceForm, IsTraceTaken, IsWayIn, IsWhyTaken, most_in, nodes_in, option_number, outcome_in, some_number_in, takes_tries, texts_of, tries_in}
 
 -- no words at all stand for `sim -`
 abbrev pub words_meant : List Text → List Text
@@ -62,6 +67,7 @@ IsShowTaken found = ((found.0 ≡ codes "sim") × IsSimTaken found.1)
 abbrev pub IsCommandTaken : Option (Text × List Row) → Type 0
 IsCommandTaken None = ⊥
 IsCommandTaken (Some found) = ((found.0 ≡ codes "check") × HasValue (codes "FILE") found.1)
+    ⊎ ((found.0 ≡ codes "core") × HasValue (codes "FILE") found.1)
     ⊎ ((found.0 ≡ codes "plain") × IsPlainTaken found.1)
     ⊎ ((found.0 ≡ codes "judge") × IsJudgeTaken found.1)
     ⊎ ((found.0 ≡ codes "explore") × IsExploreTaken found.1)
@@ -140,6 +146,7 @@ pub record IsExploring (rows : List Row) (exploring : Exploring) : Type 0 where
   pub plainly : exploring.ignores_races ≡ true → asks_outcomes exploring.outcomes (outcome_in rows) rows ≡ false
   pub ends : IsFlag (codes "ends") exploring.ends rows
   pub ends_plainly : exploring.ends ≡ true → asks_outcomes exploring.outcomes (outcome_in rows) rows ≡ false
+  pub events : AreEventsChosen exploring.memory exploring.outcomes (outcome_in rows) exploring.ends rows exploring.events
 
 -- a chart of a run
 pub record IsRunChart (rows : List Row) (run : RunChoice) (charting : Charting) : Type 0 where
@@ -178,6 +185,7 @@ pub record IsWhyActs (rows : List Row) (acts : ForeignActs) (asking : Asking) : 
 -- the choice is the command that clap found, with its matches
 abbrev pub IsChoice : Text × List Row → Choice → Type 0
 IsChoice found (Check text) = (found.0 ≡ codes "check") × (first_of (codes "FILE") found.1 ≡ Some text.now)
+IsChoice found (Core text) = (found.0 ≡ codes "core") × (first_of (codes "FILE") found.1 ≡ Some text.now)
 IsChoice found (Plain run) = (found.0 ≡ codes "plain") × IsPlainRun found.1 run
 IsChoice found (Show run shape) = IsShowChoice found run shape
 IsChoice found (Judge judging) = (found.0 ≡ codes "judge") × IsJudging found.1 judging
@@ -196,24 +204,51 @@ IsTopic found Version = found.0 ≡ codes "version"
 pub record IsRacing (rows : List Row) (racing : Racing) : Type 0 where
   pub file : first_of (codes "FILE") rows ≡ Some racing.file.now
   pub form : IsTraceForm (first_of (codes "as") rows) racing.form
-  pub group : IsFlag (codes "group") racing.group rows
+  pub asked : IsQuestion rows (Told racing.grouping)
   pub sure : IsFlag (codes "sure") racing.sure rows
   pub json : IsFlag (codes "json") racing.json rows
-  pub plainly : witness_in rows ≡ None
+  pub strict : IsFlag (codes "strict") racing.strict rows
+
+-- Which report is judged. Its lines are no objects, and of it and the trace at most one is standard input.
+pub record IsScoring (rows : List Row) (scoring : Scoring) : Type 0 where
+  pub file : first_of (codes "FILE") rows ≡ Some scoring.file.now
+  pub form : IsTraceForm (first_of (codes "as") rows) scoring.form
+  pub asked : IsQuestion rows (Scored scoring.report)
+  pub apart : scoring.report.now ≡ codes "-" → scoring.file.now ≢ codes "-"
+  pub sure : IsFlag (codes "sure") scoring.sure rows
+  pub json : IsFlag (codes "json") false rows
+  pub strict : IsFlag (codes "strict") scoring.strict rows
+
+-- Of which two lines it is asked how their events are ordered.
+pub record IsReasoning (rows : List Row) (reasoning : Reasoning) : Type 0 where
+  pub file : first_of (codes "FILE") rows ≡ Some reasoning.file.now
+  pub form : IsTraceForm (first_of (codes "as") rows) reasoning.form
+  pub texts : Bor (List (Bor Text))
+  pub asked : IsQuestion rows (Reasoned texts)
+  pub lines : AreLines (texts_of texts) reasoning.lines
+  pub sure : IsFlag (codes "sure") false rows
+  pub json : IsFlag (codes "json") false rows
+  pub strict : IsFlag (codes "strict") reasoning.strict rows
 
 -- Of which two lines it is asked whether they are a sure race. The trace may be read twice, so it is a file.
 pub record IsWitnessing (rows : List Row) (witnessing : Witnessing) : Type 0 where
   pub file : first_of (codes "FILE") rows ≡ Some witnessing.file.now
   pub no_input : witnessing.file.now ≢ codes "-"
   pub form : IsTraceForm (first_of (codes "as") rows) witnessing.form
-  pub alone : IsAlone rows
-  pub lines : IsSomeAnd (witness_in rows) (λ texts. AreLines texts witnessing.lines)
+  pub texts : Bor (List (Bor Text))
+  pub asked : IsQuestion rows (Witnessed texts)
+  pub lines : AreLines (texts_of texts) witnessing.lines
+  pub sure : IsFlag (codes "sure") false rows
+  pub json : IsFlag (codes "json") false rows
+  pub strict : IsFlag (codes "strict") witnessing.strict rows
 
 -- what the command that clap found asks for, with its matches
 abbrev pub IsRequest : Text × List Row → Request → Type 0
 IsRequest found (About topic) = IsTopic found topic
 IsRequest found (Races racing) = (found.0 ≡ codes "races") × IsRacing found.1 racing
 IsRequest found (WitnessOf witnessing) = (found.0 ≡ codes "races") × IsWitnessing found.1 witnessing
+IsRequest found (ReasonsOf reasoning) = (found.0 ≡ codes "races") × IsReasoning found.1 reasoning
+IsRequest found (ScoreOf scoring) = (found.0 ≡ codes "races") × IsScoring found.1 scoring
 IsRequest found (Answer choice) = IsChoice found choice
 
 -- ---- what does not fit
@@ -270,7 +305,7 @@ StandsPlainly name outcomes rows =
     (given : Bool) × IsFlag name given rows × (given ≡ true → asks_outcomes outcomes (outcome_in rows) rows ≡ false)
 
 -- Of `explore`: the memory; then runs at random that are asked for and may not be; then races that are to be ignored and may not be; then
--- ends that are asked for and may not be; then numbers.
+-- ends that are asked for and may not be; then events; then numbers.
 pub record HasExploreMisfit (rows : List Row) (misfit : Misfit) : Type 0 where
   pub why : ((misfit ≡ MemoryMisfit) × ((memory : Memory) → ¬ IsMemory (first_of (codes "memory") rows) memory))
       ⊎ ((misfit ≡ TriesMisfit) × (memory : Memory) × (outcomes : Bool) × AreSought rows memory outcomes × IsSome (tries_in rows)
@@ -281,9 +316,15 @@ pub record HasExploreMisfit (rows : List Row) (misfit : Misfit) : Type 0 where
       ⊎ ((misfit ≡ EndsMisfit) × (memory : Memory) × (outcomes : Bool) × AreSought rows memory outcomes
       × (IsSome (tries_in rows) → takes_tries memory outcomes (outcome_in rows) ≡ true) × StandsPlainly (codes "ignore-races") outcomes rows
       × IsFlag (codes "ends") true rows × (asks_outcomes outcomes (outcome_in rows) rows ≡ true))
+      ⊎ ((memory : Memory) × (outcomes : Bool) × AreSought rows memory outcomes
+      × (IsSome (tries_in rows) → takes_tries memory outcomes (outcome_in rows) ≡ true) × StandsPlainly (codes "ignore-races") outcomes rows
+      × StandsPlainly (codes "ends") outcomes rows
+      × ((ends : Bool) × IsFlag (codes "ends") ends rows × HasEventsMisfit memory outcomes (outcome_in rows) ends rows misfit))
       ⊎ ((misfit ≡ Number) × (memory : Memory) × (outcomes : Bool) × AreSought rows memory outcomes
       × (IsSome (tries_in rows) → takes_tries memory outcomes (outcome_in rows) ≡ true) × StandsPlainly (codes "ignore-races") outcomes rows
-      × StandsPlainly (codes "ends") outcomes rows × HasBadExploreNumber rows)
+      × StandsPlainly (codes "ends") outcomes rows
+      × ((ends : Bool) × IsFlag (codes "ends") ends rows × ((events : Option Tells) × AreEventsChosen memory outcomes (outcome_in rows) ends rows events))
+      × HasBadExploreNumber rows)
 
 -- what does not fit in what clap found of a command that shows something of a run
 abbrev pub HasShowMisfit : Text × List Row → Misfit → Type 0
@@ -345,10 +386,18 @@ IsUsageKind ExactOption kind = kind ≡ ArgumentConflict
 IsUsageKind TriesMisfit kind = kind ≡ ArgumentConflict
 IsUsageKind IgnoredRaces kind = kind ≡ ArgumentConflict
 IsUsageKind EndsMisfit kind = kind ≡ ArgumentConflict
+IsUsageKind ExploreForm kind = kind ≡ InvalidValue
+IsUsageKind Events kind = kind ≡ ArgumentConflict
+IsUsageKind ToldOrder kind = kind ≡ InvalidValue
+IsUsageKind Tell kind = kind ≡ ArgumentConflict
 IsUsageKind TopicMisfit kind = kind ≡ InvalidSubcommand
 IsUsageKind TraceForm kind = kind ≡ InvalidValue
-IsUsageKind Lines kind = kind ≡ InvalidValue
+IsUsageKind Questions kind = kind ≡ ArgumentConflict
+IsUsageKind Score kind = kind ≡ ArgumentConflict
+IsUsageKind Reasons kind = kind ≡ ArgumentConflict
+IsUsageKind ReasonLines kind = kind ≡ InvalidValue
 IsUsageKind Witness kind = kind ≡ ArgumentConflict
+IsUsageKind WitnessLines kind = kind ≡ InvalidValue
 IsUsageKind Hide kind = kind ≡ InvalidValue
 IsUsageKind TextSource kind = kind ≡ ArgumentConflict
 IsUsageKind SameAct kind = kind ≡ ArgumentConflict

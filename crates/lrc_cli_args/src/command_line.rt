@@ -123,6 +123,9 @@ fn choice_from<'w>(matches: &ArgMatches<'w>) -> Result<Choice<'w>, Misfit>
     if let Some(options) = matches.subcommand_matches("check") {
         return Ok(Choice::Check(text_of(options, "FILE")));
     }
+    if let Some(options) = matches.subcommand_matches("core") {
+        return Ok(Choice::Core(text_of(options, "FILE")));
+    }
     if let Some(options) = matches.subcommand_matches("plain") {
         return plain_choice(options);
     }

@@ -5,9 +5,9 @@ ghost use Rattle.std.specs.Int.{IsOutOfRange};
 ghost use Rattle.std.specs.List.{list_any};
 ghost use Rattle.clap.specs.Facts.{explicit_source};
 ghost use Rattle.clap.specs.Takes.{is_given};
-ghost use Rattle.clap.specs.Words.{first_of, found_of, rows_of};
+ghost use Rattle.clap.specs.Words.{all_of, first_of, found_of, rows_of};
 ghost use Rattle.lrc_cli_args.specs.Options.{HasBadPage, HasValue, IsBareNumber, IsFlag, IsFlagOption, IsNumberOption, IsPageSize};
-ghost use Rattle.lrc_cli_args.specs.Options.{collect_in, given_number, most_in, nodes_in, option_number, outcome_in, some_number_in, steps_in, tries_in};
+ghost use Rattle.lrc_cli_args.specs.Options.{collect_in, given_number, most_in, nodes_in, option_number, outcome_in, some_number_in, steps_in, texts_of, tries_in};
 ghost use Rattle.lrc_cli_args.specs.declared.misfit.Misfit.TheVariants as unfit;
 ghost use Rattle.lrc_page.specs.declared.size.Size.{Size};
 
@@ -23,6 +23,24 @@ pub(crate) fn text_of<'w>(options: &ArgMatches<'w>, name: &str) -> &'w str
     ensures { first_of name.now (rows_of (found_of options.now)) ≡ Some result.now }
 {
     options.get_str(name).unwrap()
+}
+
+/// Returns the value of an option or argument that may be absent.
+pub(crate) fn some_text_of<'w>(options: &ArgMatches<'w>, name: &str) -> Option<&'w str>
+    ensures { option_map (λ text. text.now) result
+        ≡ first_of name.now (rows_of (found_of options.now)) }
+{
+    options.get_str(name)
+}
+
+/// Returns the values of an option that takes several and may be absent.
+pub(crate) fn some_texts_of<'q, 'w>(
+    options: &'q ArgMatches<'w>,
+    name: &str,
+) -> Option<&'q [&'w str]>
+    ensures { option_map texts_of result ≡ all_of name.now (rows_of (found_of options.now)) }
+{
+    options.get_strs(name)
 }
 
 /// Returns whether the words name a flag.

@@ -3,7 +3,7 @@
 ghost use Rattle.std.specs.Prelude.{◌≡◌, [], IfOk, false};
 ghost use Rattle.clap.specs.Words.{App, Rule, app_of, rule_of, with_rule, with_subcommand};
 ghost use Rattle.clap.specs.declared.builder.command.Command.TheViews.{out-Command as fields_of};
-ghost use Rattle.lrc_cli_words.specs.Commands.{act, bare_number, chart_command, check_command, collect, explain_command, explore_command, file, flag_option, form, help_command, judge_command, line_pair, lint_command, memory, most, nodes, number_option, option, order};
+ghost use Rattle.lrc_cli_words.specs.Commands.{act, bare_number, chart_command, check_command, collect, core_command, explain_command, explore_command, file, flag_option, form, help_command, judge_command, line_pair, lint_command, memory, most, nodes, number_option, option, order};
 ghost use Rattle.lrc_cli_words.specs.Commands.{optional_file, page, plain_command, races_command, run_command, sim_command, stats_command, step_command, steps, trace_command, trace_form, treadmarks, treadmarks_shape, version_command, why_command};
 ghost use Rattle.lrc_cli_words.specs.Commands.{is_command, with_counts, with_hints, with_part, with_ways};
 ghost use Rattle.lrc_cli_words.specs.Commands.{with_questions, with_reports, with_run_options, with_showing_options, with_topics, with_way_options};
@@ -94,6 +94,12 @@ const IGNORE_RACES_HELP: &str =
 const ENDS_HELP: &str =
     "Tells too whether every order can end, so that no node waits for what can no longer come";
 
+const EXPLORE_FORM_HELP: &str =
+    "events: in place of all lines, prints the events by which `sim --events` makes a run that follows the order told, the first if several are. Not with the list of outcomes, or `--memory lazy`";
+
+const TELL_HELP: &str =
+    "With `--as events`: which order they are of: stuck, trap, or end, which goes with `--ends`; not with `--outcome`. Left out, the first that is told";
+
 const OUTCOME_HELP: &str =
     "Shows the acts of a run that has the outcome of this number in the list of `--outcomes`, counted from 1, in place of the list";
 
@@ -122,10 +128,21 @@ const TRACE_FORM_HELP: &str =
 const GROUP_HELP: &str =
     "Tells the races by their locations, with how often each was told, when the trace has ended";
 
+const LOCATIONS_HELP: &str =
+    "Tells each pair of locations that race once, when the trace has ended";
+
 const SURE_HELP: &str =
     "Tells only the sure races: those of which another trace of the same program shows the two accesses side by side";
 
 const JSON_HELP: &str = "Prints each line as a JSON object";
+
+const STRICT_HELP: &str = "Takes the first event that no program would give for a fault";
+
+const SCORE_HELP: &str =
+    "Says of each claim of a detector's report, a file or `-`, whether it is true, and what the report missed; not with `--json`, or where FILE is `-` too";
+
+const REASONS_HELP: &str =
+    "Says step by step how the events at lines I and J are ordered, or that they race. I is less than J; not with `--sure` or `--json`";
 
 // What the help of `races` says of traces.
 const TRACE_NOTES: &str = "Operations:
@@ -142,13 +159,22 @@ What orders, of two events the earlier before the later:
   a rel or post, and an acq or wait of the same lock
   a fork of the later one's thread; a join of the earlier one's thread; a fork and a join of one thread
   an arrive and a depart in one cycle of a barrier: the first depart closes the cycle
-  and what follows from these step by step";
+  and what follows from these step by step
+
+Claims of a report, one on each line; status 3 where one is false, else 4 where something is missed:
+  event J                the access at line J races with an earlier one
+  pair I J               the accesses at lines I and J race
+  locations A|B          some two accesses race, one at the location A and the other at B
+  variable V             some two accesses of V race
+  first V J              line J is the first access of V that races with an earlier one
+
+Of `--group`, `--locations`, `--score`, `--why` and `--witness` one can be given";
 
 const WITNESS_HELP: &str =
-    "Shows that the accesses at lines I and J are a sure race: prints the events by way of which they were reached, and then the two. If they are none, says why. I is less than J; not with `--group`, `--sure` or `--json`, or where FILE is `-`";
+    "Shows by which events the accesses at lines I and J were reached, if they are a sure race; else says why, with status 4. I is less than J; not with `--sure` or `--json`, or where FILE is `-`";
 
-// The two lines that `--witness` takes.
-static WITNESS_LINES: [&str; 2] = ["I", "J"];
+// The two lines that `--why` and `--witness` take.
+static LINE_PAIR: [&str; 2] = ["I", "J"];
 
 const COMMAND_HELP: &str = "The command. Left out, the commands are listed";
 
@@ -157,18 +183,18 @@ const VERSION: &str = "0.1.0";
 
 // What the help says of the exit status, and of the one line that cannot say which option it means.
 const STATUSES: &str = "Exit status:
-  0  all nodes ended, and no race was found (check: the text is a program; chart: the run was drawn; judge, explore:
-     nothing was found; races: no race was told; lint: the text is a program; why, help, version: always)
-  1  a fault of the text, a file, the events, memory or the output (lint: the text is no program)
+  0  all nodes ended, and no race was found (check, core, lint: the text is a program; chart: the run was drawn; judge, explore:
+     nothing was found; races: no race was told; why, help, version: always)
+  1  a fault of the text, a file, the events, memory or the output (check, core, lint: the text is no program)
   2  a fault of the words, or `--help` or `--version`. `number out of range` says that a number is not in the range that the help of
      its command gives
-  3  a race was found
-  4  no race, and a node trapped or is unfinished (judge: the acts are of no run; explore: some order gets stuck
-     or traps)";
+  3  a race was found (races --score: a claim is false)
+  4  no race, and a node trapped or is unfinished (judge: the acts are of no run; explore: some order gets stuck or traps,
+     or can no longer end; races --witness: it is no sure race; races --score: no claim is false, and something is missed)";
 
 // The names of the commands.
-static COMMANDS: [&str; 16] = [
-    "check", "plain", "sim", "run", "trace", "step", "explain", "stats", "chart", "judge",
+static COMMANDS: [&str; 17] = [
+    "check", "core", "plain", "sim", "run", "trace", "step", "explain", "stats", "chart", "judge",
     "explore", "why", "lint", "races", "help", "version",
 ];
 
@@ -208,6 +234,7 @@ fn taking_reports<'w>(alloc: Global, command: Command<'w>) -> Result<Command<'w>
     ensures { IfOk result (λ given. app_of given ≡ with_reports (app_of command.entry)) }
 {
     let command = having(Ok(command), check_command(alloc));
+    let command = having(command, core_command(alloc));
     let command = having(command, plain_command(alloc));
     let command = having(command, sim_command(alloc));
     having(command, run_command(alloc))
@@ -283,6 +310,17 @@ fn check_command<'w>(alloc: Global) -> Result<Command<'w>, AllocError>
 {
     Command::new(alloc, "check")
         .about("Prints `ok` if the text of FILE is a program")
+        .arg(file(alloc, FILE_HELP))
+}
+
+fn core_command<'w>(alloc: Global) -> Result<Command<'w>, AllocError>
+    ensures app { IfOk result (λ command. app_of command ≡ core_command) }
+    ensures local { IfOk result (λ command. (fields_of command).has_globals ≡ false) }
+{
+    Command::new(alloc, "core")
+        .about(
+            "Prints the core of the program of FILE: what it stands for, with numbered words and locks in place of names",
+        )
         .arg(file(alloc, FILE_HELP))
 }
 
@@ -413,7 +451,9 @@ fn explore_command<'w>(alloc: Global) -> Result<Command<'w>, AllocError>
         command,
         flag_option(alloc, "ignore-races", IGNORE_RACES_HELP),
     );
-    taking(command, flag_option(alloc, "ends", ENDS_HELP))
+    let command = taking(command, flag_option(alloc, "ends", ENDS_HELP));
+    let command = taking(command, text(alloc, "as", "FORM", EXPLORE_FORM_HELP));
+    taking(command, text(alloc, "tell", "ORDER", TELL_HELP))
 }
 
 fn why_command<'w>(alloc: Global) -> Result<Command<'w>, AllocError>
@@ -451,8 +491,12 @@ fn races_command<'w>(alloc: Global) -> Result<Command<'w>, AllocError>
     let command = taking(Ok(command), file(alloc, TRACE_HELP));
     let command = taking(command, trace_form(alloc));
     let command = taking(command, flag_option(alloc, "group", GROUP_HELP));
+    let command = taking(command, flag_option(alloc, "locations", LOCATIONS_HELP));
     let command = taking(command, flag_option(alloc, "sure", SURE_HELP));
     let command = taking(command, flag_option(alloc, "json", JSON_HELP));
+    let command = taking(command, flag_option(alloc, "strict", STRICT_HELP));
+    let command = taking(command, text(alloc, "score", "REPORT", SCORE_HELP));
+    let command = taking(command, line_pair(alloc, "why", REASONS_HELP));
     taking(command, line_pair(alloc, "witness", WITNESS_HELP))
 }
 
@@ -581,7 +625,7 @@ fn line_pair<'w>(alloc: Global, name: &'w str, help: &'w str) -> Arg<'w>
 {
     Arg::new(alloc, name)
         .long(name)
-        .value_names(&WITNESS_LINES)
+        .value_names(&LINE_PAIR)
         .help(help)
 }
 

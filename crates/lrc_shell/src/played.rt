@@ -45,6 +45,7 @@ where
         Ok(Request::Witness(witnessing)) => {
             tell_witness(rt.alloc(), &witnessing, sources, out, err)
         }
+        Ok(Request::Reasons(_) | Request::Score(_)) => 1,
         Ok(Request::About(topic)) => tell_topic(rt.alloc(), &topic, out, err),
         Err(fault) => refuse(&fault, err),
     }

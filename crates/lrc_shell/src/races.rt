@@ -5,7 +5,7 @@ ghost use Rattle.lrc_races_stream.specs.Plays.{IsRacesPlayed};
 ghost use Rattle.lrc_races_stream.specs.Witness.{IsWitnessPlayed};
 ghost use Rattle.lrc_shell.specs.Plays.{asked_of, form_of, layout_of, sought_of};
 
-use lrc_cli_args::choice::{Racing, TraceForm, Witnessing};
+use lrc_cli_args::choice::{Grouping, Racing, TraceForm, Witnessing};
 use lrc_races_stream::{play_races, play_witness};
 use lrc_races_text::asked::{Asked, Layout, Sought};
 use lrc_races_text::form::Form;
@@ -74,7 +74,7 @@ fn asked_of(racing: &Racing<'_>) -> Asked
 {
     Asked {
         sought: sought_of(racing.sure),
-        group: racing.group,
+        group: matches!(racing.grouping, Grouping::Groups),
         layout: layout_of(racing.json),
     }
 }

@@ -21,6 +21,8 @@ mod stepped;
 #[cfg(test)]
 mod threads;
 #[cfg(test)]
+mod traces;
+#[cfg(test)]
 mod words;
 #[cfg(test)]
 mod writers;

@@ -1,10 +1,10 @@
 // Lines of words, and the choice that they make.
 
 use crate::checks::passes;
+use crate::traces::{Report, TwoLines, is_wanted_of_trace};
 use lrc_cli_args::choice::{
     Asking, ChartedActs, Charting, Choice, ChooseFault, Exploring, ForeignActs, Form, Judging,
-    LinePair, Memory, Part, PlainRun, Racing, Request, RunOptions, Shape, Then, Topic, TraceForm,
-    Way, Witnessing,
+    Memory, Part, PlainRun, Racing, Request, RunOptions, Shape, Tell, Then, Topic, Way,
 };
 use lrc_cli_args::choose;
 use lrc_envelope::Picker;
@@ -38,10 +38,12 @@ pub struct Run {
 #[derive(Clone, Copy)]
 pub enum Wanted {
     Lint(&'static str),
-    /// The races of a trace, in the form of acts or not, by groups or not, as objects or not.
-    Races(&'static str, bool, bool, bool),
-    /// Of a trace, in the form of acts or not: the two lines of which it is asked.
-    Witness(&'static str, bool, u64, u64),
+    /// The core of a program.
+    Core(&'static str),
+    Races(Racing<'static>),
+    Witness(TwoLines),
+    Reasons(TwoLines),
+    Score(Report),
     /// Of a run: of which act it is asked, and of which other.
     Why(Run, u64, Option<u64>),
     /// The same of acts from a file, of so many nodes, with pages of this size.
@@ -60,6 +62,8 @@ pub enum Wanted {
     Explore(&'static str, u32, u32, bool, Memory, Option<u32>),
     /// The file of a program of which it is asked whether every order can end, and whether races are ignored.
     Ends(&'static str, bool),
+    /// The events of an order, or of a run with this outcome, by outcomes or not, with ends asked for or not.
+    Events(&'static str, Tell, Option<u64>, bool, bool),
     /// The list of commands.
     Commands,
     /// The help of this command.
@@ -170,16 +174,14 @@ fn are_charted(made: &ChartedActs<'_>, file: &str, nodes: Option<u32>) -> bool {
     made.file == file && made.nodes.map(|nodes| nodes.count) == nodes
 }
 
-fn is_racing(made: &Racing<'_>, file: &str, acts: bool, group: bool) -> bool {
-    made.file == file && matches!(made.form, TraceForm::Acts) == acts && made.group == group
-}
-
-fn is_witnessing(made: &Witnessing<'_>, file: &str, acts: bool) -> bool {
-    made.file == file && matches!(made.form, TraceForm::Acts) == acts
-}
-
-fn are_lines(made: LinePair, first: u64, second: u64) -> bool {
-    made.first == first && made.second == second
+fn is_same_tell(made: Option<Tell>, wanted: Tell) -> bool {
+    matches!(
+        (made, wanted),
+        (Some(Tell::First), Tell::First)
+            | (Some(Tell::Stuck), Tell::Stuck)
+            | (Some(Tell::Trap), Tell::Trap)
+            | (Some(Tell::End), Tell::End)
+    )
 }
 
 fn is_wanted_why(made: &Choice<'_>, wanted: &Wanted) -> bool {
@@ -204,6 +206,7 @@ fn is_wanted(made: &Choice<'_>, wanted: &Wanted) -> bool {
             are_charted(made, file, *nodes) && is_same_charting(*charting, *wanted)
         }
         (Choice::Check(made), Wanted::Check(file)) => made == file,
+        (Choice::Core(made), Wanted::Core(file)) => made == file,
         (Choice::Plain(made), Wanted::Plain(file, nodes, steps)) => {
             is_plain(made, file, *nodes, *steps)
         }
@@ -223,9 +226,20 @@ fn is_wanted(made: &Choice<'_>, wanted: &Wanted) -> bool {
                 && is_exploring(made, *nodes, *most, *outcomes)
                 && is_sought(made, *memory, *tries)
                 && !made.ends
+                && made.events.is_none()
         }
         (Choice::Explore(made), Wanted::Ends(file, ignores)) => {
-            made.file == *file && made.ends && made.ignores_races == *ignores
+            made.file == *file
+                && made.ends
+                && made.ignores_races == *ignores
+                && made.events.is_none()
+        }
+        (Choice::Explore(made), Wanted::Events(file, tell, outcome, outcomes, ends)) => {
+            made.file == *file
+                && is_same_tell(made.events, *tell)
+                && made.outcome.map(|outcome| outcome.number) == *outcome
+                && made.outcomes == *outcomes
+                && made.ends == *ends
         }
         _ => false,
     }
@@ -242,18 +256,9 @@ fn is_wanted_topic(made: &Topic<'_>, wanted: &Wanted) -> bool {
 fn is_wanted_request(made: &Request<'_>, wanted: &Wanted) -> bool {
     match made {
         Request::About(topic) => is_wanted_topic(topic, wanted),
-        Request::Races(racing) => match wanted {
-            Wanted::Races(file, acts, group, json) => {
-                is_racing(racing, file, *acts, *group) && racing.json == *json
-            }
-            _ => false,
-        },
-        Request::Witness(made) => match wanted {
-            Wanted::Witness(file, acts, first, second) => {
-                is_witnessing(made, file, *acts) && are_lines(made.lines, *first, *second)
-            }
-            _ => false,
-        },
+        Request::Races(_) | Request::Witness(_) | Request::Reasons(_) | Request::Score(_) => {
+            is_wanted_of_trace(made, wanted)
+        }
         Request::Answer(choice) => is_wanted(choice, wanted),
     }
 }
@@ -349,6 +354,8 @@ const CHOICES: &[Row] = &[
     ),
     ("", Wanted::Run(Run { file: "-", ..A_RUN })),
     ("check a.tm", Wanted::Check("a.tm")),
+    ("core a.tm", Wanted::Core("a.tm")),
+    ("core -", Wanted::Core("-")),
     // The options of a run.
     (
         "sim - --nodes 3 --order newest --page=256 --collect 1000000",
@@ -567,30 +574,34 @@ const CHOICES: &[Row] = &[
         "explore a.tm --ends --ignore-races",
         Wanted::Ends("a.tm", true),
     ),
+    // The events of an order.
+    (
+        "explore a.tm --as events",
+        Wanted::Events("a.tm", Tell::First, None, false, false),
+    ),
+    (
+        "explore a.tm --as=events --memory flat --tell stuck",
+        Wanted::Events("a.tm", Tell::Stuck, None, false, false),
+    ),
+    (
+        "explore a.tm --tell=trap --ends --as events",
+        Wanted::Events("a.tm", Tell::Trap, None, false, true),
+    ),
+    (
+        "explore a.tm --ends --as events --tell end",
+        Wanted::Events("a.tm", Tell::End, None, false, true),
+    ),
+    (
+        "explore a.tm --outcome 2 --as events",
+        Wanted::Events("a.tm", Tell::First, Some(2), false, false),
+    ),
+    (
+        "explore a.tm --outcomes --outcome 2 --as events",
+        Wanted::Events("a.tm", Tell::First, Some(2), true, false),
+    ),
     // What is wrong with texts and traces, and why acts are as they are.
     ("lint a.tm", Wanted::Lint("a.tm")),
     ("lint -", Wanted::Lint("-")),
-    ("races -", Wanted::Races("-", false, false, false)),
-    (
-        "races t.std --as std --group",
-        Wanted::Races("t.std", false, true, false),
-    ),
-    (
-        "races --as=acts t.acts",
-        Wanted::Races("t.acts", true, false, false),
-    ),
-    (
-        "races --json t.std",
-        Wanted::Races("t.std", false, false, true),
-    ),
-    (
-        "races t.std --witness 3 18446744073709551615",
-        Wanted::Witness("t.std", false, 3, u64::MAX),
-    ),
-    (
-        "races --witness 01 +2 --as=acts t.acts",
-        Wanted::Witness("t.acts", true, 1, 2),
-    ),
     ("why a.tm --act 3", Wanted::Why(A_RUN, 3, None)),
     (
         "why --act=0 - --nodes 3 --and 18446744073709551615",
