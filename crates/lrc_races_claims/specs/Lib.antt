@@ -8,3 +8,4 @@ pub mod Judging
 pub mod Spelled
 pub mod Placed
 pub mod Missed
+pub mod Judge

@@ -4,10 +4,12 @@
 pub mod access;
 pub mod asking;
 pub mod firsts;
+pub mod judge;
 pub mod judging;
 pub mod known;
 pub mod naming;
 pub mod places;
 pub mod racing;
 pub mod spelling;
+pub mod turns;
 pub mod verdict;
