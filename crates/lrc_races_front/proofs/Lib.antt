@@ -1,1 +1,2 @@
-pub mod FrontLemmas
+mod FrontLemmas
+mod KeptLemmas

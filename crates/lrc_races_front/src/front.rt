@@ -3,9 +3,10 @@ ghost use Rattle.std.specs.Prelude.{◌≡◌, ◌↔◌, ◌<◌, ◌+◌, [], 
 ghost use Rattle.lrc_races_lines.specs.Line.{longest_line};
 ghost use Rattle.lrc_races_text.specs.declared.fault.Fault.TheVariants.{NoMemory};
 ghost use Rattle.lrc_races_front.specs.Front.{HasRead};
+ghost use Rattle.lrc_races_text.specs.declared.asked.Sought.{Sought as AnySought};
 ghost use Rattle.lrc_races_front.specs.Steps.{HasCompleted, HasEnded, HasGoneOn, HasGrown, HasNext, HasTakenPart, IsBadEnd, IsBadPart, IsBadRest, IsStopped, IsTooLong};
 
-use crate::kept::Kept;
+use crate::keeping::Keep;
 use lrc_races_lines::cause::Cause;
 use lrc_races_lines::reading::split;
 use lrc_races_text::fault::Fault;
@@ -15,7 +16,7 @@ use std::alloc::Global;
 
 /// The first lines of a trace of which some bytes have come.
 #[derive(Drop)]
-pub struct Front {
+pub struct Front<K> {
     form: Form,
     /// How many lines are wanted.
     last: u64,
@@ -24,21 +25,23 @@ pub struct Front {
     /// The bytes of the next line that have come.
     rest: Vec<u8>,
     /// What is kept of the complete lines.
-    pub kept: Kept,
+    pub kept: K,
 }
 
-impl Front {
-    /// Creates the state before any byte. So many lines are wanted, at least one. It allocates nothing.
-    pub fn new(alloc: Global, form: Form, last: u64) -> Front
+impl<K: Keep> Front<K> {
+    /// Creates the state before any byte. So many lines are wanted, at least one, and `kept` is kept of none. It
+    /// allocates nothing.
+    pub fn new(alloc: Global, form: Form, last: u64, kept: K) -> Front<K>
         requires { 0 < last }
-        ensures { HasRead form last [] result }
+        ensures { (sought : AnySought) → K.has_kept sought form [] kept
+            → HasRead (K.has_kept sought) form last [] result }
     {
         Front {
             form,
             last,
             lines: 0,
             rest: Vec::new(alloc),
-            kept: Kept::new(alloc),
+            kept,
         }
     }
 
@@ -65,8 +68,8 @@ impl Front {
 
     // Keeps what has come more of the next line.
     fn grow(&mut self, part: &[u8]) -> Result<(), Fault>
-        ensures ok { OnOk result (HasGrown self.old part.now self.new) }
-        ensures bad { IfErr result (IsTooLong self.old part.now) }
+        ensures ok { OnOk result (HasGrown K.has_kept self.old part.now self.new) }
+        ensures bad { IfErr result (IsTooLong K.has_kept self.old part.now self.new.kept) }
     {
         let number = self.next()?;
         if self.is_too_long(part) {
@@ -79,8 +82,8 @@ impl Front {
 
     // Takes the next line, of which all has come.
     fn complete(&mut self) -> Result<(), Fault>
-        ensures ok { OnOk result (HasCompleted self.old self.new) }
-        ensures bad { IfErr result (IsBadRest self.old) }
+        ensures ok { OnOk result (HasCompleted K.has_kept self.old self.new) }
+        ensures bad { IfErr result (IsBadRest K.has_kept self.old self.new.kept) }
     {
         let number = self.next()?;
         match self.kept.take(self.form, self.rest.as_slice(), number) {
@@ -95,8 +98,8 @@ impl Front {
 
     // Takes what the next line has up to its line feed.
     fn take_part(&mut self, part: &[u8]) -> Result<(), Fault>
-        ensures ok { OnOk result (HasTakenPart self.old part.now self.new) }
-        ensures bad { IfErr result (IsBadPart self.old part.now) }
+        ensures ok { OnOk result (HasTakenPart K.has_kept self.old part.now self.new) }
+        ensures bad { IfErr result (IsBadPart K.has_kept self.old part.now self.new.kept) }
     {
         match self.grow(part) {
             Ok(()) => self.complete(),
@@ -106,8 +109,8 @@ impl Front {
 
     // Keeps what a block has of the next line, which goes on behind it.
     fn take_cut(&mut self, part: &[u8]) -> Result<bool, Fault>
-        ensures ok { IfOk result (λ come. (come ≡ false) × HasGrown self.old part.now self.new) }
-        ensures bad { IfErr result (IsTooLong self.old part.now) }
+        ensures ok { IfOk result (λ come. (come ≡ false) × HasGrown K.has_kept self.old part.now self.new) }
+        ensures bad { IfErr result (IsTooLong K.has_kept self.old part.now self.new.kept) }
     {
         match self.grow(part) {
             Ok(()) => Ok(false),
@@ -130,10 +133,11 @@ impl Front {
     }
 
     /// Takes the next block of the trace, of any size, up to the last line that is wanted. Returns whether that line has
-    /// come. After a fault, or once the line has come, nothing more may be taken.
+    /// come. After a fault, or once the line has come, nothing more may be taken. After a bad line it still has what is
+    /// kept of the lines before it.
     pub fn take(&mut self, block: &[u8]) -> Result<bool, Fault>
-        ensures ok { IfOk result (HasGoneOn self.old block.now self.new) }
-        ensures bad { IfErr result (IsStopped self.old block.now) }
+        ensures ok { IfOk result (HasGoneOn K.has_kept self.old block.now self.new) }
+        ensures bad { IfErr result (IsStopped K.has_kept self.old block.now self.new.kept) }
     {
         let mut left = block;
         while let Some((part, behind)) = split(left, b'\n') {
@@ -150,10 +154,10 @@ impl Front {
     }
 
     /// Ends the trace. It takes a last line without a line feed, and returns whether the last line that is wanted has
-    /// come.
+    /// come. After a bad line it still has what is kept of the lines before it.
     pub fn end(&mut self) -> Result<bool, Fault>
-        ensures ok { IfOk result (HasEnded self.old self.new) }
-        ensures bad { IfErr result (IsBadEnd self.old) }
+        ensures ok { IfOk result (HasEnded K.has_kept self.old self.new) }
+        ensures bad { IfErr result (IsBadEnd K.has_kept self.old self.new.kept) }
     {
         if self.is_between() {
             return Ok(false);

@@ -3,9 +3,9 @@ ghost use Rattle.std.specs.Prelude.{◌≡◌, [], IfErr, OnOk};
 ghost use Rattle.lrc_races_lines.specs.Line.{saying_of};
 ghost use Rattle.lrc_races_text.specs.declared.fault.Fault.TheVariants.{NoMemory};
 ghost use Rattle.lrc_races_text.specs.declared.form.Form.{Form as AnyForm};
-ghost use Rattle.lrc_races_text.specs.Session.{FailsLine};
-ghost use Rattle.lrc_races_front.specs.Front.{HasKept, HasTakenLine, KeepsEvent};
+ghost use Rattle.lrc_races_front.specs.Kept.{HasKept, KeepsEvent};
 
+use crate::keeping::Keep;
 use lrc_races_lines::line::{Line, Named};
 use lrc_races_lines::reading::body_of;
 use lrc_races_text::fault::Fault;
@@ -49,12 +49,12 @@ impl Kept {
         self.texts.push(text)?;
         Ok(())
     }
+}
 
-    /// Takes the next line, which has this number and comes without its line feed.
-    pub fn take(&mut self, form: Form, line: &[u8], number: u64) -> Result<(), Fault>
-        ensures ok { OnOk result (HasTakenLine form line.now number self.old self.new) }
-        ensures bad { IfErr result (FailsLine form line.now number) }
-    {
+impl Keep for Kept {
+    ghost has_kept = { λ sought. HasKept };
+
+    fn take(&mut self, form: Form, line: &[u8], number: u64) -> Result<(), Fault> {
         match read(form, line) {
             Line::Nothing => Ok(()),
             Line::Event(named) => self.keep(named, number, body_of(line)),

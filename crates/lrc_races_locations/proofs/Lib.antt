@@ -4,3 +4,5 @@ pub mod Offering
 pub mod Rivaling
 pub mod Showing
 pub mod Knowing
+mod Locating
+mod Parts

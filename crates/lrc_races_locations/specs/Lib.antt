@@ -4,3 +4,5 @@ pub mod Spots
 pub mod Finding
 pub mod Taking
 pub mod Spelled
+pub mod Layouts
+pub mod Lines

@@ -3,6 +3,9 @@
 #![tactic(auto)]
 
 pub mod detector;
+pub mod layouts;
+pub mod located;
 pub mod locator;
+pub mod objects;
 pub mod spelling;
 pub mod spots;

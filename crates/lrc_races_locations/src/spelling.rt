@@ -13,7 +13,7 @@ use lrc_text::push_number;
 use std::alloc::AllocError;
 
 // Adds two parts of a line.
-fn push_two(text: &mut Vec<u8>, one: &[u8], other: &[u8]) -> Result<(), AllocError>
+pub(crate) fn push_two(text: &mut Vec<u8>, one: &[u8], other: &[u8]) -> Result<(), AllocError>
     ensures { OnOk result (text.new.items ≡ text.old.items ++ one.now ++ other.now) }
 {
     text.extend_from_slice(one)?;
@@ -22,7 +22,7 @@ fn push_two(text: &mut Vec<u8>, one: &[u8], other: &[u8]) -> Result<(), AllocErr
 }
 
 // A name, by its number.
-fn name(table: &Table, number: u32) -> &[u8]
+pub(crate) fn name(table: &Table, number: u32) -> &[u8]
     ensures { result.now ≡ name_at (names_of table.now) number }
 {
     match table.name(number as usize) {
@@ -40,7 +40,7 @@ fn variable_word(form: Form) -> &'static [u8]
     }
 }
 
-fn kind_word(operation: Operation) -> &'static [u8]
+pub(crate) fn kind_word(operation: Operation) -> &'static [u8]
     ensures { result.now ≡ kind_word operation }
 {
     match operation {
@@ -50,7 +50,7 @@ fn kind_word(operation: Operation) -> &'static [u8]
 }
 
 // The variable of an access.
-fn variable_of(operation: Operation) -> u32
+pub(crate) fn variable_of(operation: Operation) -> u32
     ensures { result ≡ variable_of operation }
 {
     match operation {

@@ -1,2 +1,6 @@
 pub mod TellerLemmas
+mod AnswerLemmas
+mod ByLine
+mod LocationLemmas
+mod Paths
 mod SeekerLemmas

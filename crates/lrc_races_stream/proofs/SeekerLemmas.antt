@@ -1,165 +1,125 @@
--- What is kept of the first lines of a trace answers the question about two of them.
-use Rattle.std.proofs.Common.{◌≡◌, ℕ, ◌+◌, ◌<◌, ◌≤◌, List, [], ◌∷◌, ◌++◌, Bool, zero, suc, true, false, Option, None, Some, sym, subst, ap, ◌∙◌, arith}
-use Rattle.std.specs.Prelude.{Contains, IfNone, MatchOption}
+-- The first lines of a trace are read block by block, up to the last one that is wanted, or why they are not.
+use Rattle.std.proofs.Common.{ℕ, List, [], ◌++◌, Bool, true, false, refl, sym, ◌∙◌}
+use Rattle.std.specs.Prelude.{Err, IfErr, IfOk, Ok, Result}
 use Rattle.std.specs.declared.io.ErrorKind.{ErrorKind}
-use Rattle.lrc_races_trace.specs.declared.event.Event.{Event}
-use Rattle.lrc_races_detector.proofs.Pairs.{pairs-append}
-use Rattle.lrc_races_text.specs.Naming.{AreEvents, Naming, event_more, no_events}
-use Rattle.lrc_races_text.specs.Says.{Said, Say, blank_line, event_line, no_line}
-use Rattle.lrc_races_text.specs.Session.{Text}
-use Rattle.lrc_races_text.specs.Tables.{naming_of}
 use Rattle.lrc_races_text.specs.declared.fault.Fault.{Fault}
+use Rattle.lrc_races_text.specs.declared.asked.Sought.{Sought}
 use Rattle.lrc_races_text.specs.declared.form.Form.{Form}
-use Rattle.lrc_races_front.specs.Front.{HasKept, HasRead}
+use Rattle.lrc_races_front.specs.Front.{HasAll, HasRead, Keeping, all_lines}
 use Rattle.lrc_races_front.specs.Steps.{HasEnded, HasGoneOn, IsBadEnd, IsStopped}
 use Rattle.lrc_races_front.specs.declared.front.Front.{Front}
-use Rattle.lrc_races_front.specs.declared.kept.Kept.{Kept}
-use Rattle.lrc_races_witness.specs.Answer.{IsAnswered as IsAnsweredOf}
-use Rattle.lrc_races_witness.specs.Relations.{AreByLine}
 use Rattle.lrc_shell_sources.specs.Known.{Held, IsAtEnd, IsCause, IsReadOff}
-use Rattle.lrc_races_stream.specs.Witness.{IsAnswered, IsSeeking, IsSought, Witnesses, answered, come, cut, exhausted, lacking, last, past, stopped, unread}
-use Rattle.lrc_races_stream.specs.declared.witnessed.Witnessed.{Witnessed}
-use Rattle.lrc_races_stream.specs.declared.witnessed.Witnessed.TheVariants.{Answered, Faulted, Past, Unread}
+use Rattle.lrc_races_stream.specs.Reach.{AreAll, GoesOn, IsSeeking, IsStop, all, bad, cut, past, some, unread}
+use Rattle.lrc_races_stream.specs.declared.answer.Stop.{Stop}
+use Rattle.lrc_races_stream.specs.declared.answer.Stop.TheVariants.{Faulted, Past, Unread}
 use Rattle.lrc_races_stream.proofs.TellerLemmas.{nothing_read, read_on}
 
--- ---- the events stand by their lines
-
-only_one : (event other : Event) → Contains (event ∷ []) other → event ≡ other
-only_one event other (zero, lt, is) = is
-only_one event other (suc k, lt, is) = absurd (omega arith)
-
-alone : (event : Event) → AreByLine (event ∷ [])
-alone event i j d lt within = absurd (omega arith)
-
--- they do, and none stands before the first of the lines
-record AreFrom (number : ℕ) (events : List Event) : Type 0 where
-  by_line : AreByLine events
-  from : (event : Event) → Contains events event → number ≤ event.line
-
-from_more : (number : ℕ) (event : Event) (events : List Event) → event.line ≡ number
-    → ((other : Event) → Contains events other → number + 1 ≤ other.line) → (other : Event) → Contains (event ∷ events) other → number ≤ other.line
-from_more number event events here later other (zero, lt, is) =
-    let line_is : event.line ≡ other.line = ap (λ e. e.line) is in
-    omega arith
-from_more number event events here later other (suc k, lt, is) =
-    let above = later other (k, omega arith, is) in
-    omega arith
-
-said_by_line : {form : Form} {number : ℕ} {lines : List (List ℕ)} {said : List Said} {naming : Naming} {events : List Event} → Say form number lines said
-    → AreEvents naming said events → AreFrom number events
-said_by_line no_line no_events = record { by_line = λ i j d lt within. absurd (omega arith); from = λ event (k, lt, is). absurd (omega arith) }
-said_by_line (blank_line says rest) are =
-    let r = said_by_line rest are in
-    record { by_line = r.by_line; from = λ event has. let above = r.from event has in omega arith }
-said_by_line {number = number} (event_line says rest) (event_more {event = event} {events = events} is more) =
-    let r = said_by_line rest more in
-    let here : event.line ≡ number = is.line in
-    record {
-      by_line = pairs-append (λ a b. a.line < b.line) (event ∷ []) events (alone event) r.by_line (λ a b has has'.
-          let same = only_one event a has in
-          let line_is : event.line ≡ a.line = ap (λ e. e.line) same in
-          let above = r.from b has' in
-          omega arith);
-      from = from_more number event events here r.from;
-    }
-
-kept_by_line : (form : Form) (lines : List (List ℕ)) (kept : Kept) → HasKept form lines kept → AreByLine kept.events.items
-kept_by_line form lines kept h = (said_by_line h.says h.trace.numbered).by_line
-
--- of what has come of the lines
-pub come_by_line : (second : ℕ) (before after : Front) (block : List ℕ) (there : Bool) → IsSought second before → HasGoneOn before block after there
-    → there ≡ true → AreByLine after.kept.events.items
-come_by_line second before after block there (form, bytes, read) gone is_there =
-    let come_here = subst (HasGoneOn before block after) is_there gone form second bytes read in
-    kept_by_line form come_here.lines after.kept come_here.kept
-
-pub ended_by_line : (second : ℕ) (before after : Front) (there : Bool) → IsSought second before → HasEnded before after there → there ≡ true
-    → AreByLine after.kept.events.items
-ended_by_line second before after there (form, bytes, read) ends is_there =
-    let all = (subst (HasEnded before after) is_there ends form second bytes read).0 in
-    kept_by_line form _ after.kept all.kept
-
--- more is sought
-pub sought_on : (second : ℕ) (before after : Front) (block : List ℕ) (there : Bool) (result : Option Witnessed) (P : Witnessed → Type 0)
-    → IsSought second before → HasGoneOn before block after there → MatchOption result (there ≡ false) P
-    → IfNone result (IsSought second after)
-sought_on second before after block there None P (form, bytes, read) gone said =
-    (form, bytes ++ block, subst (HasGoneOn before block after) said gone form second bytes read)
-sought_on second before after block there (Some outcome) P sought gone said = tt
-
-pub sought_first : (form : Form) (second : ℕ) (front : Front) → HasRead form second [] front → IsSought second front
-sought_first form second front read = (form, [], read)
-
--- what is printed of what is kept
-pub answer_of : (kept : Kept) (first second status : ℕ) (events : List Event) (texts : List Text) (before : List ℕ) (printed : Text)
-    → events ≡ kept.events.items → texts ≡ kept.texts.items → before ≡ []
-    → IsAnsweredOf (naming_of kept.names).threads events texts first second before printed.items status
-    → IsAnswered kept first second (Answered printed status)
-answer_of kept first second status events texts before printed es ts bs a =
-    let threads = (naming_of kept.names).threads in
-    answered (subst (λ (b : List ℕ). IsAnsweredOf threads kept.events.items kept.texts.items first second b printed.items status) bs
-    (subst (λ (t : List Text). IsAnsweredOf threads kept.events.items t first second before printed.items status) ts
-    (subst (λ (e : List Event). IsAnsweredOf threads e texts first second before printed.items status) es a)))
-
 -- before any byte is read
-pub seeking_first : (form : Form) (second : ℕ) (held : Held) (front : Front) → HasRead form second [] front → IsSeeking form second held held front
-seeking_first form second held front read = record { bytes = []; read = nothing_read held; has_read = read }
+pub seeking_first : {K : Type 0} (Has : Keeping K) (form : Form) (last : ℕ) (held : Held) (front : Front K) → HasRead Has form last [] front
+    → IsSeeking Has form last held held front
+seeking_first Has form last held front read = record { bytes = []; read = nothing_read held; has_read = read }
 
-module _ (form : Form) (first second : ℕ) (held left : Held) (before : Front) (u : IsSeeking form second held left before) where
-  -- a block is read, and the second line has not come
-  pub seeking_on : (after : Held) (front : Front) (block : List ℕ) → IsReadOff left block after → HasGoneOn before block front false
-      → IsSeeking form second held after front
-  seeking_on after front block off gone =
-      record { bytes = u.bytes ++ block; read = read_on held left after u.bytes block u.read off; has_read = gone form second u.bytes u.has_read }
-
-  -- or it has
-  come_answered : (after : Held) (front : Front) (block : List ℕ) (outcome : Witnessed) → IsReadOff left block after
-      → HasGoneOn before block front true → IsAnswered front.kept first second outcome → Witnesses form held first second outcome
-  come_answered after front block _ off gone (answered a) =
-      let g = gone form second u.bytes u.has_read in
-      come (u.bytes ++ block) after g.lines g.more g.rest (read_on held left after u.bytes block u.read off) g.cut g.counted
-      (record { naming = naming_of front.kept.names; events = front.kept.events.items; texts = front.kept.texts.items; front = g.kept; answered = a })
-  come_answered after front block _ off gone lacking = exhausted
-
-  pub taken : (after : Held) (front : Front) (block : List ℕ) (there : Bool) (result : Option Witnessed) → IsReadOff left block after
-      → HasGoneOn before block front there → MatchOption result (there ≡ false) (λ outcome. (there ≡ true) × IsAnswered front.kept first second outcome)
-      → MatchOption result (IsSeeking form second held after front) (Witnesses form held first second)
-  taken after front block there None off gone said = seeking_on after front block off (subst (HasGoneOn before block front) said gone)
-  taken after front block there (Some outcome) off gone said =
-      come_answered after front block outcome off (subst (HasGoneOn before block front) said.0 gone) said.1
+module _ {K : Type 0} (Has : Sought → Keeping K) (sought : Sought) (form : Form) (last : ℕ) (held left : Held) (before : Front K)
+    (u : IsSeeking (Has sought) form last held left before) where
+  -- a block is read, and the last line that is wanted has come, or not
+  pub taken : (after : Held) (front : Front K) (block : List ℕ) (there : Bool) → IsReadOff left block after → HasGoneOn Has before block front there
+      → GoesOn (Has sought) form last held after front there
+  taken after front block true off gone =
+      let g = gone sought form last u.bytes u.has_read in
+      record {
+        lines = g.lines;
+        first = some (u.bytes ++ block) after g.more g.rest (read_on held left after u.bytes block u.read off) g.cut;
+        counted = g.counted;
+        has_kept = g.kept;
+      }
+  taken after front block false off gone =
+      record { bytes = u.bytes ++ block; read = read_on held left after u.bytes block u.read off; has_read = gone sought form last u.bytes u.has_read }
 
   -- or a line is bad
-  pub stopped_at : (after : Held) (fault : Fault) (block : List ℕ) → IsReadOff left block after → IsStopped before block fault
-      → Witnesses form held first second (Faulted fault)
-  stopped_at after fault block off stops =
-      stopped (u.bytes ++ block) after (read_on held left after u.bytes block u.read off) (stops form second u.bytes u.has_read)
+  pub stopped_at : (after : Held) (kept : K) (fault : Fault) (block : List ℕ) → IsReadOff left block after → IsStopped Has before block kept fault
+      → IsStop (Has sought) form last held kept (Faulted fault)
+  stopped_at after kept fault block off stops =
+      bad (u.bytes ++ block) after (read_on held left after u.bytes block u.read off) (stops sought form last u.bytes u.has_read)
 
-  -- the trace has ended, with the second line
-  end_answered : (front : Front) (outcome : Witnessed) → IsAtEnd left → HasEnded before front true → IsAnswered front.kept first second outcome
-      → Witnesses form held first second outcome
-  end_answered front _ end ends (answered a) =
-      let e = ends form second u.bytes u.has_read in
-      let all = e.0 in
-      last u.bytes left all.lines all.rest u.read end all.cut (sym all.counted ∙ e.1)
-      (record { naming = naming_of front.kept.names; events = front.kept.events.items; texts = front.kept.texts.items; front = all.kept; answered = a })
-  end_answered front _ end ends lacking = exhausted
+  -- the trace has ended
+  all_of : (front : Front K) → IsAtEnd left → (h : HasAll (Has sought) form last u.bytes front) → AreAll held (all_lines h.lines h.rest)
+  all_of front end h = record { bytes = u.bytes; left = left; read = u.read; end = end; whole = h.lines; rest = h.rest; cut = h.cut; are = refl }
 
-  pub ended_there : (front : Front) (there : Bool) (outcome : Witnessed) → IsAtEnd left → HasEnded before front there
-      → (there ≡ true) × IsAnswered front.kept first second outcome → Witnesses form held first second outcome
-  ended_there front there outcome end ends said = end_answered front outcome end (subst (HasEnded before front) said.0 ends) said.1
+  -- with the last line that is wanted,
+  pub ended_there : (after : Held) (front : Front K) → IsAtEnd left → HasEnded Has before front true → GoesOn (Has sought) form last held after front true
+  ended_there after front end ends =
+      let e = ends sought form last u.bytes u.has_read in
+      record {
+        lines = all_lines e.0.lines e.0.rest;
+        first = all (all_of front end e.0);
+        counted = sym e.0.counted ∙ e.1;
+        has_kept = e.0.kept;
+      }
 
-  -- or before it
-  pub ended_past : (front : Front) (there : Bool) → IsAtEnd left → HasEnded before front there → there ≡ false
-      → Witnesses form held first second (Past front.lines)
-  ended_past front there end ends not_there =
-      let e = subst (HasEnded before front) not_there ends form second u.bytes u.has_read in
-      let all = e.0 in
-      past u.bytes left all.lines all.rest all.kept.said u.read end all.cut all.kept.says all.counted e.1
+  -- or before it,
+  pub ended_past : (front : Front K) → IsAtEnd left → HasEnded Has before front false → IsStop (Has sought) form last held front.kept (Past front.lines)
+  ended_past front end ends =
+      let e = ends sought form last u.bytes u.has_read in
+      past (all_lines e.0.lines e.0.rest) (all_of front end e.0) e.0.kept e.0.counted e.1
 
   -- or its last line is bad
-  pub end_bad : (fault : Fault) → IsAtEnd left → IsBadEnd before fault → Witnesses form held first second (Faulted fault)
-  end_bad fault end bad = cut u.bytes left u.read end (bad form second u.bytes u.has_read)
+  pub end_bad : (kept : K) (fault : Fault) → IsAtEnd left → IsBadEnd Has before kept fault → IsStop (Has sought) form last held kept (Faulted fault)
+  end_bad kept fault end fails = cut u.bytes left u.read end (fails sought form last u.bytes u.has_read)
 
   -- no more can be read
-  pub no_more : (kind : ErrorKind) → IsCause left kind → Witnesses form held first second (Unread kind)
-  no_more kind cause = unread u.bytes left u.read cause
+  pub no_more : (kept : K) (kind : ErrorKind) → IsCause left kind → IsStop (Has sought) form last held kept (Unread kind)
+  no_more kept kind cause = unread u.bytes left u.read cause
+
+-- what is read of a block, or of the end, is read of the trace
+module _ {K : Type 0} (Has : Sought → Keeping K) (left after : Held) (before front : Front K) (result : Result Bool Stop) where
+  pub end_goes : IsAtEnd left → IfOk result (λ come. (sought : Sought) (form : Form) (last : ℕ) (held l a : Held)
+      → IsSeeking (Has sought) form last held l before → IsAtEnd l → GoesOn (Has sought) form last held a front come)
+      → IfOk result (λ come. (sought : Sought) (form : Form) (last : ℕ) (held : Held) → IsSeeking (Has sought) form last held left before
+      → GoesOn (Has sought) form last held after front come)
+  end_goes end goes = goes_of result end goes
+    where
+      goes_of : (r : Result Bool Stop) → IsAtEnd left → IfOk r (λ come. (sought : Sought) (form : Form) (last : ℕ) (held l a : Held)
+          → IsSeeking (Has sought) form last held l before → IsAtEnd l → GoesOn (Has sought) form last held a front come)
+          → IfOk r (λ come. (sought : Sought) (form : Form) (last : ℕ) (held : Held) → IsSeeking (Has sought) form last held left before
+          → GoesOn (Has sought) form last held after front come)
+      goes_of (Ok come) at_end h = λ sought form last held u. h sought form last held left after u at_end
+      goes_of (Err stop) at_end h = tt
+
+  pub end_stops : IsAtEnd left → IfErr result (λ stop. (sought : Sought) (form : Form) (last : ℕ) (held l : Held)
+      → IsSeeking (Has sought) form last held l before → IsAtEnd l → IsStop (Has sought) form last held front.kept stop)
+      → IfErr result (λ stop. (sought : Sought) (form : Form) (last : ℕ) (held : Held) → IsSeeking (Has sought) form last held left before
+      → IsStop (Has sought) form last held front.kept stop)
+  end_stops end stops = stops_of result end stops
+    where
+      stops_of : (r : Result Bool Stop) → IsAtEnd left → IfErr r (λ stop. (sought : Sought) (form : Form) (last : ℕ) (held l : Held)
+          → IsSeeking (Has sought) form last held l before → IsAtEnd l → IsStop (Has sought) form last held front.kept stop)
+          → IfErr r (λ stop. (sought : Sought) (form : Form) (last : ℕ) (held : Held) → IsSeeking (Has sought) form last held left before
+          → IsStop (Has sought) form last held front.kept stop)
+      stops_of (Ok come) at_end h = tt
+      stops_of (Err stop) at_end h = λ sought form last held u. h sought form last held left u at_end
+
+  pub take_goes : (block : List ℕ) → IsReadOff left block after → IfOk result (λ come. (sought : Sought) (form : Form) (last : ℕ) (held l a : Held)
+      → IsSeeking (Has sought) form last held l before → IsReadOff l block a → GoesOn (Has sought) form last held a front come)
+      → IfOk result (λ come. (sought : Sought) (form : Form) (last : ℕ) (held : Held) → IsSeeking (Has sought) form last held left before
+      → GoesOn (Has sought) form last held after front come)
+  take_goes block off goes = goes_of result off goes
+    where
+      goes_of : (r : Result Bool Stop) → IsReadOff left block after → IfOk r (λ come. (sought : Sought) (form : Form) (last : ℕ) (held l a : Held)
+          → IsSeeking (Has sought) form last held l before → IsReadOff l block a → GoesOn (Has sought) form last held a front come)
+          → IfOk r (λ come. (sought : Sought) (form : Form) (last : ℕ) (held : Held) → IsSeeking (Has sought) form last held left before
+          → GoesOn (Has sought) form last held after front come)
+      goes_of (Ok come) read h = λ sought form last held u. h sought form last held left after u read
+      goes_of (Err stop) read h = tt
+
+  pub take_stops : (block : List ℕ) → IsReadOff left block after → IfErr result (λ stop. (sought : Sought) (form : Form) (last : ℕ) (held l a : Held)
+      → IsSeeking (Has sought) form last held l before → IsReadOff l block a → IsStop (Has sought) form last held front.kept stop)
+      → IfErr result (λ stop. (sought : Sought) (form : Form) (last : ℕ) (held : Held) → IsSeeking (Has sought) form last held left before
+      → IsStop (Has sought) form last held front.kept stop)
+  take_stops block off stops = stops_of result off stops
+    where
+      stops_of : (r : Result Bool Stop) → IsReadOff left block after → IfErr r (λ stop. (sought : Sought) (form : Form) (last : ℕ) (held l a : Held)
+          → IsSeeking (Has sought) form last held l before → IsReadOff l block a → IsStop (Has sought) form last held front.kept stop)
+          → IfErr r (λ stop. (sought : Sought) (form : Form) (last : ℕ) (held : Held) → IsSeeking (Has sought) form last held left before
+          → IsStop (Has sought) form last held front.kept stop)
+      stops_of (Ok come) read h = tt
+      stops_of (Err stop) read h = λ sought form last held u. h sought form last held left after u read

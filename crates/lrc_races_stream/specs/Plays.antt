@@ -1,5 +1,5 @@
 -- What comes of the races of a file.
-use Rattle.std.specs.Prelude.{◌≡◌, ◌≢◌, ◌⊎◌, ◌++◌, ℕ, List, Option, codes, decimal}
+use Rattle.std.specs.Prelude.{◌≡◌, ◌≢◌, ◌⊎◌, ℕ, List, Option, codes}
 use Rattle.std.specs.Io.KnownBytes.{Keeps}
 use Rattle.std.specs.declared.io.ErrorKind.{ErrorKind}
 use Rattle.lrc_races_text.specs.declared.asked.Asked.{Asked}
@@ -7,17 +7,14 @@ use Rattle.lrc_races_text.specs.declared.form.Form.{Form}
 use Rattle.lrc_shell_sources.specs.Known.{Held, IsCause, Known}
 use Rattle.lrc_shell_sources.specs.Lines.{IsTold, memory_line, read_line}
 use Rattle.lrc_races_stream.specs.Comes.{Comes}
+use Rattle.lrc_races_stream.specs.Lines.{IsToldOrLacks, bad_line}
 use Rattle.lrc_races_stream.specs.declared.outcome.Outcome.{Outcome}
 use Rattle.lrc_races_stream.specs.declared.outcome.Outcome.TheVariants.{Ended, BadEvent, NoMemory, Unread, Unwritten}
-
--- the line on the first line of a trace that is bad, and why
-abbrev pub bad_line : ℕ → List ℕ → List ℕ
-bad_line line why = codes "treadmarks: trace line " ++ decimal line ++ codes ": bad event: " ++ why ++ codes "\n"
 
 -- What is said on standard error where a trace came to this, and the status. The line on a bad line may lack memory.
 abbrev pub IsConcluded : Outcome → Option (List ℕ) → Option (List ℕ) → ℕ → Type 0
 IsConcluded (Ended ended) err err' status = Keeps err err' × (status ≡ ended)
-IsConcluded (BadEvent line why) err err' status = (IsTold err err' (bad_line line why.items) ⊎ IsTold err err' memory_line) × (status ≡ 1)
+IsConcluded (BadEvent line why) err err' status = IsToldOrLacks err err' (bad_line line why.items) × (status ≡ 1)
 IsConcluded NoMemory err err' status = IsTold err err' memory_line × (status ≡ 1)
 IsConcluded (Unread kind) err err' status = IsTold err err' (read_line kind) × (status ≡ 1)
 IsConcluded Unwritten err err' status = Keeps err err' × (status ≡ 1)

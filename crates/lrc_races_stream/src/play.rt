@@ -1,20 +1,18 @@
 // From a path to the status: the races of a file.
 
-ghost use Rattle.std.specs.Prelude.{◌≡◌, ◌⊎◌, IfOk};
 ghost use Rattle.lrc_races_stream.specs.Comes.{Comes};
-ghost use Rattle.lrc_races_stream.specs.Plays.{IsConcluded, IsRacesPlayed, bad_line};
+ghost use Rattle.lrc_races_stream.specs.Plays.{IsConcluded, IsRacesPlayed};
 ghost use Rattle.lrc_races_stream.specs.declared.outcome.Outcome.{Outcome as AnyOutcome};
-ghost use Rattle.lrc_shell_sources.specs.Lines.{IsTold, memory_line};
 
+use crate::lines::refuse_line;
 use crate::outcome::Outcome;
 use crate::teller::tell_races;
 use lrc_races_text::asked::Asked;
 use lrc_races_text::form::Form;
 use lrc_shell_sources::blocks::Blocks;
-use lrc_shell_sources::refusal::{FAULT, refuse_file, refuse_memory, refuse_read, tell_line};
+use lrc_shell_sources::refusal::{FAULT, refuse_file, refuse_memory, refuse_read};
 use lrc_shell_sources::sources::Sources;
-use lrc_text::push_number;
-use std::alloc::{AllocError, Global};
+use std::alloc::Global;
 use std::io::Write;
 
 /// Reports the races of the trace in a file, in this form, while it is read, and returns the exit status. The path `-`
@@ -69,30 +67,4 @@ fn conclude<E: Write>(alloc: Global, outcome: Outcome, err: &mut E) -> u8
         Outcome::Unread(kind) => refuse_read(kind, err),
         Outcome::Unwritten => FAULT,
     }
-}
-
-// Says which line of a trace is bad, or, where there is no memory for that, that there is none.
-pub(crate) fn refuse_line<E: Write>(alloc: Global, line: u64, why: &[u8], err: &mut E) -> u8
-    ensures told { IsTold (E.contents err.old) (E.contents err.new) (bad_line line why.now)
-        ⊎ IsTold (E.contents err.old) (E.contents err.new) memory_line }
-    ensures status { result ≡ 1 }
-{
-    match bad_line(alloc, line, why) {
-        Ok(text) => {
-            tell_line(&text, err);
-            FAULT
-        }
-        Err(_error) => refuse_memory(err),
-    }
-}
-
-fn bad_line(alloc: Global, line: u64, why: &[u8]) -> Result<Vec<u8>, AllocError>
-    ensures { IfOk result (λ text. text.items ≡ bad_line line why.now) }
-{
-    let mut text = Vec::new(alloc);
-    push_number(&mut text, b"treadmarks: trace line ", line)?;
-    text.extend_from_slice(b": bad event: ")?;
-    text.extend_from_slice(why)?;
-    text.extend_from_slice(b"\n")?;
-    Ok(text)
 }

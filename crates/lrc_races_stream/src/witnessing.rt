@@ -1,20 +1,23 @@
 // From a path and two lines to the status: whether the accesses there are a sure race.
 
-ghost use Rattle.std.specs.Prelude.{◌≡◌, ◌⊎◌, ◌<◌, IfOk};
-ghost use Rattle.std.specs.Io.KnownBytes.{Appends};
-ghost use Rattle.lrc_report.specs.Output.{AppendsFront};
-ghost use Rattle.lrc_races_stream.specs.Witness.{IsFaultTold, IsToldOrLacks, IsWitnessConcluded, IsWitnessPlayed, past_line};
+ghost use Rattle.std.specs.Prelude.{◌<◌};
+ghost use Rattle.lrc_races_witness.specs.Relations.{AreByLine};
+ghost use Rattle.lrc_races_front.specs.Kept.{HasKept};
+ghost use Rattle.lrc_races_text.specs.declared.form.Form.{Form as AnyForm};
+ghost use Rattle.lrc_shell_sources.specs.Known.{Held};
+ghost use Rattle.lrc_races_stream.specs.Reach.{IsBegun, IsSeeking};
+ghost use Rattle.lrc_races_stream.specs.Witness.{IsAnswered, IsWitnessPlayed, Witnesses};
 
-use crate::play::refuse_line;
-use crate::seeker::witness;
-use crate::teller::write;
-use crate::witnessed::Witnessed;
+use crate::answer::{Answer, Stop, conclude};
+use crate::seeker::Seeker;
+use lrc_races_front::kept::Kept;
 use lrc_races_text::fault::Fault;
 use lrc_races_text::form::Form;
-use lrc_shell_sources::refusal::{FAULT, refuse_file, refuse_memory, refuse_read, tell_line};
+use lrc_races_witness::answer::push_answer;
+use lrc_shell_sources::blocks::Blocks;
+use lrc_shell_sources::refusal::refuse_file;
 use lrc_shell_sources::sources::Sources;
-use lrc_text::push_number;
-use std::alloc::{AllocError, Global};
+use std::alloc::Global;
 use std::io::Write;
 
 /// Says whether the accesses on two lines of the trace in a file, in this form, are a sure race, and returns the exit
@@ -44,59 +47,72 @@ pub fn play_witness<F: Sources, W: Write, E: Write>(
     }
 }
 
-// Prints what was found, or says why nothing was, and gives the status.
-fn conclude<W: Write, E: Write>(alloc: Global, outcome: Witnessed, out: &mut W, err: &mut E) -> u8
-    ensures { IsWitnessConcluded outcome (W.contents out.old) (W.contents out.new)
-        (E.contents err.old) (E.contents err.new) result }
+// Reads a trace in this form up to the later of two lines, and no further, and says whether the accesses on them are a
+// sure race.
+fn witness<B: Blocks>(alloc: Global, form: Form, first: u64, second: u64, trace: &mut B) -> Answer
+    requires { first < second }
+    ensures { Witnesses form (B.left trace.old) first second result }
 {
-    match outcome {
-        Witnessed::Answered(text, status) => print(&text, status, out),
-        Witnessed::Past(line) => refuse_past(alloc, line, err),
-        Witnessed::Faulted(fault) => refuse_fault(alloc, fault, err),
-        Witnessed::Unread(kind) => refuse_read(kind, err),
+    match Seeker::new(alloc, form, second, Kept::new(alloc)) {
+        Ok(seeker) => witness_by(alloc, first, second, seeker, trace),
+        Err(_error) => Answer::Stopped(Stop::Faulted(Fault::NoMemory)),
     }
 }
 
-// Says which line is bad, or that memory ran out.
-fn refuse_fault<E: Write>(alloc: Global, fault: Fault, err: &mut E) -> u8
-    ensures { IsFaultTold fault (E.contents err.old) (E.contents err.new) result }
+// Says so by what is read.
+fn witness_by<B: Blocks>(
+    alloc: Global,
+    first: u64,
+    second: u64,
+    seeker: Seeker<Kept>,
+    trace: &mut B,
+) -> Answer
+    requires ascending { first < second }
+    requires begun { IsBegun second (B.left trace.old) seeker.front }
+    ensures { (form : AnyForm) (held : Held)
+        → IsSeeking HasKept form second held (B.left trace.old) seeker.front
+        → Witnesses form held first second result }
 {
-    match fault {
-        Fault::BadEvent(line, why) => refuse_line(alloc, line, &why, err),
-        Fault::NoMemory => refuse_memory(err),
+    let mut seeker = seeker;
+    seek_witness(alloc, first, second, &mut seeker, trace)
+}
+
+fn seek_witness<B: Blocks>(
+    alloc: Global,
+    first: u64,
+    second: u64,
+    seeker: &mut Seeker<Kept>,
+    trace: &mut B,
+) -> Answer
+    requires ascending { first < second }
+    requires begun { IsBegun second (B.left trace.old) seeker.old.front }
+    ensures { (form : AnyForm) (held : Held)
+        → IsSeeking HasKept form second held (B.left trace.old) seeker.old.front
+        → Witnesses form held first second result }
+{
+    match seeker.seek(trace) {
+        Ok(()) => answer(alloc, &seeker.front.kept, first, second),
+        Err(stop) => Answer::Stopped(stop),
     }
 }
 
-// Prints a text. The status is this one, or 1 where a write fails.
-fn print<W: Write>(text: &[u8], status: u8, out: &mut W) -> u8
-    ensures { (Appends (W.contents out.old) (W.contents out.new) text.now × (result ≡ status))
-        ⊎ (AppendsFront (W.contents out.old) (W.contents out.new) text.now × (result ≡ 1)) }
-{
-    match write(text, out) {
-        Ok(()) => status,
-        Err(_error) => FAULT,
-    }
-}
-
-// Says at which line a trace ends, or, where there is no memory for that, that there is none.
-fn refuse_past<E: Write>(alloc: Global, line: u64, err: &mut E) -> u8
-    ensures told { IsToldOrLacks (E.contents err.old) (E.contents err.new) (past_line line) }
-    ensures status { result ≡ 1 }
-{
-    match past_line(alloc, line) {
-        Ok(text) => {
-            tell_line(&text, err);
-            FAULT
-        }
-        Err(_error) => refuse_memory(err),
-    }
-}
-
-fn past_line(alloc: Global, line: u64) -> Result<Vec<u8>, AllocError>
-    ensures { IfOk result (λ text. text.items ≡ past_line line) }
+// Answers by what is kept of the lines up to the later one.
+fn answer(alloc: Global, kept: &Kept, first: u64, second: u64) -> Answer
+    requires by_line { AreByLine kept.now.events.items }
+    requires ascending { first < second }
+    ensures { IsAnswered kept.now first second result }
 {
     let mut text = Vec::new(alloc);
-    push_number(&mut text, b"treadmarks: trace ends at line ", line)?;
-    text.extend_from_slice(b"\n")?;
-    Ok(text)
+    match push_answer(
+        alloc,
+        &mut text,
+        &kept.names.threads,
+        &kept.events,
+        &kept.texts,
+        first,
+        second,
+    ) {
+        Ok(status) => Answer::Answered(text, status),
+        Err(_error) => Answer::Stopped(Stop::Faulted(Fault::NoMemory)),
+    }
 }

@@ -1,16 +1,9 @@
-use Rattle.std.proofs.Common.{◌≡◌, ◌∙◌, ℕ, Bool, List, codes, false, inl, inr, sym, true, true≢false}
-use Rattle.std.proofs.lemmas.Slice.Eq.{bytes_eq-Decides}
+use Rattle.std.proofs.Common.{inl, inr}
 use Rattle.std.specs.IoError.{error_kind}
-use Rattle.std.specs.Str.{bytes_eq}
 use Rattle.lrc_races_stream.specs.Plays.{told, unopened}
+use Rattle.lrc_races_stream.proofs.Paths.{is_dash, is_other}
 use Rattle.lrc_races_stream.proofs.TellerLemmas.{nothing_said}
 use Rattle.lrc_races_stream.proofs.play.play_races.Goals as goal
-
-is_dash : (path : List ℕ) (test : Bool) → test ≡ bytes_eq path (codes "-") → test ≡ true → path ≡ codes "-"
-is_dash path test is holds = (bytes_eq-Decides path (codes "-")).0 (sym is ∙ holds)
-
-is_other : (path : List ℕ) (test : Bool) → test ≡ bytes_eq path (codes "-") → test ≡ false → path ≡ codes "-" → ⊥
-is_other path test is fails dash = true≢false (sym ((bytes_eq-Decides path (codes "-")).1 dash) ∙ sym is ∙ fails)
 
 pub returns-then-eq : goal.returns-then-eq
 returns-then-eq g c =

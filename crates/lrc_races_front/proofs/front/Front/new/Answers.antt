@@ -4,4 +4,4 @@ use Rattle.lrc_races_front.proofs.FrontLemmas.{read_none}
 use Rattle.lrc_races_front.proofs.front.Front.new.Goals as goal
 
 pub returns : goal.returns
-returns c = read_none c.args.form c.args.last _ c.requires refl refl refl c.new.ensures.items (c.new-2.ensures c.args.form)
+returns g c sought none = read_none (g.K.Keep.has_kept sought) c.args.form c.args.last _ c.requires refl refl refl c.new.ensures.items none

@@ -1,5 +1,5 @@
 -- Nothing is kept yet.
-use Rattle.lrc_races_front.proofs.FrontLemmas.{kept_none}
+use Rattle.lrc_races_front.proofs.KeptLemmas.{kept_none}
 use Rattle.lrc_races_front.proofs.kept.Kept.new.Goals as goal
 
 pub returns : goal.returns

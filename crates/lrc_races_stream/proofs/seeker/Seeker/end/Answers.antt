@@ -1,17 +1,18 @@
-use Rattle.lrc_races_stream.proofs.SeekerLemmas.{end_bad, ended_by_line, ended_past, ended_there}
+use Rattle.std.proofs.Common.{subst}
+use Rattle.lrc_races_front.specs.Steps.{HasEnded}
+use Rattle.lrc_races_stream.proofs.SeekerLemmas.{end_bad, ended_past, ended_there}
 use Rattle.lrc_races_stream.proofs.seeker.Seeker.end.Goals as goal
 
-pub answered-requires : goal.answered-requires
-answered-requires c = (c.requires.0, λ there. ended_by_line c.args.second c.args.self.now.front _ c.in-Ok.come c.requires.1 c.in-Ok.ensures.ok there)
+pub returns-in-Ok-true-clause-goes : goal.returns-in-Ok-true-clause-goes
+returns-in-Ok-true-clause-goes g c sought form last held left after u end =
+    ended_there g.K.Keep.has_kept sought form last held left c.args.self.now.front u after _ end
+    (subst (HasEnded g.K.Keep.has_kept c.args.self.now.front c.end.new.self) c.in-Ok-true.field-0-test c.in-Ok-true.ensures.ok)
 
-pub returns-in-Some : goal.returns-in-Some
-returns-in-Some c form held left u end =
-    ended_there form c.args.first c.args.second held left c.args.self.now.front u _ c.in-Ok.come _ end c.in-Ok.ensures.ok c.in-Some.ensures
+pub returns-in-Ok-false-clause-stop : goal.returns-in-Ok-false-clause-stop
+returns-in-Ok-false-clause-stop g c sought form last held left u end =
+    ended_past g.K.Keep.has_kept sought form last held left c.args.self.now.front u _ end
+    (subst (HasEnded g.K.Keep.has_kept c.args.self.now.front c.end.new.self) c.in-Ok-false.field-0-test c.in-Ok-false.ensures.ok)
 
-pub returns-in-None : goal.returns-in-None
-returns-in-None c form held left u end =
-    ended_past form c.args.first c.args.second held left c.args.self.now.front u _ c.in-Ok.come end c.in-Ok.ensures.ok c.in-None.ensures
-
-pub returns-in-Err : goal.returns-in-Err
-returns-in-Err c form held left u end =
-    end_bad form c.args.first c.args.second held left c.args.self.now.front u _ end c.in-Err.ensures.bad
+pub returns-in-Err-clause-stop : goal.returns-in-Err-clause-stop
+returns-in-Err-clause-stop g c sought form last held left u end =
+    end_bad g.K.Keep.has_kept sought form last held left c.args.self.now.front u _ _ end c.in-Err.ensures.bad

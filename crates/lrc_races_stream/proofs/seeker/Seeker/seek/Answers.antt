@@ -1,14 +1,12 @@
-use Rattle.lrc_races_stream.specs.Witness.{exhausted}
+-- The last line that is wanted has come, or there were more turns than are counted.
+use Rattle.std.proofs.Common.{subst}
+use Rattle.lrc_races_stream.specs.Reach.{GoesOn, exhausted}
 use Rattle.lrc_races_stream.proofs.seeker.Seeker.seek.Goals as goal
 
-pub loop-turn-preserved : goal.loop-turn-preserved
-loop-turn-preserved g c = (
-  c.in_default.ensures.goes_on,
-  λ form held u. c.in_default.ensures.comes form held (c.loop-turn.invariant.1 form held u),
-)
+pub returns-in-Ok-true-clause-come : goal.returns-in-Ok-true-clause-come
+returns-in-Ok-true-clause-come g c sought form last held u =
+    subst (GoesOn (g.K.Keep.has_kept sought) form last held (g.B.Blocks.left c.turn.new.trace) c.turn.new.self.front) c.in-Ok-true.field-0-test
+    (c.in-Ok-true.ensures.goes sought form last held (c.loop-turn.invariant sought form last held u))
 
-pub returns-in-Some : goal.returns-in-Some
-returns-in-Some g c form held u = c.in-Some.ensures.comes form held (c.loop-turn.invariant.1 form held u)
-
-pub returns : goal.returns
-returns g c form held u = exhausted
+pub returns-clause-stop : goal.returns-clause-stop
+returns-clause-stop g c sought form last held u = exhausted

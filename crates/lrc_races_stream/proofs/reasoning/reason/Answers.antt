@@ -1,0 +1,21 @@
+-- Nothing is read yet.
+use Rattle.lrc_races_text.specs.declared.asked.Sought.TheVariants.{AllRaces}
+use Rattle.lrc_races_front.specs.Kept.{HasKept}
+use Rattle.lrc_races_stream.specs.Reach.{exhausted}
+use Rattle.lrc_races_stream.specs.Why.{stopped}
+use Rattle.lrc_races_stream.proofs.SeekerLemmas.{seeking_first}
+use Rattle.lrc_races_stream.proofs.reasoning.reason.Goals as goal
+
+pub returns-in-Err : goal.returns-in-Err
+returns-in-Err g c = stopped c.new.result exhausted (λ never. absurd never)
+
+pub reason_by-requires-clause-begun : goal.reason_by-requires-clause-begun
+reason_by-requires-clause-begun g c =
+    let left = g.B.Blocks.left c.args.trace.now in
+    (c.args.form, left, seeking_first HasKept c.args.form c.args.second left _ (c.in-Ok.ensures AllRaces (c.new.ensures c.args.form)))
+
+pub returns-in-Ok : goal.returns-in-Ok
+returns-in-Ok g c =
+    let left = g.B.Blocks.left c.args.trace.now in
+    c.reason_by.ensures left
+    (seeking_first HasKept c.args.form c.args.second left _ (c.in-Ok.ensures AllRaces (c.new.ensures c.args.form)))

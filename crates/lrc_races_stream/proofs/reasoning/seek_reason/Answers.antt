@@ -1,0 +1,20 @@
+-- What is kept of the lines answers, or why they were not read.
+use Rattle.lrc_races_text.specs.declared.asked.Sought.TheVariants.{AllRaces}
+use Rattle.lrc_races_stream.proofs.AnswerLemmas.{reasoned, stop_answered}
+use Rattle.lrc_races_stream.proofs.ByLine.{kept_by_line}
+use Rattle.lrc_races_stream.proofs.reasoning.seek_reason.Goals as goal
+
+pub explain-requires-clause-by_line : goal.explain-requires-clause-by_line
+explain-requires-clause-by_line g c =
+    let come = c.in-Ok.ensures.come AllRaces c.requires.begun.0 c.args.second c.requires.begun.1 c.requires.begun.2 in
+    kept_by_line c.requires.begun.0 come.lines c.seek.new.self.front.kept come.has_kept
+
+pub returns-in-Ok : goal.returns-in-Ok
+returns-in-Ok g c held u =
+    reasoned c.args.form held c.args.first c.args.second _ _ c.requires.ascending (c.in-Ok.ensures.come AllRaces c.args.form c.args.second held u)
+    c.explain.ensures
+
+pub returns-in-Err : goal.returns-in-Err
+returns-in-Err g c held u =
+    stop_answered c.args.form held c.args.first c.args.second _ _ _ (c.in-Err.ensures.stop AllRaces c.args.form c.args.second held u)
+    c.stopped.ensures

@@ -1,0 +1,168 @@
+// From a path and two lines to the status: why the events there are ordered, or that they race.
+
+ghost use Rattle.std.specs.Prelude.{◌<◌, ◌↔◌, IsTrue};
+ghost use Rattle.lrc_races_why.specs.Answers.{HasEvent};
+ghost use Rattle.lrc_races_witness.specs.Relations.{AreByLine};
+ghost use Rattle.lrc_races_front.specs.Kept.{HasKept};
+ghost use Rattle.lrc_shell_sources.specs.Known.{Held};
+ghost use Rattle.lrc_races_stream.specs.Reach.{IsBegun, IsSeeking};
+ghost use Rattle.lrc_races_stream.specs.Answer.{IsAnswerTold};
+ghost use Rattle.lrc_races_stream.specs.declared.answer.Answer.{Answer as AnyAnswer};
+ghost use Rattle.lrc_races_stream.specs.Why.{IsExplained, IsStopAnswered, IsWhyPlayed, Reasons};
+
+use crate::answer::{Answer, Stop, conclude};
+use crate::seeker::Seeker;
+use lrc_races_front::kept::Kept;
+use lrc_races_text::fault::Fault;
+use lrc_races_text::form::Form;
+use lrc_races_trace::event::Event;
+use lrc_races_why::answer::{Outcome, push_answer};
+use lrc_shell_sources::blocks::Blocks;
+use lrc_shell_sources::refusal::refuse_file;
+use lrc_shell_sources::sources::Sources;
+use std::alloc::Global;
+use std::io::Write;
+
+/// Says why the events on two lines of the trace in a file, in this form, are ordered, or that they race, or that
+/// neither is so, and returns the exit status. The path `-` is standard input. The answer goes to `out`. A fault goes to
+/// `err`, and then nothing goes to `out`.
+pub fn play_why<F: Sources, W: Write, E: Write>(
+    alloc: Global,
+    path: &str,
+    form: Form,
+    first: u64,
+    second: u64,
+    sources: &F,
+    out: &mut W,
+    err: &mut E,
+) -> u8
+    requires { first < second }
+    ensures { IsWhyPlayed (F.known sources.now) path.now form first second
+        (W.contents out.old) (W.contents out.new) (E.contents err.old) (E.contents err.new) result }
+{
+    if path == "-" {
+        let trace = sources.open_input();
+        return tell_why(alloc, form, first, second, trace, out, err);
+    }
+    match sources.open(path) {
+        Ok(trace) => tell_why(alloc, form, first, second, trace, out, err),
+        Err(error) => refuse_file(&error, err),
+    }
+}
+
+// Says why the events on two lines of a trace are ordered, or what keeps it from that.
+fn tell_why<B: Blocks + Drop, W: Write, E: Write>(
+    alloc: Global,
+    form: Form,
+    first: u64,
+    second: u64,
+    trace: B,
+    out: &mut W,
+    err: &mut E,
+) -> u8
+    requires { first < second }
+    ensures { (answer : AnyAnswer) × Reasons form (B.left trace) first second answer
+        × IsAnswerTold answer (W.contents out.old) (W.contents out.new)
+        (E.contents err.old) (E.contents err.new) result }
+{
+    let mut trace = trace;
+    let answer = reason(alloc, form, first, second, &mut trace);
+    conclude(alloc, answer, out, err)
+}
+
+// Reads a trace in this form up to the later of two lines, and no further, and says why the events on them are ordered.
+fn reason<B: Blocks>(alloc: Global, form: Form, first: u64, second: u64, trace: &mut B) -> Answer
+    requires { first < second }
+    ensures { Reasons form (B.left trace.old) first second result }
+{
+    match Seeker::new(alloc, form, second, Kept::new(alloc)) {
+        Ok(seeker) => reason_by(alloc, form, first, second, seeker, trace),
+        Err(_error) => Answer::Stopped(Stop::Faulted(Fault::NoMemory)),
+    }
+}
+
+// Says so by what is read.
+fn reason_by<B: Blocks>(
+    alloc: Global,
+    form: Form,
+    first: u64,
+    second: u64,
+    seeker: Seeker<Kept>,
+    trace: &mut B,
+) -> Answer
+    requires ascending { first < second }
+    requires begun { IsBegun second (B.left trace.old) seeker.front }
+    ensures { (held : Held) → IsSeeking HasKept form second held (B.left trace.old) seeker.front
+        → Reasons form held first second result }
+{
+    let mut seeker = seeker;
+    seek_reason(alloc, form, first, second, &mut seeker, trace)
+}
+
+fn seek_reason<B: Blocks>(
+    alloc: Global,
+    form: Form,
+    first: u64,
+    second: u64,
+    seeker: &mut Seeker<Kept>,
+    trace: &mut B,
+) -> Answer
+    requires ascending { first < second }
+    requires begun { IsBegun second (B.left trace.old) seeker.old.front }
+    ensures { (held : Held)
+        → IsSeeking HasKept form second held (B.left trace.old) seeker.old.front
+        → Reasons form held first second result }
+{
+    match seeker.seek(trace) {
+        Ok(()) => explain(alloc, form, &seeker.front.kept, first, second),
+        Err(stop) => stopped(&seeker.front.kept, first, stop),
+    }
+}
+
+// Answers by what is kept of the lines up to the later one.
+fn explain(alloc: Global, form: Form, kept: &Kept, first: u64, second: u64) -> Answer
+    requires by_line { AreByLine kept.now.events.items }
+    requires ascending { first < second }
+    ensures { IsExplained form kept.now first second result }
+{
+    let mut text = Vec::new(alloc);
+    match push_answer(
+        alloc,
+        &mut text,
+        form,
+        &kept.names,
+        &kept.events,
+        &kept.texts,
+        first,
+        second,
+    ) {
+        Ok(Outcome::Told) => Answer::Answered(text, 0),
+        Ok(Outcome::NoEvent(line)) => Answer::NoEvent(line),
+        Err(_error) => Answer::Stopped(Stop::Faulted(Fault::NoMemory)),
+    }
+}
+
+// Says why a trace was not read up to the later line. If the earlier one was read and has no event, that comes first.
+fn stopped(kept: &Kept, first: u64, stop: Stop) -> Answer
+    ensures { IsStopAnswered kept.now.events.items first stop result }
+{
+    if stop.is_behind(first) {
+        if has_event(&kept.events, first) {
+            return Answer::Stopped(stop);
+        }
+        return Answer::NoEvent(first);
+    }
+    Answer::Stopped(stop)
+}
+
+// Whether a line has an event.
+fn has_event(events: &[Event], line: u64) -> bool
+    ensures { IsTrue result ↔ HasEvent events.now line }
+{
+    for event in events {
+        if event.line == line {
+            return true;
+        }
+    }
+    false
+}
