@@ -9,8 +9,11 @@ use Rattle.lrc_cli_args.specs.Files.{events_of, file_of, reads_acts}
 use Rattle.lrc_cli_args.specs.declared.choice.Choice.{Choice}
 use Rattle.lrc_cli_args.specs.declared.choice.ChooseFault.{ChooseFault}
 use Rattle.lrc_cli_args.specs.declared.choice.ChooseFault.TheVariants.{BadNumber, NoMemory, Usage}
+use Rattle.lrc_cli_args.specs.declared.choice.Grouping.{Grouping}
+use Rattle.lrc_cli_args.specs.declared.choice.Grouping.TheVariants.{Each, Groups, Locations}
 use Rattle.lrc_cli_args.specs.declared.choice.Racing.{Racing}
-use Rattle.lrc_cli_args.specs.declared.choice.Request.TheVariants.{About, Races, Witness, Answer}
+use Rattle.lrc_cli_args.specs.declared.choice.Reasoning.{Reasoning}
+use Rattle.lrc_cli_args.specs.declared.choice.Request.TheVariants.{About, Races, Reasons, Witness, Answer}
 use Rattle.lrc_cli_args.specs.declared.choice.Topic.{Topic}
 use Rattle.lrc_cli_args.specs.declared.choice.TraceForm.{TraceForm}
 use Rattle.lrc_cli_args.specs.declared.choice.TraceForm.TheVariants as args
@@ -23,7 +26,9 @@ use Rattle.lrc_races_text.specs.declared.asked.Sought.{Sought}
 use Rattle.lrc_races_text.specs.declared.asked.Sought.TheVariants.{AllRaces, SureRaces}
 use Rattle.lrc_races_text.specs.declared.form.Form.{Form}
 use Rattle.lrc_races_text.specs.declared.form.Form.TheVariants as races
+use Rattle.lrc_races_stream.specs.Locations.{IsLocationsPlayed}
 use Rattle.lrc_races_stream.specs.Plays.{IsRacesPlayed}
+use Rattle.lrc_races_stream.specs.Why.{IsWhyPlayed}
 use Rattle.lrc_races_stream.specs.Witness.{IsWitnessPlayed}
 use Rattle.lrc_shell_sources.specs.Known.{IsCause, IsFront, Known}
 use Rattle.lrc_shell_sources.specs.Lines.{IsTold, memory_line, read_line}
@@ -103,9 +108,24 @@ abbrev pub layout_of : Bool → Layout
 layout_of true = Objects
 layout_of false = Words
 
+-- whether they are told by groups
+abbrev pub is_grouped : Grouping → Bool
+is_grouped Each = false
+is_grouped Groups = true
+is_grouped Locations = false
+
 -- what they ask of the trace
 abbrev pub asked_of : Racing → Asked
-asked_of racing = record { sought = sought_of racing.sure; group = racing.group; layout = layout_of racing.json }
+asked_of racing = record { sought = sought_of racing.sure; group = is_grouped racing.grouping; layout = layout_of racing.json }
+
+-- What comes of a trace whose races are asked for: they are told as it is read, or its pairs of locations when it has ended.
+abbrev pub IsRacingTold : Known → Racing → Grouping → Option (List ℕ) → Option (List ℕ) → Option (List ℕ) → Option (List ℕ) → ℕ → Type 0
+IsRacingTold known racing Each out out' err err' status =
+    IsRacesPlayed known racing.file.now (form_of racing.form) (asked_of racing) out out' err err' status
+IsRacingTold known racing Groups out out' err err' status =
+    IsRacesPlayed known racing.file.now (form_of racing.form) (asked_of racing) out out' err err' status
+IsRacingTold known racing Locations out out' err err' status =
+    IsLocationsPlayed known racing.file.now (form_of racing.form) (sought_of racing.sure) (layout_of racing.json) out out' err err' status
 
 -- What comes of the words: they ask for nothing, and nothing is printed, or what comes of the topic, the trace or the choice that they
 -- ask for.
@@ -114,9 +134,12 @@ pub data Plays (known : Known) (words : List Text) (out out' err err' : Option (
       → Plays known words out out' err err' status
   spoken : (topic : Topic) → Chooses words (Ok (About topic)) → IsTopicTold out out' err err' status → Plays known words out out' err err' status
   raced : (racing : Racing) → Chooses words (Ok (Races racing))
-      → IsRacesPlayed known racing.file.now (form_of racing.form) (asked_of racing) out out' err err' status → Plays known words out out' err err' status
+      → IsRacingTold known racing racing.grouping out out' err err' status → Plays known words out out' err err' status
   witnessed : (witnessing : Witnessing) → Chooses words (Ok (Witness witnessing))
       → IsWitnessPlayed known witnessing.file.now (form_of witnessing.form) witnessing.lines.first witnessing.lines.second out out' err err' status
+      → Plays known words out out' err err' status
+  reasoned : (reasoning : Reasoning) → Chooses words (Ok (Reasons reasoning))
+      → IsWhyPlayed known reasoning.file.now (form_of reasoning.form) reasoning.lines.first reasoning.lines.second out out' err err' status
       → Plays known words out out' err err' status
   played : (choice : Choice) → Chooses words (Ok (Answer choice)) → IsPlayed known choice out out' err err' status
       → Plays known words out out' err err' status

@@ -7,7 +7,7 @@ ghost use Rattle.lrc_cli_args.specs.Files.{names_events};
 ghost use Rattle.lrc_shell.specs.Plays.{IsPlayed, Plays};
 
 use crate::progress::Late;
-use crate::races::{tell_races, tell_witness};
+use crate::races::{tell_racing, tell_reasons, tell_witness};
 use crate::reading::read;
 use crate::refusal::refuse;
 use crate::topic::tell_topic;
@@ -41,11 +41,14 @@ where
 {
     match choose(rt.alloc(), words_of(arguments)) {
         Ok(Request::Answer(choice)) => play_choice(rt, &choice, sources, late, out, err),
-        Ok(Request::Races(racing)) => tell_races(rt.alloc(), &racing, sources, out, err),
+        Ok(Request::Races(racing)) => tell_racing(rt.alloc(), &racing, sources, out, err),
         Ok(Request::Witness(witnessing)) => {
             tell_witness(rt.alloc(), &witnessing, sources, out, err)
         }
-        Ok(Request::Reasons(_) | Request::Score(_)) => 1,
+        Ok(Request::Reasons(reasoning)) => {
+            tell_reasons(rt.alloc(), &reasoning, sources, out, err)
+        }
+        Ok(Request::Score(_)) => 1,
         Ok(Request::About(topic)) => tell_topic(rt.alloc(), &topic, out, err),
         Err(fault) => refuse(&fault, err),
     }

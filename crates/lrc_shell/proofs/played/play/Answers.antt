@@ -2,8 +2,8 @@ use Rattle.std.proofs.Common.{List, Ok, Err, map, ap, subst}
 use Rattle.clap.specs.Words.{Text}
 use Rattle.lrc_cli_args.specs.CommandLine.{Chooses, words_meant}
 use Rattle.lrc_cli_args.specs.declared.choice.Request.{Request}
-use Rattle.lrc_cli_args.specs.declared.choice.Request.TheVariants.{About, Races, Witness, Answer}
-use Rattle.lrc_shell.specs.Plays.{played, raced, refused, spoken, witnessed}
+use Rattle.lrc_cli_args.specs.declared.choice.Request.TheVariants.{About, Races, Reasons, Witness, Answer}
+use Rattle.lrc_shell.specs.Plays.{played, raced, reasoned, refused, spoken, witnessed}
 use Rattle.lrc_shell.proofs.PlayLemmas.{same}
 use Rattle.lrc_shell.proofs.played.play.Goals as goal
 
@@ -21,7 +21,7 @@ returns-in-Ok-Races g c =
     (subst (λ (words : List Text). Chooses words (Ok (Races c.in-Ok-Races.racing)))
     (ap (λ words. words_meant (map g.S.AsStr.text words)) c.words_of.ensures)
     (subst (λ (request : Request). Chooses (words_meant (map g.S.AsStr.text c.words_of.result.now)) (Ok request)) c.in-Ok-Races.field-0-is c.in-Ok-Races.ensures))
-    c.tell_races.ensures
+    c.tell_racing.ensures
 
 pub returns-in-Ok-Witness : goal.returns-in-Ok-Witness
 returns-in-Ok-Witness g c =
@@ -30,6 +30,14 @@ returns-in-Ok-Witness g c =
     (ap (λ words. words_meant (map g.S.AsStr.text words)) c.words_of.ensures)
     (subst (λ (request : Request). Chooses (words_meant (map g.S.AsStr.text c.words_of.result.now)) (Ok request)) c.in-Ok-Witness.field-0-is c.in-Ok-Witness.ensures))
     c.tell_witness.ensures
+
+pub returns-in-Ok-Reasons : goal.returns-in-Ok-Reasons
+returns-in-Ok-Reasons g c =
+    reasoned c.in-Ok-Reasons.reasoning
+    (subst (λ (words : List Text). Chooses words (Ok (Reasons c.in-Ok-Reasons.reasoning)))
+    (ap (λ words. words_meant (map g.S.AsStr.text words)) c.words_of.ensures)
+    (subst (λ (request : Request). Chooses (words_meant (map g.S.AsStr.text c.words_of.result.now)) (Ok request)) c.in-Ok-Reasons.field-0-is c.in-Ok-Reasons.ensures))
+    c.tell_reasons.ensures
 
 pub returns-in-Ok-About : goal.returns-in-Ok-About
 returns-in-Ok-About g c =
