@@ -1,8 +1,12 @@
 -- Lines, blocks, and what is told of them.
 use Rattle.std.proofs.Common.{◌≡◌, ℕ, suc, ◌+◌, ◌<◌, ◌==◌, Bool, true, false, List, [], ◌∷◌, ◌++◌, length, inl, inr, sym, subst, refl, ◌∙◌, ap, arith, append_assoc, append-nil, length-append}
-use Rattle.std.specs.Prelude.{Result, Ok, Err, IfErr, OnOk, flat_map}
+use Rattle.std.specs.Prelude.{Option, Result, Ok, Err, IfErr, IfOk, OnOk, flat_map}
 use Rattle.std.proofs.lemmas.Result.{on_ok_weaker}
 use Rattle.std.proofs.lemmas.Bool.{false≢true, eqb-true, eq-eqb}
+use Rattle.lrc_races_trace.specs.declared.event.Event.{Event as TraceEvent}
+use Rattle.lrc_races_trace.specs.declared.fault.Fault.{Fault as IllFormed}
+use Rattle.lrc_races_trace.specs.Formed.{IsFirstFault}
+use Rattle.lrc_races_detector.specs.Finding.{HasLooked}
 use Rattle.lrc_races_lines.specs.Cause.{Why, line_any, line_long, line_too_long, why_text}
 use Rattle.lrc_races_lines.specs.Line.{Saying}
 use Rattle.lrc_races_text.specs.declared.asked.Asked.{Asked}
@@ -10,13 +14,17 @@ use Rattle.lrc_races_text.specs.declared.form.Form.{Form}
 use Rattle.lrc_races_text.specs.declared.form.Form.TheVariants.{Std, Acts}
 use Rattle.lrc_races_text.specs.declared.fault.Fault.{Fault}
 use Rattle.lrc_races_text.specs.declared.fault.Fault.TheVariants.{BadEvent, NoMemory}
+use Rattle.lrc_races_text.specs.declared.ill.Ill.{Ill}
 use Rattle.lrc_races_text.specs.declared.judged.Judged.{Judged}
 use Rattle.lrc_races_text.specs.declared.session.Session.{Session}
 use Rattle.lrc_races_text.specs.Says.{Said, Say, no_line, blank_line, event_line, Says, SaysNothing, IsBad, IsCauseIn, IsWhyText}
+use Rattle.lrc_races_text.specs.Ill.{IsIllOf}
+use Rattle.lrc_races_text.specs.Naming.{IsTrace}
+use Rattle.lrc_races_text.specs.Tables.{naming_of}
 use Rattle.lrc_races_text.specs.Judged.{HasJudged, HasJudgedOne, HasToldAll}
 use Rattle.lrc_races_text.specs.Told.{IsCut, IsOneLine, AreLines, ended, Stops, IsWholeOf, IsToldOf}
 use Rattle.lrc_races_text.specs.Session.{Text, FailsLine, LineSays, says_none, says_one, HasTakenLine, IsAt, HasCompleted, IsBadLine, HasKept, IsTooLong, HasLines, HasRead}
-use Rattle.lrc_races_text.specs.Session.{HasDone, HasGoneOn, IsStoppedAt, HasEnded, HasFailed}
+use Rattle.lrc_races_text.specs.Session.{FindsIll, HasDone, HasGoneOn, HasLookedThrough, IsStoppedAt, HasEnded, HasFailed}
 use Rattle.lrc_races_text.proofs.NamingLemmas.{flat_map-push}
 use Rattle.lrc_races_text.proofs.JudgedLemmas.{told_of}
 
@@ -473,3 +481,37 @@ read_none form asked session f g n r h = read_of (record {
   cut = record { whole = refl; each = tt; last = tt };
   at = record { same_form = f; same_asked = g; same_rest = r; short = omega arith; counted = n; said = []; says = no_line; judged = h };
 })
+
+-- ---- what no program would give
+
+pub ill_found : {E : Type 0} (session : Session) (fault : Option IllFormed) (result : Result (Option Ill) E)
+    → ((events : List TraceEvent) (n : ℕ) → HasLooked events n session.judged.finder → IsFirstFault events n fault)
+    → IfOk result (IsIllOf (naming_of session.judged.names) fault) → IfOk result (FindsIll session)
+ill_found session fault (Err e) finds is = tt
+ill_found session fault (Ok ill) finds is = λ said events trace looked. record {
+  naming = naming_of session.judged.names;
+  events = events;
+  fault = fault;
+  trace = trace;
+  first = finds events (length events) looked;
+  is = is;
+}
+
+pub looked_through : (before mid after : Session) (old between : List ℕ) → HasCompleted before [] old between mid
+    → after.judged.names ≡ mid.judged.names → after.judged.finder ≡ mid.judged.finder → HasLookedThrough before after
+looked_through before mid after old between completes names finder form asked bytes told h =
+    let l = h.has_lines in
+    let t = completes form asked l.lines l.rest told l.at in
+    let a = t.2 in
+    let j = a.judged in
+    record {
+      lines = l.lines;
+      rest = l.rest;
+      cut = l.cut;
+      said = a.said;
+      says = subst (λ x. Say form 1 (l.lines ++ x ∷ []) a.said) (append-nil l.rest) a.says;
+      events = j.events;
+      trace = subst (λ n. IsTrace a.said (naming_of n) j.events) (sym names) (record { names = j.naming; numbered = j.are });
+      looked = subst (λ f. HasLooked j.events (length j.events) f) (sym finder)
+          (subst (λ es. HasLooked es (length j.events) mid.judged.finder) (append-nil j.events) (j.looked []));
+    }

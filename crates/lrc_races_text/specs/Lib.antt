@@ -10,3 +10,4 @@ pub mod Layouts
 pub mod Told
 pub mod Judged
 pub mod Session
+pub mod Ill

@@ -1,6 +1,8 @@
 -- What a session keeps of the bytes that it has read.
-use Rattle.std.specs.Prelude.{◌≡◌, ℕ, ◌+◌, ◌<◌, ◌≤◌, List, [], ◌∷◌, ◌++◌, length, Vec}
+use Rattle.std.specs.Prelude.{◌≡◌, ℕ, ◌+◌, ◌<◌, ◌≤◌, List, [], ◌∷◌, ◌++◌, length, Option, Vec}
 use Rattle.std.specs.declared.alloc.Global.{Global}
+use Rattle.lrc_races_trace.specs.declared.event.Event.{Event as TraceEvent}
+use Rattle.lrc_races_detector.specs.Finding.{HasLooked}
 use Rattle.lrc_races_lines.specs.declared.line.Line.{Line}
 use Rattle.lrc_races_lines.specs.declared.line.Line.TheVariants.{Nothing, Event, Bad}
 use Rattle.lrc_races_lines.specs.Cause.{line_too_long, why_text}
@@ -9,10 +11,14 @@ use Rattle.lrc_races_text.specs.declared.asked.Asked.{Asked}
 use Rattle.lrc_races_text.specs.declared.form.Form.{Form}
 use Rattle.lrc_races_text.specs.declared.fault.Fault.{Fault}
 use Rattle.lrc_races_text.specs.declared.fault.Fault.TheVariants.{BadEvent}
+use Rattle.lrc_races_text.specs.declared.ill.Ill.{Ill}
 use Rattle.lrc_races_text.specs.declared.judged.Judged.{Judged}
 use Rattle.lrc_races_text.specs.declared.session.Session.{Session}
 use Rattle.lrc_races_text.specs.Says.{Said, Say, Says, SaysNothing, IsBad, IsWhyText}
+use Rattle.lrc_races_text.specs.Ill.{IsFirstIll}
 use Rattle.lrc_races_text.specs.Judged.{HasJudged}
+use Rattle.lrc_races_text.specs.Naming.{IsTrace}
+use Rattle.lrc_races_text.specs.Tables.{naming_of}
 use Rattle.lrc_races_text.specs.Told.{IsOneLine, IsCut, Tells, Stops, Ends, Fails}
 
 -- a text of the program's own
@@ -116,3 +122,22 @@ IsNext session number = number ≡ session.lines + 1
 abbrev pub FailsLine : Form → List ℕ → ℕ → Fault → Type 0
 FailsLine form line number fault = (other : ℕ) (why : Text) → fault ≡ BadEvent other why → (other ≡ number) × IsBad form line
     × (IsOneLine line → IsWhyText form number line why.items)
+
+-- this is the first event of what is said that no program would give, by what is judged
+abbrev pub FindsIll : Session → Option Ill → Type 0
+FindsIll session ill = (said : List Said) (events : List TraceEvent) → IsTrace said (naming_of session.judged.names) events
+    → HasLooked events (length events) session.judged.finder → IsFirstIll said ill
+
+-- all lines of a trace that has ended are judged
+pub record IsThrough (form : Form) (bytes : List ℕ) (session : Session) : Type 0 where
+  pub lines : List (List ℕ)
+  pub rest : List ℕ
+  pub cut : IsCut bytes lines rest
+  pub said : List Said
+  pub says : Say form 1 (lines ++ rest ∷ []) said
+  pub events : List TraceEvent
+  pub trace : IsTrace said (naming_of session.judged.names) events
+  pub looked : HasLooked events (length events) session.judged.finder
+
+abbrev pub HasLookedThrough : Session → Session → Type 0
+HasLookedThrough before after = (form : Form) (asked : Asked) (bytes told : List ℕ) → HasRead form asked bytes told before → IsThrough form bytes after

@@ -126,6 +126,8 @@ impl Judged {
     pub fn end(&mut self, form: Form, asked: Asked, out: &mut Vec<u8>) -> Result<u8, AllocError>
         ensures ok { IfOk result (HasToldAll form asked self.old out.old.items out.new.items) }
         ensures err { OnErr result (out.new.items ≡ out.old.items) }
+        ensures names { self.new.names ≡ self.old.names }
+        ensures finder { self.new.finder ≡ self.old.finder }
     {
         let races = self.races;
         self.text.clear();

@@ -6,6 +6,7 @@ pub mod acts;
 pub mod asked;
 pub mod fault;
 pub mod form;
+pub mod ill;
 pub mod judged;
 pub mod layouts;
 pub mod naming;

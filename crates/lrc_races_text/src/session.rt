@@ -3,17 +3,18 @@ ghost use Rattle.std.specs.Prelude.{◌≡◌, ◌↔◌, ◌<◌, ◌+◌, [], 
 ghost use Rattle.lrc_races_lines.specs.Line.{longest_line};
 ghost use Rattle.lrc_races_text.specs.declared.fault.Fault.TheVariants.{NoMemory};
 ghost use Rattle.lrc_races_text.specs.Session.{HasTakenLine, HasCompleted, IsBadLine, HasKept, IsTooLong};
-ghost use Rattle.lrc_races_text.specs.Session.{HasRead, HasGoneOn, IsStoppedAt, HasEnded, HasFailed, IsNext, FailsLine};
+ghost use Rattle.lrc_races_text.specs.Session.{HasRead, HasGoneOn, IsStoppedAt, HasEnded, HasFailed, FindsIll, HasLookedThrough, IsNext, FailsLine};
 
 use crate::asked::Asked;
 use crate::fault::Fault;
 use crate::form::Form;
+use crate::ill::{Ill, ill_of};
 use crate::judged::Judged;
 use crate::reading::{LONGEST_LINE, bad_event, cause_in, read};
 use lrc_races_lines::cause::Cause;
 use lrc_races_lines::line::Line;
 use lrc_races_lines::reading::split;
-use std::alloc::Global;
+use std::alloc::{AllocError, Global};
 
 /// The analysis of a trace of which some bytes have come.
 #[derive(Drop)]
@@ -162,11 +163,20 @@ impl Session {
         self.keep(left)
     }
 
+    /// Returns the first event of the lines that have come that no program would give, and why, if there is one. It fails
+    /// if memory runs out.
+    pub fn ill(&self, alloc: Global) -> Result<Option<Ill>, AllocError>
+        ensures { IfOk result (FindsIll self.now) }
+    {
+        ill_of(alloc, &self.judged.names, self.judged.finder.fault())
+    }
+
     /// Ends the trace. It adds the report of a last line without a line feed, the groups, what is not well formed, and
     /// the last line. Returns the exit status: 3 if a race was reported, else 0. It must be called only once.
     pub fn finish(&mut self, out: &mut Vec<u8>) -> Result<u8, Fault>
         ensures ok { IfOk result (HasEnded self.old out.old.items out.new.items) }
         ensures bad { IfErr result (HasFailed self.old out.old.items out.new.items) }
+        ensures looked { OnOk result (HasLookedThrough self.old self.new) }
     {
         match self.take_rest(out) {
             Ok(()) => {}

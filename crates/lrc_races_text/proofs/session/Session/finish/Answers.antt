@@ -1,5 +1,5 @@
 -- The last line, and what is told at the end.
-use Rattle.lrc_races_text.proofs.SessionLemmas.{ended_well, failed_line, failed_memory}
+use Rattle.lrc_races_text.proofs.SessionLemmas.{ended_well, failed_line, failed_memory, looked_through}
 use Rattle.lrc_races_text.proofs.session.Session.finish.Goals as goal
 
 pub returns-in-Err-clause-bad : goal.returns-in-Err-clause-bad
@@ -10,3 +10,7 @@ returns-in-Ok-end-clause-ok c = ended_well c.args.self.now _ _ _ _ _ c.in-Ok.ens
 
 pub returns-in-Err-end-clause-bad : goal.returns-in-Err-end-clause-bad
 returns-in-Err-end-clause-bad c = failed_memory c.args.self.now _ _ _ _ c.in-Ok.ensures.ok c.in-Err-end.ensures.err
+
+pub returns-in-Ok-end-clause-looked : goal.returns-in-Ok-end-clause-looked
+returns-in-Ok-end-clause-looked c =
+    looked_through c.args.self.now _ _ _ _ c.in-Ok.ensures.ok c.in-Ok-end.ensures.names c.in-Ok-end.ensures.finder
