@@ -37,7 +37,7 @@ _treadmarks_values() {
 
 _treadmarks() {
     local word=${COMP_WORDS[COMP_CWORD]} before=${COMP_WORDS[COMP_CWORD - 1]} command=${COMP_WORDS[1]} values
-    local commands="check lint plain sim run trace step explain why stats chart judge races explore help version"
+    local commands="check core lint plain sim run trace step explain why stats chart judge races explore help version"
     COMPREPLY=()
     if ((COMP_CWORD == 1)) || [[ $command == help ]]; then
         COMPREPLY=($(compgen -W "$commands" -- "$word"))

@@ -2,6 +2,7 @@
 
 complete -c treadmarks -n __fish_use_subcommand -f
 complete -c treadmarks -n __fish_use_subcommand -a check -d 'says whether a text is a program'
+complete -c treadmarks -n __fish_use_subcommand -a core -d 'prints what a program stands for, with numbers in place of names'
 complete -c treadmarks -n __fish_use_subcommand -a lint -d 'says what is wrong with a text, and what is likely to be'
 complete -c treadmarks -n __fish_use_subcommand -a plain -d 'runs a program over one flat memory'
 complete -c treadmarks -n __fish_use_subcommand -a sim -d 'runs a program on nodes, one event after the other'
@@ -121,4 +122,4 @@ complete -c treadmarks -n '__fish_seen_subcommand_from explore' -l memory -r -f 
 complete -c treadmarks -n '__fish_seen_subcommand_from explore' -l tries -r -f -d 'of the lazy outcomes: how many seeds are tried'
 complete -c treadmarks -n '__fish_seen_subcommand_from explore' -l ignore-races -d 'look for no race'
 complete -c treadmarks -n '__fish_seen_subcommand_from explore' -l ends -d 'tell whether every order can end'
-complete -c treadmarks -n '__fish_seen_subcommand_from help' -f -a 'check lint plain sim run trace step explain why stats chart judge races explore help version'
+complete -c treadmarks -n '__fish_seen_subcommand_from help' -f -a 'check core lint plain sim run trace step explain why stats chart judge races explore help version'

@@ -68,6 +68,7 @@ taken_as name rows =
     one_or (bytes_eq name (codes "lint")) (HasValue (codes "FILE") rows) (
     one_or (bytes_eq name (codes "why")) (IsWhyTaken rows) (
     one_or (bytes_eq name (codes "check")) (HasValue (codes "FILE") rows) (
+    one_or (bytes_eq name (codes "core")) (HasValue (codes "FILE") rows) (
     one_or (bytes_eq name (codes "plain")) (IsPlainTaken rows) (
     one_or (bytes_eq name (codes "judge")) (IsJudgeTaken rows) (
     one_or (bytes_eq name (codes "explore")) (IsExploreTaken rows) (
@@ -76,7 +77,7 @@ taken_as name rows =
     one_or (bytes_eq name (codes "trace")) (IsTraceTaken rows) (
     one_or (bytes_eq name (codes "step")) (IsStepTaken rows) (
     one_or (bytes_eq name (codes "chart")) (IsChartTaken rows) (
-    IsShowingTaken rows))))))))))))))
+    IsShowingTaken rows)))))))))))))))
 
 -- the rows of a command whose name is known are as clap makes sure of for it
 named_rows : (found : Option (Text × List Row)) (name : Text) (rows : List Row) → option_map (λ p. p.0) found ≡ Some name
@@ -100,21 +101,25 @@ named_rows (Some f) name rows named held taken =
       | inr (inr (inl (inl t))) ↦ as_named (codes "lint") t.0 t.1
       | inr (inr (inl (inr t))) ↦ as_named (codes "why") t.0 t.1
       | inr (inr (inr (inl t))) ↦ as_named (codes "check") t.0 t.1
-      | inr (inr (inr (inr (inl t)))) ↦ as_named (codes "plain") t.0 t.1
-      | inr (inr (inr (inr (inr (inl t))))) ↦ as_named (codes "judge") t.0 t.1
-      | inr (inr (inr (inr (inr (inr (inl t)))))) ↦ as_named (codes "explore") t.0 t.1
-      | inr (inr (inr (inr (inr (inr (inr (inl t))))))) ↦ as_named (codes "sim") t.0 t.1
-      | inr (inr (inr (inr (inr (inr (inr (inr (inl t)))))))) ↦ as_named (codes "run") t.0 t.1
-      | inr (inr (inr (inr (inr (inr (inr (inr (inr (inl t))))))))) ↦ as_named (codes "trace") t.0 t.1
-      | inr (inr (inr (inr (inr (inr (inr (inr (inr (inr (inl t)))))))))) ↦ as_named (codes "step") t.0 t.1
-      | inr (inr (inr (inr (inr (inr (inr (inr (inr (inr (inr (inl t))))))))))) ↦ as_named (codes "explain") t.0 t.1
-      | inr (inr (inr (inr (inr (inr (inr (inr (inr (inr (inr (inr (inl t)))))))))))) ↦ as_named (codes "stats") t.0 t.1
-      | inr (inr (inr (inr (inr (inr (inr (inr (inr (inr (inr (inr (inr t)))))))))))) ↦ as_named (codes "chart") t.0 t.1
+      | inr (inr (inr (inr (inl t)))) ↦ as_named (codes "core") t.0 t.1
+      | inr (inr (inr (inr (inr (inl t))))) ↦ as_named (codes "plain") t.0 t.1
+      | inr (inr (inr (inr (inr (inr (inl t)))))) ↦ as_named (codes "judge") t.0 t.1
+      | inr (inr (inr (inr (inr (inr (inr (inl t))))))) ↦ as_named (codes "explore") t.0 t.1
+      | inr (inr (inr (inr (inr (inr (inr (inr (inl t)))))))) ↦ as_named (codes "sim") t.0 t.1
+      | inr (inr (inr (inr (inr (inr (inr (inr (inr (inl t))))))))) ↦ as_named (codes "run") t.0 t.1
+      | inr (inr (inr (inr (inr (inr (inr (inr (inr (inr (inl t)))))))))) ↦ as_named (codes "trace") t.0 t.1
+      | inr (inr (inr (inr (inr (inr (inr (inr (inr (inr (inr (inl t))))))))))) ↦ as_named (codes "step") t.0 t.1
+      | inr (inr (inr (inr (inr (inr (inr (inr (inr (inr (inr (inr (inl t)))))))))))) ↦ as_named (codes "explain") t.0 t.1
+      | inr (inr (inr (inr (inr (inr (inr (inr (inr (inr (inr (inr (inr (inl t))))))))))))) ↦ as_named (codes "stats") t.0 t.1
+      | inr (inr (inr (inr (inr (inr (inr (inr (inr (inr (inr (inr (inr (inr t))))))))))))) ↦ as_named (codes "chart") t.0 t.1
     ]))
 
 module _ (found : Option (Text × List Row)) (rows : List Row) (held : option_map (λ p. p.1) found ≡ Some rows) (taken : IsCommandTaken found) where
   pub check_rows : option_map (λ p. p.0) found ≡ Some (codes "check") → HasValue (codes "FILE") rows
   check_rows named = named_rows found (codes "check") rows named held (inr (inr (inr taken)))
+
+  pub core_rows : option_map (λ p. p.0) found ≡ Some (codes "core") → HasValue (codes "FILE") rows
+  core_rows named = named_rows found (codes "core") rows named held (inr (inr (inr taken)))
 
   pub plain_rows : option_map (λ p. p.0) found ≡ Some (codes "plain") → IsPlainTaken rows
   plain_rows named = named_rows found (codes "plain") rows named held (inr (inr (inr taken)))
@@ -154,24 +159,26 @@ races_rows found rows held taken named = named_rows found (codes "races") rows n
 -- a command that shows something of a run is one of all commands
 pub show_taken : (found : Option (Text × List Row)) → IsSomeAnd found IsShowTaken → IsCommandTaken found
 show_taken None shows = absurd shows
-show_taken (Some f) shows = inr (inr (inr (inr shows)))
+show_taken (Some f) shows = inr (inr (inr (inr (inr shows))))
 
 -- so is one that asks more of a run
 pub ask_taken : (found : Option (Text × List Row)) → IsSomeAnd found IsAskTaken → IsCommandTaken found
 ask_taken None asks = absurd asks
-ask_taken (Some f) asks = inr (inr (inr (inr (inr (inr asks)))))
+ask_taken (Some f) asks = inr (inr (inr (inr (inr (inr (inr asks))))))
 
--- a command that is none of the first four shows something of a run
+-- a command that is none of the first five shows something of a run
 pub show_left : (found : Option (Text × List Row)) → (option_map (λ p. p.0) found ≡ Some (codes "check") → false ≡ true)
-    → (option_map (λ p. p.0) found ≡ Some (codes "plain") → false ≡ true) → (option_map (λ p. p.0) found ≡ Some (codes "judge") → false ≡ true)
-    → (option_map (λ p. p.0) found ≡ Some (codes "explore") → false ≡ true) → IsCommandTaken found → IsSomeAnd found IsShowTaken
-show_left None check plain judge explore taken = absurd taken
-show_left (Some f) check plain judge explore taken = elim taken [
+    → (option_map (λ p. p.0) found ≡ Some (codes "core") → false ≡ true) → (option_map (λ p. p.0) found ≡ Some (codes "plain") → false ≡ true)
+    → (option_map (λ p. p.0) found ≡ Some (codes "judge") → false ≡ true) → (option_map (λ p. p.0) found ≡ Some (codes "explore") → false ≡ true)
+    → IsCommandTaken found → IsSomeAnd found IsShowTaken
+show_left None check core plain judge explore taken = absurd taken
+show_left (Some f) check core plain judge explore taken = elim taken [
   | inl t ↦ let bad : false ≡ true = check (ap Some t.0) in absurd cc
-  | inr (inl t) ↦ let bad : false ≡ true = plain (ap Some t.0) in absurd cc
-  | inr (inr (inl t)) ↦ let bad : false ≡ true = judge (ap Some t.0) in absurd cc
-  | inr (inr (inr (inl t))) ↦ let bad : false ≡ true = explore (ap Some t.0) in absurd cc
-  | inr (inr (inr (inr shows))) ↦ shows
+  | inr (inl t) ↦ let bad : false ≡ true = core (ap Some t.0) in absurd cc
+  | inr (inr (inl t)) ↦ let bad : false ≡ true = plain (ap Some t.0) in absurd cc
+  | inr (inr (inr (inl t))) ↦ let bad : false ≡ true = judge (ap Some t.0) in absurd cc
+  | inr (inr (inr (inr (inl t)))) ↦ let bad : false ≡ true = explore (ap Some t.0) in absurd cc
+  | inr (inr (inr (inr (inr shows)))) ↦ shows
 ]
 
 -- and one of these that is neither `sim` nor `run` asks more of it

@@ -15,7 +15,7 @@ use Rattle.clap.specs.declared.builder.value_parser.ValueParser.TheVariants.{Uns
 use Rattle.clap.specs.declared.error.kind.ErrorKind.TheVariants.{InvalidValue, ValueValidation}
 use Rattle.clap.proofs.ValueTestLemmas.{accepts-Accepts}
 use Rattle.lrc_cli_args.specs.CommandLine.{IsRequestTaken}
-use Rattle.lrc_cli_words.specs.Commands.{act, bare_number, chart_command, check_command, collect, explain_command, explore_command, flag_option, form, help_command, judge_command, lint_command, memory, nodes, number_option, order, page}
+use Rattle.lrc_cli_words.specs.Commands.{act, bare_number, chart_command, check_command, collect, core_command, explain_command, explore_command, flag_option, form, help_command, judge_command, lint_command, memory, nodes, number_option, order, page}
 use Rattle.lrc_cli_words.specs.Commands.{plain_command, races_command, run_command, sim_command, stats_command, step_command, steps, trace_command, trace_form, treadmarks, treadmarks_shape, version_command}
 use Rattle.lrc_cli_words.specs.Commands.{why_command}
 use Rattle.lrc_cli_args.specs.Options.{HasValue, IsBareNumber, IsChartTaken, IsExploreTaken, IsFlagOption, IsJudgeTaken, IsNumberOption, IsPlainTaken, IsRunTaken}
@@ -24,6 +24,9 @@ use Rattle.lrc_cli_args.proofs.RowLemmas.{IsKeyed, IsLevel, first_passes, given_
 
 abbrev check_built : Shape
 check_built = built_leaf (inherited treadmarks_shape check_command.top)
+
+abbrev core_built : Shape
+core_built = built_leaf (inherited treadmarks_shape core_command.top)
 
 abbrev plain_built : Shape
 plain_built = built_leaf (inherited treadmarks_shape plain_command.top)
@@ -78,6 +81,9 @@ check_keyed = (
     tt,
   ),
 )
+
+core_keyed : AllByRecursion (IsKeyed core_built.rules) core_built.rules
+core_keyed = (record { own = refl; acts = inl (refl, lit< tt) }, (record { own = refl; acts = inr (inr refl) }, tt))
 
 plain_keyed : AllByRecursion (IsKeyed plain_built.rules) plain_built.rules
 plain_keyed = (
@@ -398,6 +404,12 @@ check_taken words none =
     let file = given_some check_built.rules (codes "FILE") rows level.good ((required_given check_built rows level.checked).0 refl) in
     file
 
+core_taken : (words : List Text) → level_fault core_built [] nothing_held words false [] ≡ [] → HasValue (codes "FILE") (rows_after core_built.rules [] words)
+core_taken words none =
+    let rows = rows_after core_built.rules [] words in
+    let level = level_good core_built words core_keyed none in
+    given_some core_built.rules (codes "FILE") rows level.good ((required_given core_built rows level.checked).0 refl)
+
 plain_taken : (words : List Text) → level_fault plain_built [] nothing_held words false [] ≡ [] → IsPlainTaken (rows_after plain_built.rules [] words)
 plain_taken words none =
     let rows = rows_after plain_built.rules [] words in
@@ -547,7 +559,7 @@ why_taken words none =
 abbrev top_built : App
 top_built = record {
   top = built_leaf (record treadmarks_shape { is_leaf = false });
-  subs = check_built ∷ plain_built ∷ sim_built ∷ run_built ∷ trace_built ∷ step_built ∷ explain_built ∷ stats_built ∷ chart_built ∷ judge_built ∷ explore_built ∷ why_built ∷ lint_built ∷ races_built ∷ help_built ∷ version_built ∷ [];
+  subs = check_built ∷ core_built ∷ plain_built ∷ sim_built ∷ run_built ∷ trace_built ∷ step_built ∷ explain_built ∷ stats_built ∷ chart_built ∷ judge_built ∷ explore_built ∷ why_built ∷ lint_built ∷ races_built ∷ help_built ∷ version_built ∷ [];
 }
 
 one_named : (rows : List Row) (stop : Option (Text × List Text)) → entered_fault top_built stop ≡ []
@@ -555,38 +567,39 @@ one_named : (rows : List Row) (stop : Option (Text × List Text)) → entered_fa
     → IsRequestTaken (entered top_built stop)
 one_named rows None none checked = absurd cc
 one_named rows (Some p) none checked =
-    go (answers_to p.0 (label_of check_built)) (answers_to p.0 (label_of plain_built)) (answers_to p.0 (label_of sim_built)) (answers_to p.0 (label_of run_built))
-    (answers_to p.0 (label_of trace_built)) (answers_to p.0 (label_of step_built)) (answers_to p.0 (label_of explain_built)) (answers_to p.0 (label_of stats_built))
-    (answers_to p.0 (label_of chart_built)) (answers_to p.0 (label_of judge_built)) (answers_to p.0 (label_of explore_built)) (answers_to p.0 (label_of why_built))
-    (answers_to p.0 (label_of lint_built)) (answers_to p.0 (label_of races_built)) (answers_to p.0 (label_of help_built)) (answers_to p.0 (label_of version_built)) none checked
+    go (answers_to p.0 (label_of check_built)) (answers_to p.0 (label_of core_built)) (answers_to p.0 (label_of plain_built)) (answers_to p.0 (label_of sim_built))
+    (answers_to p.0 (label_of run_built)) (answers_to p.0 (label_of trace_built)) (answers_to p.0 (label_of step_built)) (answers_to p.0 (label_of explain_built))
+    (answers_to p.0 (label_of stats_built)) (answers_to p.0 (label_of chart_built)) (answers_to p.0 (label_of judge_built)) (answers_to p.0 (label_of explore_built))
+    (answers_to p.0 (label_of why_built)) (answers_to p.0 (label_of lint_built)) (answers_to p.0 (label_of races_built)) (answers_to p.0 (label_of help_built)) (answers_to p.0 (label_of version_built)) none checked
   where
-    shape : Bool → Bool → Bool → Bool → Bool → Bool → Bool → Bool → Bool → Bool → Bool → Bool → Bool → Bool → Bool → Bool → Option Shape
-    shape a b d f h j i k l m n o q t u w =
-        cond a (Some check_built) (cond b (Some plain_built) (cond d (Some sim_built) (cond f (Some run_built)
-        (cond h (Some trace_built) (cond j (Some step_built) (cond i (Some explain_built) (cond k (Some stats_built)
-        (cond l (Some chart_built) (cond m (Some judge_built) (cond n (Some explore_built) (cond o (Some why_built)
-        (cond q (Some lint_built) (cond t (Some races_built) (cond u (Some help_built) (cond w (Some version_built) None)))))))))))))))
+    shape : Bool → Bool → Bool → Bool → Bool → Bool → Bool → Bool → Bool → Bool → Bool → Bool → Bool → Bool → Bool → Bool → Bool → Option Shape
+    shape a z b d f h j i k l m n o q t u w =
+        cond a (Some check_built) (cond z (Some core_built) (cond b (Some plain_built) (cond d (Some sim_built) (
+        cond f (Some run_built) (cond h (Some trace_built) (cond j (Some step_built) (cond i (Some explain_built) (
+        cond k (Some stats_built) (cond l (Some chart_built) (cond m (Some judge_built) (cond n (Some explore_built) (
+        cond o (Some why_built) (cond q (Some lint_built) (cond t (Some races_built) (cond u (Some help_built) (cond w (Some version_built) None))))))))))))))))
 
-    go : (a b d f h j i k l m n o q t u w : Bool) → option_map_or (λ s. level_fault s [] nothing_held p.1 false []) (shape a b d f h j i k l m n o q t u w) [] ≡ []
-        → check_fault top_built.top rows (is_some (option_map (λ s. rows_at s p.1) (shape a b d f h j i k l m n o q t u w))) ≡ []
-        → IsRequestTaken (option_map (λ s. rows_at s p.1) (shape a b d f h j i k l m n o q t u w))
-    go true b d f h j i k l m n o q t u w e checked = inr (inr (inr (inl (refl, check_taken p.1 e))))
-    go false true d f h j i k l m n o q t u w e checked = inr (inr (inr (inr (inl (refl, plain_taken p.1 e)))))
-    go false false true f h j i k l m n o q t u w e checked = inr (inr (inr (inr (inr (inr (inr (inl (refl, sim_taken p.1 e))))))))
-    go false false false true h j i k l m n o q t u w e checked = inr (inr (inr (inr (inr (inr (inr (inr (inl (refl, run_taken p.1 e)))))))))
-    go false false false false true j i k l m n o q t u w e checked = inr (inr (inr (inr (inr (inr (inr (inr (inr (inl (refl, trace_taken p.1 e))))))))))
-    go false false false false false true i k l m n o q t u w e checked = inr (inr (inr (inr (inr (inr (inr (inr (inr (inr (inl (refl, step_taken p.1 e)))))))))))
-    go false false false false false false true k l m n o q t u w e checked = inr (inr (inr (inr (inr (inr (inr (inr (inr (inr (inr (inl (refl, explain_taken p.1 e))))))))))))
-    go false false false false false false false true l m n o q t u w e checked = inr (inr (inr (inr (inr (inr (inr (inr (inr (inr (inr (inr (inl (refl, stats_taken p.1 e)))))))))))))
-    go false false false false false false false false true m n o q t u w e checked = inr (inr (inr (inr (inr (inr (inr (inr (inr (inr (inr (inr (inr (refl, chart_taken p.1 e)))))))))))))
-    go false false false false false false false false false true n o q t u w e checked = inr (inr (inr (inr (inr (inl (refl, judge_taken p.1 e))))))
-    go false false false false false false false false false false true o q t u w e checked = inr (inr (inr (inr (inr (inr (inl (refl, explore_taken p.1 e)))))))
-    go false false false false false false false false false false false true q t u w e checked = inr (inr (inl (inr (refl, why_taken p.1 e))))
-    go false false false false false false false false false false false false true t u w e checked = inr (inr (inl (inl (refl, lint_taken p.1 e))))
-    go false false false false false false false false false false false false false true u w e checked = inr (inl (refl, races_taken p.1 e))
-    go false false false false false false false false false false false false false false true w e checked = inl (inl refl)
-    go false false false false false false false false false false false false false false false true e checked = inl (inr refl)
-    go false false false false false false false false false false false false false false false false e checked = absurd cc
+    go : (a z b d f h j i k l m n o q t u w : Bool) → option_map_or (λ s. level_fault s [] nothing_held p.1 false []) (shape a z b d f h j i k l m n o q t u w) [] ≡ []
+        → check_fault top_built.top rows (is_some (option_map (λ s. rows_at s p.1) (shape a z b d f h j i k l m n o q t u w))) ≡ []
+        → IsRequestTaken (option_map (λ s. rows_at s p.1) (shape a z b d f h j i k l m n o q t u w))
+    go true z b d f h j i k l m n o q t u w e checked = inr (inr (inr (inl (refl, check_taken p.1 e))))
+    go false true b d f h j i k l m n o q t u w e checked = inr (inr (inr (inr (inl (refl, core_taken p.1 e)))))
+    go false false true d f h j i k l m n o q t u w e checked = inr (inr (inr (inr (inr (inl (refl, plain_taken p.1 e))))))
+    go false false false true f h j i k l m n o q t u w e checked = inr (inr (inr (inr (inr (inr (inr (inr (inl (refl, sim_taken p.1 e)))))))))
+    go false false false false true h j i k l m n o q t u w e checked = inr (inr (inr (inr (inr (inr (inr (inr (inr (inl (refl, run_taken p.1 e))))))))))
+    go false false false false false true j i k l m n o q t u w e checked = inr (inr (inr (inr (inr (inr (inr (inr (inr (inr (inl (refl, trace_taken p.1 e)))))))))))
+    go false false false false false false true i k l m n o q t u w e checked = inr (inr (inr (inr (inr (inr (inr (inr (inr (inr (inr (inl (refl, step_taken p.1 e))))))))))))
+    go false false false false false false false true k l m n o q t u w e checked = inr (inr (inr (inr (inr (inr (inr (inr (inr (inr (inr (inr (inl (refl, explain_taken p.1 e)))))))))))))
+    go false false false false false false false false true l m n o q t u w e checked = inr (inr (inr (inr (inr (inr (inr (inr (inr (inr (inr (inr (inr (inl (refl, stats_taken p.1 e))))))))))))))
+    go false false false false false false false false false true m n o q t u w e checked = inr (inr (inr (inr (inr (inr (inr (inr (inr (inr (inr (inr (inr (inr (refl, chart_taken p.1 e))))))))))))))
+    go false false false false false false false false false false true n o q t u w e checked = inr (inr (inr (inr (inr (inr (inl (refl, judge_taken p.1 e)))))))
+    go false false false false false false false false false false false true o q t u w e checked = inr (inr (inr (inr (inr (inr (inr (inl (refl, explore_taken p.1 e))))))))
+    go false false false false false false false false false false false false true q t u w e checked = inr (inr (inl (inr (refl, why_taken p.1 e))))
+    go false false false false false false false false false false false false false true t u w e checked = inr (inr (inl (inl (refl, lint_taken p.1 e))))
+    go false false false false false false false false false false false false false false true u w e checked = inr (inl (refl, races_taken p.1 e))
+    go false false false false false false false false false false false false false false false true w e checked = inl (inl refl)
+    go false false false false false false false false false false false false false false false false true e checked = inl (inr refl)
+    go false false false false false false false false false false false false false false false false false e checked = absurd cc
 
 pub taken : (words : List Text) → fault_of treadmarks words ≡ [] → IsRequestTaken (subcommand_of treadmarks words)
 unfolding treadmarks

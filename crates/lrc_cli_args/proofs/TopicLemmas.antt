@@ -29,7 +29,7 @@ IsHelped word = fault_of treadmarks (word ∷ codes "--help" ∷ []) ≡ Display
 
 each_helped : AllByRecursion IsHelped command_names
 unfolding treadmarks command_names clap_on_literals
-each_helped = (refl, (refl, (refl, (refl, (refl, (refl, (refl, (refl, (refl, (refl, (refl, (refl, (refl, (refl, (refl, (refl, tt))))))))))))))))
+each_helped = (refl, (refl, (refl, (refl, (refl, (refl, (refl, (refl, (refl, (refl, (refl, (refl, (refl, (refl, (refl, (refl, (refl, tt)))))))))))))))))
 
 -- clap answers to the words of a topic with the text of that kind
 pub topic_answered : (topic : Topic) → fault_of treadmarks (topic_words topic) ≡ topic_kind topic ∷ []

@@ -4,7 +4,7 @@ use Rattle.clap.specs.Words.{Row, Text, first_of}
 use Rattle.lrc_cli_args.specs.declared.choice.Way.{Way}
 use Rattle.lrc_cli_args.specs.declared.choice.Way.TheVariants as ways
 use Rattle.lrc_cli_args.specs.declared.runs.Order.{Order}
-use Rattle.lrc_cli_args.specs.Options.{AreAsked, IsBareWayIn, IsWay, IsWayIn}
+use Rattle.lrc_cli_args.specs.Options.{AreAsked, IsWay, IsWayIn}
 
 -- with nothing behind its events
 pub bare : (threads : Bool) (rows : List Row) (order : Order) (seed : Option ℕ) (events : Option Text) (way : Way) → first_of (codes "then") rows ≡ None

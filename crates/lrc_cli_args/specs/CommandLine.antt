@@ -11,7 +11,7 @@ use Rattle.lrc_cli_args.specs.declared.choice.Asking.{Asking}
 use Rattle.lrc_cli_args.specs.declared.choice.ChartedActs.{ChartedActs}
 use Rattle.lrc_cli_args.specs.declared.choice.Charting.{Charting}
 use Rattle.lrc_cli_args.specs.declared.choice.Choice.{Choice}
-use Rattle.lrc_cli_args.specs.declared.choice.Choice.TheVariants.{Check, Plain, Show, Judge, Explore, Lint, WhyActs, ChartActs}
+use Rattle.lrc_cli_args.specs.declared.choice.Choice.TheVariants.{Check, Core, Plain, Show, Judge, Explore, Lint, WhyActs, ChartActs}
 use Rattle.lrc_cli_args.specs.declared.choice.ChooseFault.{ChooseFault}
 use Rattle.lrc_cli_args.specs.declared.choice.ChooseFault.TheVariants.{Usage, BadNumber, NoMemory}
 use Rattle.lrc_cli_args.specs.declared.choice.ExactOptions.{ExactOptions}
@@ -65,6 +65,7 @@ IsShowTaken found = ((found.0 ≡ codes "sim") × IsSimTaken found.1)
 abbrev pub IsCommandTaken : Option (Text × List Row) → Type 0
 IsCommandTaken None = ⊥
 IsCommandTaken (Some found) = ((found.0 ≡ codes "check") × HasValue (codes "FILE") found.1)
+    ⊎ ((found.0 ≡ codes "core") × HasValue (codes "FILE") found.1)
     ⊎ ((found.0 ≡ codes "plain") × IsPlainTaken found.1)
     ⊎ ((found.0 ≡ codes "judge") × IsJudgeTaken found.1)
     ⊎ ((found.0 ≡ codes "explore") × IsExploreTaken found.1)
@@ -94,7 +95,7 @@ IsRequestTaken found = IsSomeAnd found IsTopicTaken ⊎ IsSomeAnd found IsRacesF
 
 -- a run on the plain machine is chosen by these matches
 abbrev pub IsPlainRun : List Row → PlainRun → Type 0
-IsPlainRun rows run = AreOptions run.file.now run.nodes.count run.steps.count rows
+IsPlainRun rows run = AreOptions run.file.now run.nodes.count run.nodes_given run.steps.count rows
 
 -- a run of the nodes, on threads or not
 pub record IsRun (threads : Bool) (rows : List Row) (run : RunChoice) : Type 0 where
@@ -181,6 +182,7 @@ pub record IsWhyActs (rows : List Row) (acts : ForeignActs) (asking : Asking) : 
 -- the choice is the command that clap found, with its matches
 abbrev pub IsChoice : Text × List Row → Choice → Type 0
 IsChoice found (Check text) = (found.0 ≡ codes "check") × (first_of (codes "FILE") found.1 ≡ Some text.now)
+IsChoice found (Core text) = (found.0 ≡ codes "core") × (first_of (codes "FILE") found.1 ≡ Some text.now)
 IsChoice found (Plain run) = (found.0 ≡ codes "plain") × IsPlainRun found.1 run
 IsChoice found (Show run shape) = IsShowChoice found run shape
 IsChoice found (Judge judging) = (found.0 ≡ codes "judge") × IsJudging found.1 judging

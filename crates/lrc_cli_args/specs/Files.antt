@@ -1,13 +1,14 @@
 -- The files that a choice names, and whether it starts threads.
 use Rattle.std.specs.Prelude.{ℕ, Bool, false, true, List, Option, None, Some, is_some}
 use Rattle.lrc_cli_args.specs.declared.choice.Choice.{Choice}
-use Rattle.lrc_cli_args.specs.declared.choice.Choice.TheVariants.{Check, Plain, Show, Judge, Explore, Lint, WhyActs, ChartActs}
+use Rattle.lrc_cli_args.specs.declared.choice.Choice.TheVariants.{Check, Core, Plain, Show, Judge, Explore, Lint, WhyActs, ChartActs}
 use Rattle.lrc_cli_args.specs.declared.choice.Way.{Way}
 use Rattle.lrc_cli_args.specs.declared.choice.Way.TheVariants.{Events, Followed, Rounds, Random, Threads}
 
 -- the file of the text: of acts for `judge`, `why --acts` and `chart --acts`, and else of a program
 abbrev pub file_of : Choice → List ℕ
 file_of (Check file) = file.now
+file_of (Core file) = file.now
 file_of (Plain run) = run.file.now
 file_of (Show run shape) = run.options.file.now
 file_of (Judge judging) = judging.file.now
@@ -19,6 +20,7 @@ file_of (ChartActs acts charting) = acts.file.now
 -- the choice is about acts from anywhere, and its file has a text of acts
 abbrev pub reads_acts : Choice → Bool
 reads_acts (Check file) = false
+reads_acts (Core file) = false
 reads_acts (Plain run) = false
 reads_acts (Show run shape) = false
 reads_acts (Judge judging) = true
@@ -38,6 +40,7 @@ events_along (Threads order) = None
 -- the file of the events, where the choice names one
 abbrev pub events_of : Choice → Option (List ℕ)
 events_of (Check file) = None
+events_of (Core file) = None
 events_of (Plain run) = None
 events_of (Show run shape) = events_along run.way
 events_of (Judge judging) = None
@@ -59,6 +62,7 @@ is_on_threads (Threads order) = true
 -- the choice is a run whose nodes are on threads of their own
 abbrev pub starts_threads : Choice → Bool
 starts_threads (Check file) = false
+starts_threads (Core file) = false
 starts_threads (Plain run) = false
 starts_threads (Show run shape) = is_on_threads run.way
 starts_threads (Judge judging) = false

@@ -307,14 +307,15 @@ HasWordMisfit word messages part misfit =
 -- ---- the choice of the matches
 
 -- the file and the numbers of a run stand in these matches
-pub record AreOptions (path : Text) (node_count step_count : ℕ) (rows : List Row) : Type 0 where
+pub record AreOptions (path : Text) (node_count : ℕ) (given : Bool) (step_count : ℕ) (rows : List Row) : Type 0 where
   pub file : first_of (codes "FILE") rows ≡ Some path
   pub nodes : nodes_in rows ≡ node_count
+  pub given_is : given ≡ is_given (codes "nodes") rows
   pub steps : steps_in rows ≡ step_count
 
 -- what all runs of the nodes have in common is chosen by these matches
 pub record AreRunOptions (run : RunOptions) (rows : List Row) : Type 0 where
-  pub plain : AreOptions run.file.now run.nodes.count run.steps.count rows
+  pub plain : AreOptions run.file.now run.nodes.count run.nodes_given run.steps.count rows
   pub collect : collect_in rows ≡ run.collect.count
   pub size : IsPageSize (first_of (codes "page") rows) run.size
 

@@ -21,6 +21,8 @@ pub struct PlainRun<'w> {
     /// The file of the program's text; `-` is standard input.
     pub file: &'w str,
     pub nodes: Nodes,
+    /// Whether the words give the number of nodes. If not, it is the default.
+    pub nodes_given: bool,
     pub steps: Steps,
 }
 
@@ -53,6 +55,8 @@ pub struct RunOptions<'w> {
     /// The file of the program's text; `-` is standard input.
     pub file: &'w str,
     pub nodes: Nodes,
+    /// Whether the words give the number of nodes. If not, it is the default.
+    pub nodes_given: bool,
     pub steps: Steps,
     pub collect: Collect,
     /// The size of a page.
@@ -304,6 +308,8 @@ pub struct ChartedActs<'w> {
 pub enum Choice<'w> {
     /// Whether the text in this file is a program; `-` is standard input.
     Check(&'w str),
+    /// The core of the program in this file; `-` is standard input.
+    Core(&'w str),
     /// A run on the plain machine, in rounds.
     Plain(PlainRun<'w>),
     /// A run of the nodes, and what is shown of it.

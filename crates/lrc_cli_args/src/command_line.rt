@@ -19,7 +19,7 @@ use crate::explore::explore_choice;
 use crate::judge::judge_choice;
 use crate::misfit::{Misfit, fault_of_misfit};
 use crate::races::races_request;
-use crate::reading::{is_named, nodes_of, steps_of, text_of};
+use crate::reading::{is_given, is_named, nodes_of, steps_of, text_of};
 use crate::runs::{run_choice, showing_choice, step_choice, threads_run, trace_choice};
 use crate::why::why_choice;
 use clap::ArgMatches;
@@ -123,6 +123,9 @@ fn choice_from<'w>(matches: &ArgMatches<'w>) -> Result<Choice<'w>, Misfit>
     if let Some(options) = matches.subcommand_matches("check") {
         return Ok(Choice::Check(text_of(options, "FILE")));
     }
+    if let Some(options) = matches.subcommand_matches("core") {
+        return Ok(Choice::Core(text_of(options, "FILE")));
+    }
     if let Some(options) = matches.subcommand_matches("plain") {
         return plain_choice(options);
     }
@@ -184,6 +187,7 @@ fn plain_choice<'w>(options: &ArgMatches<'w>) -> Result<Choice<'w>, Misfit>
     Ok(Choice::Plain(PlainRun {
         file: text_of(options, "FILE"),
         nodes: nodes_of(options)?,
+        nodes_given: is_given(options, "nodes"),
         steps: steps_of(options)?,
     }))
 }

@@ -12,6 +12,7 @@ impl<'w> Choice<'w> {
     {
         match self {
             Choice::Check(file) => *file,
+            Choice::Core(file) => *file,
             Choice::Plain(run) => run.file,
             Choice::Show(run, _) => run.options.file,
             Choice::Judge(judging) => judging.file,

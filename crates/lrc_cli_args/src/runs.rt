@@ -108,6 +108,7 @@ fn run_options<'w>(options: &ArgMatches<'w>) -> Result<RunOptions<'w>, Misfit>
     Ok(RunOptions {
         file: text_of(options, "FILE"),
         nodes: nodes_of(options)?,
+        nodes_given: is_given(options, "nodes"),
         steps: steps_of(options)?,
         collect: collect_of(options)?,
         size,

@@ -58,6 +58,9 @@ memory = defaulted (codes "memory") (codes "flat")
 abbrev pub check_command : App
 check_command = with_rule (new_app (codes "check")) file
 
+abbrev pub core_command : App
+core_command = with_rule (new_app (codes "core")) file
+
 abbrev pub plain_command : App
 plain_command = with_rule (with_rule (with_rule (new_app (codes "plain")) file) nodes) steps
 
@@ -159,7 +162,8 @@ treadmarks_shape = record (new_app (codes "treadmarks")).top {
 }
 
 abbrev pub with_reports : App → App
-with_reports command = with_subcommand (with_subcommand (with_subcommand (with_subcommand command check_command.top) plain_command.top) sim_command.top) run_command.top
+with_reports command = with_subcommand (with_subcommand (with_subcommand (with_subcommand (with_subcommand command check_command.top) core_command.top)
+    plain_command.top) sim_command.top) run_command.top
 
 abbrev pub with_questions : App → App
 with_questions command = with_subcommand (with_subcommand (with_subcommand (with_subcommand

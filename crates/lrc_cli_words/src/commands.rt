@@ -3,7 +3,7 @@
 ghost use Rattle.std.specs.Prelude.{◌≡◌, [], IfOk, false};
 ghost use Rattle.clap.specs.Words.{App, Rule, app_of, rule_of, with_rule, with_subcommand};
 ghost use Rattle.clap.specs.declared.builder.command.Command.TheViews.{out-Command as fields_of};
-ghost use Rattle.lrc_cli_words.specs.Commands.{act, bare_number, chart_command, check_command, collect, explain_command, explore_command, file, flag_option, form, help_command, judge_command, line_pair, lint_command, memory, most, nodes, number_option, option, order};
+ghost use Rattle.lrc_cli_words.specs.Commands.{act, bare_number, chart_command, check_command, collect, core_command, explain_command, explore_command, file, flag_option, form, help_command, judge_command, line_pair, lint_command, memory, most, nodes, number_option, option, order};
 ghost use Rattle.lrc_cli_words.specs.Commands.{optional_file, page, plain_command, races_command, run_command, sim_command, stats_command, step_command, steps, trace_command, trace_form, treadmarks, treadmarks_shape, version_command, why_command};
 ghost use Rattle.lrc_cli_words.specs.Commands.{is_command, with_counts, with_hints, with_part, with_ways};
 ghost use Rattle.lrc_cli_words.specs.Commands.{with_questions, with_reports, with_run_options, with_showing_options, with_topics, with_way_options};
@@ -165,9 +165,9 @@ const VERSION: &str = "0.1.0";
 
 // What the help says of the exit status, and of the one line that cannot say which option it means.
 const STATUSES: &str = "Exit status:
-  0  all nodes ended, and no race was found (check, lint: the text is a program; chart: the run was drawn; judge, explore:
+  0  all nodes ended, and no race was found (check, core, lint: the text is a program; chart: the run was drawn; judge, explore:
      nothing was found; races: no race was told; why, help, version: always)
-  1  a fault of the text, a file, the events, memory or the output (lint: the text is no program)
+  1  a fault of the text, a file, the events, memory or the output (check, core, lint: the text is no program)
   2  a fault of the words, or `--help` or `--version`. `number out of range` says that a number is not in the range that the help of
      its command gives
   3  a race was found
@@ -175,8 +175,8 @@ const STATUSES: &str = "Exit status:
      or can no longer end; races --witness: it is no sure race)";
 
 // The names of the commands.
-static COMMANDS: [&str; 16] = [
-    "check", "plain", "sim", "run", "trace", "step", "explain", "stats", "chart", "judge",
+static COMMANDS: [&str; 17] = [
+    "check", "core", "plain", "sim", "run", "trace", "step", "explain", "stats", "chart", "judge",
     "explore", "why", "lint", "races", "help", "version",
 ];
 
@@ -216,6 +216,7 @@ fn taking_reports<'w>(alloc: Global, command: Command<'w>) -> Result<Command<'w>
     ensures { IfOk result (λ given. app_of given ≡ with_reports (app_of command.entry)) }
 {
     let command = having(Ok(command), check_command(alloc));
+    let command = having(command, core_command(alloc));
     let command = having(command, plain_command(alloc));
     let command = having(command, sim_command(alloc));
     having(command, run_command(alloc))
@@ -291,6 +292,17 @@ fn check_command<'w>(alloc: Global) -> Result<Command<'w>, AllocError>
 {
     Command::new(alloc, "check")
         .about("Prints `ok` if the text of FILE is a program")
+        .arg(file(alloc, FILE_HELP))
+}
+
+fn core_command<'w>(alloc: Global) -> Result<Command<'w>, AllocError>
+    ensures app { IfOk result (λ command. app_of command ≡ core_command) }
+    ensures local { IfOk result (λ command. (fields_of command).has_globals ≡ false) }
+{
+    Command::new(alloc, "core")
+        .about(
+            "Prints the core of the program of FILE: what it stands for, with numbered words and locks in place of names",
+        )
         .arg(file(alloc, FILE_HELP))
 }
 

@@ -13,6 +13,7 @@ use std::thread::Threads;
 pub const ON_ONE_NODE: RunOptions<'static> = RunOptions {
     file: "-",
     nodes: Nodes { count: 1 },
+    nodes_given: true,
     steps: Steps { count: 1_000_000 },
     collect: Collect { count: 0 },
     size: Size::Words64,

@@ -38,6 +38,8 @@ pub struct Run {
 #[derive(Clone, Copy)]
 pub enum Wanted {
     Lint(&'static str),
+    /// The core of a program.
+    Core(&'static str),
     Races(Racing<'static>),
     Witness(TwoLines),
     Reasons(TwoLines),
@@ -191,6 +193,7 @@ fn is_wanted(made: &Choice<'_>, wanted: &Wanted) -> bool {
             are_charted(made, file, *nodes) && is_same_charting(*charting, *wanted)
         }
         (Choice::Check(made), Wanted::Check(file)) => made == file,
+        (Choice::Core(made), Wanted::Core(file)) => made == file,
         (Choice::Plain(made), Wanted::Plain(file, nodes, steps)) => {
             is_plain(made, file, *nodes, *steps)
         }
@@ -327,6 +330,8 @@ const CHOICES: &[Row] = &[
     ),
     ("", Wanted::Run(Run { file: "-", ..A_RUN })),
     ("check a.tm", Wanted::Check("a.tm")),
+    ("core a.tm", Wanted::Core("a.tm")),
+    ("core -", Wanted::Core("-")),
     // The options of a run.
     (
         "sim - --nodes 3 --order newest --page=256 --collect 1000000",
