@@ -1,11 +1,10 @@
 -- What was checked, as what the names mean.
-use Rattle.std.proofs.Common.{◌≡◌, ◌≤◌, ◌⊎◌, inl, inr, List, [], ◌∷◌, refl, sym, subst}
-use Rattle.std.specs.Prelude.{Option, None, Result, Ok, Err, IfOk, ℕ}
+use Rattle.std.proofs.Common.{◌≤◌, inl, inr, List, [], ◌∷◌, subst}
+use Rattle.std.specs.Prelude.{Option, None, Result, IfOk, ℕ}
 use Rattle.lrc_named_tree.specs.Tree.{Block, Declaration, NamedTree}
 use Rattle.lrc_named_names.specs.Names.{Declared}
 use Rattle.lrc_named_names.specs.View.{declared_of}
-use Rattle.lrc_named_constants.specs.Layout.{AreDeclared, no_declaration, one_declaration, locks_in, words_in}
-use Rattle.lrc_named_expression_faults.specs.declared.fault.Fault.{Fault}
+use Rattle.lrc_named_constants.specs.Layout.{AreDeclared, no_declaration, one_declaration}
 use Rattle.lrc_named_expression_faults.specs.Fault.{IsNone}
 use Rattle.lrc_named_expression_faults.proofs.First.{if_ok}
 use Rattle.lrc_named_statement_faults.specs.Statements.{IsInStatements}
@@ -13,7 +12,6 @@ use Rattle.lrc_named_faults.specs.declared.layout.Layout as code_layout
 use Rattle.lrc_named_faults.specs.declared.values.Found.{Found}
 use Rattle.lrc_named_faults.specs.declared.values.Found.TheVariants.{Good, Bad}
 use Rattle.lrc_named_faults.specs.Checked.{IsChecked}
-use Rattle.lrc_named_faults.specs.Declarations.{IsInDeclaration}
 use Rattle.lrc_named_faults.specs.Program.{IsInProgram, counted_with}
 use Rattle.lrc_named_faults.proofs.Laid.{laid_out_is_sound}
 use Rattle.lrc_named_check.specs.Program.{AreNamesFound}

@@ -1,5 +1,5 @@
 -- In statements without a fault names are used as what they are.
-use Rattle.std.proofs.Common.{◌≡◌, ◌⊎◌, inl, inr, ℕ, Bool, true, false, List, [], ◌∷◌, ◌++◌, length, refl, sym, subst}
+use Rattle.std.proofs.Common.{inl, inr, ℕ, Bool, true, false, List, [], ◌∷◌, ◌++◌, length, refl}
 use Rattle.std.specs.Prelude.{Option, Some, None, slice_get, drop}
 use Rattle.lrc_named_tree.specs.Tree.{Named, Expression, Expressions, none, more, Place, Statement, Block, Arms, empty, next, no_arm, arm}
 use Rattle.lrc_named_tree.specs.Tree.{assign, acquire, release, with_do, barrier, print, assert, if_else, while_do, for_do}
@@ -11,7 +11,7 @@ use Rattle.lrc_named_expression_faults.specs.Expressions.{IsInExpression, IsInIn
 use Rattle.lrc_named_expression_faults.specs.Fault.{IsNone, fault_at}
 use Rattle.lrc_named_expression_faults.specs.Scope.{Scope, lock_sizes, sense_by, sense_of, shared_sizes}
 use Rattle.lrc_named_expression_faults.proofs.Clean.{clean_is_well_here}
-use Rattle.lrc_named_statement_faults.specs.Parts.{Part, counter, lock_place, target, value, parts_of, parts_of_arms, parts_of_block, parts_of_values}
+use Rattle.lrc_named_statement_faults.specs.Parts.{Part, lock_place, target, parts_of, parts_of_arms, parts_of_block, parts_of_values}
 use Rattle.lrc_named_statement_faults.specs.Statements.{IsInLock, IsInPart, IsInParts, IsInStatements, IsInTarget, set_names}
 use Rattle.lrc_named_statements.specs.Well.{AreWellArms, IsLock, IsLockPlace, IsSettable, IsWellBlock, IsWellStatement}
 

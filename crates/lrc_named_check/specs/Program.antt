@@ -1,5 +1,5 @@
 -- What is found of the names of a whole named program.
-use Rattle.std.specs.Prelude.{◌≡◌, ◌≤◌, None, Some, [], List}
+use Rattle.std.specs.Prelude.{◌≡◌, ◌≤◌, None, Some, []}
 use Rattle.lrc_named_tree.specs.Tree.{NamedTree}
 use Rattle.lrc_named_names.specs.View.{declared_of}
 use Rattle.lrc_named_constants.specs.Layout.{AreDeclared, locks_in, words_in}
