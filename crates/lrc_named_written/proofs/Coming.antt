@@ -28,8 +28,8 @@ as_program count words locks declared lines tree statements (Core text) counted 
   statements = statements;
   translated = core;
   within = subst (λ n. IsFirstOf (AreOver n statements) None) counted comes.0;
-  written = comes.1;
-  fits = subst (λ l. length l ≤ 65536) (sym comes.1) comes.2;
+  written = comes.1.0;
+  fits = subst (λ l. length l ≤ 65536) (sym comes.1.0) comes.1.1;
 }
 as_program count words locks declared lines tree statements (Over x) counted core comes = record {
   words = words;

@@ -17,7 +17,8 @@ AreOver privates statements x = IsOverInBlock privates 0 statements x
 
 -- the core of a program that declares this and whose tokens stand on these lines is within the limits, and is this text
 pub record IsCoreText (declared : List Declared) (lines : List ℕ) (tree : NamedTree) (text : List ℕ) : Type 0 where
-  pub words locks : ℕ
+  pub words : ℕ
+  pub locks : ℕ
   pub statements : Block
   pub translated : IsCoreOf declared tree words locks statements
   pub within : IsFirstOf (AreOver (privates declared tree.statements) statements) None
@@ -26,14 +27,16 @@ pub record IsCoreText (declared : List Declared) (lines : List ℕ) (tree : Name
 
 -- this is the first of its core over a limit
 pub record IsCoreOver (declared : List Declared) (tree : NamedTree) (x : Excess) : Type 0 where
-  pub words locks : ℕ
+  pub words : ℕ
+  pub locks : ℕ
   pub statements : Block
   pub translated : IsCoreOf declared tree words locks statements
   pub first : IsFirstOf (AreOver (privates declared tree.statements) statements) (Some x)
 
 -- nothing of it is, but its text is too long
 pub record IsCoreLong (declared : List Declared) (lines : List ℕ) (tree : NamedTree) : Type 0 where
-  pub words locks : ℕ
+  pub words : ℕ
+  pub locks : ℕ
   pub statements : Block
   pub translated : IsCoreOf declared tree words locks statements
   pub within : IsFirstOf (AreOver (privates declared tree.statements) statements) None

@@ -16,7 +16,7 @@ returns-in_ok-push-in-Some c =
     let name = (named_of c.in-Some.name).bytes in
     add_seen c.args.seen.now.items c.push.new.self.items c.in-Some.name _ c.in-Some.ensures
     (ap (λ l. is_among (bytes_of (map named_of l)) name) (sym c.deref.ensures.value) ∙ sym c.is_one_of.ensures ∙ c.if-is_one_of.false)
-    c.in_ok-push.ensures.items
+    c.in_ok-push-in-Some.ensures.items
 
 pub returns-in-None : goal.returns-in-None
 returns-in-None c = pass_seen _ _ c.in-None.ensures
