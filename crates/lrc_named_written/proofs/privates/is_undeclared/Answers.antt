@@ -1,5 +1,5 @@
 -- Nothing is declared at the place of the name.
-use Rattle.std.proofs.Common.{is_some, sym, ap, ◌∙◌}
+use Rattle.std.proofs.Common.{ap, ◌∙◌}
 use Rattle.lrc_named_names.specs.Names.{meaning_at}
 use Rattle.lrc_named_names.specs.View.{declared_of}
 use Rattle.lrc_named_written.proofs.Seen.{none_undeclared}

@@ -1,5 +1,5 @@
 -- One part more, from the back.
-use Rattle.std.proofs.Common.{◌≡◌, ◌≤◌, ◌-◌, suc, length, map, drop, sym, ap, subst, ◌∙◌, arith}
+use Rattle.std.proofs.Common.{◌≡◌, ◌≤◌, ◌-◌, suc, length, map, drop, sym, subst, arith}
 use Rattle.lrc_named_tree.specs.View.{named_of}
 use Rattle.lrc_named_names.specs.View.{declared_of}
 use Rattle.lrc_named_constants.specs.Well.{bytes_of}

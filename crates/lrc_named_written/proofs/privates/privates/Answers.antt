@@ -1,6 +1,6 @@
 -- The parts are those of the statements.
-use Rattle.std.proofs.Common.{◌≡◌, ◌++◌, length, map, min, sym, ap, subst, ◌∙◌}
-use Rattle.lrc_named_tree.specs.View.{block_of, named_of}
+use Rattle.std.proofs.Common.{◌≡◌, ◌++◌, length, map, min, ap, ◌∙◌}
+use Rattle.lrc_named_tree.specs.View.{block_of}
 use Rattle.lrc_named_names.specs.View.{declared_of}
 use Rattle.lrc_named_constants.specs.Well.{bytes_of}
 use Rattle.lrc_named_statement_faults.specs.Parts.{part_seen, parts_of_block}
