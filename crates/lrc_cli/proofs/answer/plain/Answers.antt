@@ -11,7 +11,7 @@ use Rattle.lrc_cli.proofs.answer.plain.Goals as goal
 
 pub returns-in_err-reading-clause-err : goal.returns-in_err-reading-clause-err
 returns-in_err-reading-clause-err c =
-    fault_up c.from_residual-in_err-reading.result _ _ c.from_residual-in_err-reading.ensures.1 (inl c.in_err-reading.ensures.err)
+    fault_up c.from_residual.result _ _ c.from_residual.ensures.1 (inl c.in_err-reading.ensures.err)
 
 pub returns-in_err-program-clause-err : goal.returns-in_err-program-clause-err
 returns-in_err-program-clause-err c =
@@ -22,8 +22,8 @@ returns-in_err-program-clause-err c =
 pub returns-clause-ok : goal.returns-clause-ok
 returns-clause-ok c =
     let run = c.args.run.now in
-    let out : List ℕ = whole_text c.in_ok-in_rounds.in_rounds.parts.items in
-    let status : ℕ = c.in_ok-in_rounds.in_rounds.status in
+    let out : List ℕ = whole_text c.in_ok-in_rounds.field-0.parts.items in
+    let status : ℕ = c.in_ok-in_rounds.field-0.status in
     holds_as_read c.args.text.now _ _ c.text-core.result.now
     (λ asked core. (program : Program) × IsTextOf core program
     × IsPrintoutOfRounds program (nodes_for run.nodes_given run.nodes asked).count run.steps.count out status) c.in_ok-reading.ensures.ok c.text-core.ensures

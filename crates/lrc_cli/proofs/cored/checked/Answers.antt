@@ -8,7 +8,7 @@ use Rattle.lrc_cli.proofs.cored.checked.Goals as goal
 
 pub returns-in_err-reading-clause-err : goal.returns-in_err-reading-clause-err
 returns-in_err-reading-clause-err c =
-    fault_up c.from_residual-in_err-reading.result _ _ c.from_residual-in_err-reading.ensures.1 (inl c.in_err-reading.ensures.err)
+    fault_up c.from_residual.result _ _ c.from_residual.ensures.1 (inl c.in_err-reading.ensures.err)
 
 pub returns-in_err-_program-clause-err : goal.returns-in_err-_program-clause-err
 returns-in_err-_program-clause-err c =
