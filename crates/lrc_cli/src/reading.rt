@@ -83,11 +83,7 @@ fn translated(alloc: Global, text: &[u8]) -> Result<Reading<'_>, Fault>
 pub fn nodes_for(given: bool, nodes: Nodes, asked: Option<Nodes>) -> Nodes
     ensures { result ≡ nodes_for given nodes asked }
 {
-    if given {
-        nodes
-    } else {
-        asked.unwrap_or(nodes)
-    }
+    if given { nodes } else { asked.unwrap_or(nodes) }
 }
 
 /// Returns a run with the nodes that a text asks for, unless the words say how many.

@@ -26,7 +26,9 @@ returns-clause-ok c =
     let status : ℕ = c.in_ok-in_rounds.field-0.status in
     holds_as_read c.args.text.now _ _ c.text-core.result.now
     (λ asked core. (program : Program) × IsTextOf core program
-    × IsPrintoutOfRounds program (nodes_for run.nodes_given run.nodes asked).count run.steps.count out status) c.in_ok-reading.ensures.ok c.text-core.ensures
-    (c.in_ok-program.program, c.in_ok-program.ensures.program,
-    subst (λ (nodes : Nodes). IsPrintoutOfRounds c.in_ok-program.program nodes.count run.steps.count out status)
-    (c.nodes_for-nodes.ensures ∙ ap (nodes_for run.nodes_given run.nodes) c.nodes.ensures) c.in_ok-in_rounds.ensures)
+    × IsPrintoutOfRounds program (nodes_for run.nodes_given run.nodes asked).count run.steps.count out status) c.in_ok-reading.ensures.ok c.text-core.ensures (
+      c.in_ok-program.program,
+      c.in_ok-program.ensures.program,
+      subst (λ (nodes : Nodes). IsPrintoutOfRounds c.in_ok-program.program nodes.count run.steps.count out status)
+          (c.nodes_for-nodes.ensures ∙ ap (nodes_for run.nodes_given run.nodes) c.nodes.ensures) c.in_ok-in_rounds.ensures,
+    )
