@@ -1,5 +1,5 @@
 -- How a text is read.
-use Rattle.std.proofs.Common.{◌≡◌, ◌⊎◌, ℕ, List, Option, Result, Ok, Err, IfErr, IsErrAnd, inl, inr, sym, subst}
+use Rattle.std.proofs.Common.{◌≡◌, ℕ, List, Option, inr, subst}
 use Rattle.lrc_cli_answer.specs.declared.fault.Fault.{Fault}
 use Rattle.lrc_named.specs.Named.{IsNamedFault, IsReadAsNamed}
 use Rattle.lrc_named.specs.declared.fault.NamedFault.{NamedFault}

@@ -8,7 +8,7 @@ use Rattle.lrc_cli_args.specs.declared.choice.Shape.{Shape}
 use Rattle.lrc_cli_runs.specs.Showing.{AnswersShowing, RefusesRun, ShowsRun}
 use Rattle.lrc_setting.specs.declared.setting.Nodes.{Nodes}
 use Rattle.lrc_text.specs.Parts.{whole_text}
-use Rattle.lrc_cli.specs.Reading.{HoldsAsRead, IsReadAs, IsUnread, run_for}
+use Rattle.lrc_cli.specs.Reading.{IsReadAs, IsUnread, run_for}
 use Rattle.lrc_cli.specs.Showing.{AnswersAsRead, RefusesAsRead, ShowsAsRead, takes_named}
 
 -- memory may run out, whatever is shown

@@ -1,4 +1,4 @@
-use Rattle.std.proofs.Common.{◌≡◌, ◌∙◌, ℕ, List, ap, inl, subst}
+use Rattle.std.proofs.Common.{◌∙◌, ℕ, List, ap, inl, subst}
 use Rattle.lrc_lang.specs.declared.program.Program.{Program}
 use Rattle.lrc_setting.specs.declared.setting.Nodes.{Nodes}
 use Rattle.lrc_text.specs.Parts.{whole_text}

@@ -1,4 +1,4 @@
-use Rattle.std.proofs.Common.{◌∙◌, ℕ, List, inl, refl}
+use Rattle.std.proofs.Common.{◌∙◌, inl, refl}
 use Rattle.lrc_text.specs.Parts.{whole_text}
 use Rattle.lrc_cli_answer.specs.Texts.{IsTextFault}
 use Rattle.lrc_cli_answer.proofs.FaultLemmas.{fault_up, text_fault}
