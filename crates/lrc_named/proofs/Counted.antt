@@ -13,27 +13,27 @@ use Rattle.lrc_named_faults.specs.Checked.{counted_in}
 use Rattle.lrc_named_faults.specs.Program.{IsFaultOf, IsInProgram, counted_with}
 
 -- what stands behind a declaration without a fault has none
-behind_it : {counted : Option ℕ} {table between : List Declared} {first : Declaration} {others : List Declaration} {statements : Block} →
+behind_it : (counted : Option ℕ) (table between : List Declared) (first : Declaration) (others : List Declaration) (statements : Block) →
     IsNone (λ fault. IsInProgram counted table (first ∷ others) statements fault) → Declares table first between →
     IsNone (λ fault. IsInProgram (counted_with counted first) between others statements fault)
-behind_it {between = between} none declares fault h = none fault (inr ((λ f q. none f (inl q)), (between, declares, h)))
+behind_it counted table between first others statements none declares fault h = none fault (inr ((λ f q. none f (inl q)), (between, declares, h)))
 
 -- the number that is asked for behind these declarations is one of nodes, where the one before them is
 asked : {table final : List Declared} {all : List Declaration} (counted : Option ℕ) (statements : Block) (n : ℕ) → AreDeclared table all final →
     IsNone (λ fault. IsInProgram counted table all statements fault) → (AreNodes n → ⊥) → (counted ≡ Some n → ⊥) →
     counted_in counted all ≡ Some n → ⊥
 asked counted statements n no_declaration none out before is = before is
-asked counted statements n (one_declaration {first = node_count at m} declares rest) none out before is =
-    asked (Some m) statements n rest (behind_it none declares) out
+asked {table = table} counted statements n (one_declaration {between = between} {first = node_count at m} {others = others} declares rest) none out before is =
+    asked (Some m) statements n rest (behind_it counted table between (node_count at m) others statements none declares) out
     (λ same. let equal : m ≡ n = cc in none (fault_at (at + 1) (OverLimit limits.NodeCount)) (inl (inr ((λ (r : AreNodes m). out (subst AreNodes equal r)), refl)))) is
-asked counted statements n (one_declaration {first = constant at named value} declares rest) none out before is =
-    asked counted statements n rest (behind_it none declares) out before is
-asked counted statements n (one_declaration {first = shared at items} declares rest) none out before is =
-    asked counted statements n rest (behind_it none declares) out before is
-asked counted statements n (one_declaration {first = lock at items} declares rest) none out before is =
-    asked counted statements n rest (behind_it none declares) out before is
-asked counted statements n (one_declaration {first = function at named parameters body} declares rest) none out before is =
-    asked counted statements n rest (behind_it none declares) out before is
+asked {table = table} counted statements n (one_declaration {between = between} {first = constant at named value} {others = others} declares rest) none out before is =
+    asked counted statements n rest (behind_it counted table between (constant at named value) others statements none declares) out before is
+asked {table = table} counted statements n (one_declaration {between = between} {first = shared at items} {others = others} declares rest) none out before is =
+    asked counted statements n rest (behind_it counted table between (shared at items) others statements none declares) out before is
+asked {table = table} counted statements n (one_declaration {between = between} {first = lock at items} {others = others} declares rest) none out before is =
+    asked counted statements n rest (behind_it counted table between (lock at items) others statements none declares) out before is
+asked {table = table} counted statements n (one_declaration {between = between} {first = function at named parameters body} {others = others} declares rest) none out before is =
+    asked counted statements n rest (behind_it counted table between (function at named parameters body) others statements none declares) out before is
 
 -- in a program without a fault
 pub asks_nodes : (tree : NamedTree) (declared : List Declared) (n : ℕ) → AreDeclared [] tree.declarations declared →

@@ -56,7 +56,8 @@ fn of_program<'p>(
     ensures fault { IfErr result (IsNamedFault text.now) }
 {
     let lines = lines_of(alloc, tokens)?;
-    match names_of(alloc, program)? {
+    let found = names_of(alloc, program)?;
+    match found {
         Found::Bad(fault) => Err(NamedFault::Names(line_of(&lines, fault.at), fault.kind)),
         Found::Good(layout) => of_names(alloc, text, &lines, program, &layout),
     }
@@ -78,7 +79,8 @@ fn of_names<'p>(
     ensures fault { IfErr result (IsNamedFault text.now) }
 {
     let nodes = nodes_asked(program, layout);
-    match core_text(alloc, &layout.names, lines, program)? {
+    let written = core_text(alloc, &layout.names, lines, program)?;
+    match written {
         Written::Core(text) => Ok(CoreText { text, nodes }),
         Written::Over(excess) => {
             let line = line_of(lines, u64::from(excess.at));

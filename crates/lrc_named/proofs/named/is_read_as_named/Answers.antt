@@ -5,8 +5,8 @@ use Rattle.lrc_named_tokens.specs.View.{located_of}
 use Rattle.lrc_named_tokens.proofs.Unique.{unique}
 use Rattle.lrc_named.proofs.named.is_read_as_named.Goals as goal
 
-pub returns-in_ok-tokens : goal.returns-in_ok-tokens
-returns-in_ok-tokens c =
+pub returns : goal.returns
+returns c =
     let tokens = map located_of c.in_ok-tokens.tokens.items in
     let same : map located_of c.deref.result.now ≡ tokens = ap (map located_of) c.deref.ensures.value in
     let fits : length c.args.text.now ≤ 65536 = omega arith in (

@@ -1,0 +1,32 @@
+-- By what the core comes to.
+use Rattle.std.proofs.Common.{refl, ap, subst, ◌∙◌}
+use Rattle.std.specs.Prelude.{option_map, slice_index}
+use Rattle.lrc_named_tree.specs.View.{program_of}
+use Rattle.lrc_named_names.specs.View.{declared_of}
+use Rattle.lrc_named_written.specs.Written.{IsWritten}
+use Rattle.lrc_named.proofs.Answering.{core_found, long_found, over_found}
+use Rattle.lrc_named.proofs.core_text.of_names.Goals as goal
+
+pub returns-in-Core-clause-core : goal.returns-in-Core-clause-core
+returns-in-Core-clause-core c =
+    let tree = program_of c.args.program.now in
+    let layout = c.args.layout.now in
+    let lines = c.args.lines.now in
+    core_found c.args.text.now c.requires.tokens.0 tree layout lines _ c.in-Core.text.items c.requires.tokens.1 c.requires.clean c.requires.tokens.2
+    c.nodes_asked-nodes.ensures (subst (IsWritten (declared_of layout.names) lines tree) c.in-Core.is c.in_ok-written.ensures)
+
+pub returns-in-Over-clause-fault : goal.returns-in-Over-clause-fault
+returns-in-Over-clause-fault c =
+    let tree = program_of c.args.program.now in
+    let layout = c.args.layout.now in
+    let lines = c.args.lines.now in
+    over_found c.args.text.now c.requires.tokens.0 tree layout lines c.line_of-line.result c.in-Over.excess c.requires.tokens.1 c.requires.clean c.requires.tokens.2
+    (c.line_of-line.ensures ∙ ap (slice_index lines) c.from.ensures) (subst (IsWritten (declared_of layout.names) lines tree) c.in-Over.is c.in_ok-written.ensures)
+
+pub returns-in-TooLong-clause-fault : goal.returns-in-TooLong-clause-fault
+returns-in-TooLong-clause-fault c =
+    let tree = program_of c.args.program.now in
+    let layout = c.args.layout.now in
+    let lines = c.args.lines.now in
+    long_found c.args.text.now c.requires.tokens.0 tree layout lines 1 c.requires.tokens.1 c.requires.clean c.requires.tokens.2 refl
+    (subst (IsWritten (declared_of layout.names) lines tree) c.in-TooLong.is c.in_ok-written.ensures)
