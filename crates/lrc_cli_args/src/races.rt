@@ -99,14 +99,6 @@ fn grouping_of(options: &ArgMatches<'_>) -> Result<Grouping, Misfit>
     }
 }
 
-// Whether the first event that no program would give is a fault.
-fn is_strict(options: &ArgMatches<'_>) -> bool
-    requires { IsRacesTaken (rows_of (found_of options.now)) }
-    ensures { IsFlag (codes "strict") result (rows_of (found_of options.now)) }
-{
-    is_named(options, "strict")
-}
-
 // What is asked where races are told.
 fn racing<'w>(options: &ArgMatches<'w>, form: TraceForm, grouping: Grouping) -> Racing<'w>
     requires taken { IsRacesTaken (rows_of (found_of options.now)) }
@@ -120,7 +112,6 @@ fn racing<'w>(options: &ArgMatches<'w>, form: TraceForm, grouping: Grouping) -> 
         grouping,
         sure: is_named(options, "sure"),
         json: is_named(options, "json"),
-        strict: is_strict(options),
     }
 }
 
@@ -145,7 +136,6 @@ fn reasoning<'w>(
             file: text_of(options, "FILE"),
             form,
             lines,
-            strict: is_strict(options),
         }),
         None => Err(Misfit::ReasonLines),
     }
@@ -169,12 +159,7 @@ fn witnessing<'w>(
         return Err(Misfit::Witness);
     }
     match line_pair(lines) {
-        Some(lines) => Ok(Witnessing {
-            file,
-            form,
-            lines,
-            strict: is_strict(options),
-        }),
+        Some(lines) => Ok(Witnessing { file, form, lines }),
         None => Err(Misfit::WitnessLines),
     }
 }
