@@ -1,10 +1,10 @@
--- The tokens and the program are those of the text.
-use Rattle.std.proofs.Common.{map, sym, subst}
-use Rattle.lrc_named_tokens.specs.View.{located_of}
-use Rattle.lrc_named_tree.specs.View.{program_of}
-use Rattle.lrc_named_parse.specs.Faults.{IsNamed}
+-- The program is that of the text, or the fault its first.
+use Rattle.std.proofs.Common.{sym, subst}
+use Rattle.lrc_named_tokens.specs.View.{place_of}
+use Rattle.lrc_named.specs.Named.{IsNamedFault}
+use Rattle.lrc_named.proofs.Answering.{text_fault}
 use Rattle.lrc_named.proofs.core_text.core_of_text.Goals as goal
 
-pub of_program-requires : goal.of_program-requires
-of_program-requires c =
-    subst (λ l. IsNamed c.args.text.now (map located_of l) (program_of c.in_ok-parsed.parsed.program)) (sym c.deref.ensures.value) c.in_ok-parsed.ensures.program
+pub returns-in-Err-clause-fault : goal.returns-in-Err-clause-fault
+returns-in-Err-clause-fault c =
+    subst (IsNamedFault c.args.text.now) (sym c.from.ensures) (text_fault c.args.text.now (place_of c.in-Err.fault.place) c.in-Err.fault.kind c.in-Err.ensures.fault)
