@@ -39,15 +39,15 @@ pub fn core_of_text(alloc: Global, text: &[u8]) -> Result<CoreText, NamedFault>
         (option_map (λ nodes. nodes.count) core.nodes) core.text.items) }
     ensures fault { IfErr result (IsNamedFault text.now) }
 {
-    match parse(alloc, text) {
-        Ok(parsed) => of_parsed(alloc, text, parsed),
-        Err(fault) => Err(NamedFault::from(fault)),
-    }
+    let parsed = parse(alloc, text)?;
+    // What is declared borrows the program for as long as the text itself lives, so the tree is never given back.
+    let parsed = Box::leak(Box::new(alloc, parsed)?);
+    of_parsed(alloc, text, parsed)
 }
 
-// The core of a program that is this text.
-fn of_parsed(alloc: Global, text: &[u8], parsed: Parsed<'_>) -> Result<CoreText, NamedFault>
-    requires { IsNamed text.now (map located_of parsed.tokens.items) (program_of parsed.program) }
+// The core of what this text is parsed to.
+fn of_parsed<'p>(alloc: Global, text: &[u8], parsed: &'p Parsed<'p>) -> Result<CoreText, NamedFault>
+    requires { IsNamed text.now (map located_of parsed.now.tokens.items) (program_of parsed.now.program) }
     ensures core { IfOk result (λ core. IsCoreText text.now
         (option_map (λ nodes. nodes.count) core.nodes) core.text.items) }
     ensures fault { IfErr result (IsNamedFault text.now) }
