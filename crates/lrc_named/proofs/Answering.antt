@@ -1,5 +1,5 @@
 -- What is answered of a text.
-use Rattle.std.proofs.Common.{◌≡◌, ◌⊎◌, ◌+◌, ◌<◌, ℕ, zero, suc, List, [], ◌∷◌, ◌++◌, Option, Some, length, map, take, get_or, refl, sym, ap, subst, ◌∙◌, inl, inr, arith}
+use Rattle.std.proofs.Common.{◌≡◌, ◌⊎◌, ◌+◌, ◌<◌, ℕ, zero, suc, List, [], ◌∷◌, ◌++◌, Option, Some, length, map, take, get_or, refl, ap, subst, ◌∙◌, inl, inr, arith}
 use Rattle.std.specs.Prelude.{slice_index}
 use Rattle.lrc_lang.specs.declared.fault.FaultKind.{FaultKind as TextKind}
 use Rattle.lrc_lang.specs.declared.fault.FaultKind.TheVariants as kinds
@@ -19,7 +19,7 @@ use Rattle.lrc_named_written.specs.Written.{IsCoreLong, IsCoreOver}
 use Rattle.lrc_named_written.specs.Written as written
 use Rattle.lrc_named.specs.declared.fault.NamedFault.TheVariants.{Names, Text}
 use Rattle.lrc_named.specs.Faults.{fault_of_kind}
-use Rattle.lrc_named.specs.Lines.{line_at, lines_of}
+use Rattle.lrc_named.specs.Lines.{lines_of}
 use Rattle.lrc_named.specs.Named.{IsCoreText, IsFaultless, IsNamedFault}
 
 -- ---- the faults of the text as such, and of its names

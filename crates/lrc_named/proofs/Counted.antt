@@ -5,7 +5,6 @@ use Rattle.lrc_exec.specs.Nodes.{AreNodes}
 use Rattle.lrc_named_tree.specs.Tree.{Block, Declaration, NamedTree, constant, function, lock, node_count, shared}
 use Rattle.lrc_named_names.specs.Names.{Declared}
 use Rattle.lrc_named_constants.specs.Layout.{AreDeclared, Declares, no_declaration, one_declaration}
-use Rattle.lrc_named_expression_faults.specs.declared.fault.Fault.{Fault}
 use Rattle.lrc_named_expression_faults.specs.declared.fault.FaultKind.TheVariants.{OverLimit}
 use Rattle.lrc_named_expression_faults.specs.declared.fault.Limit.TheVariants as limits
 use Rattle.lrc_named_expression_faults.specs.Fault.{IsNone, fault_at}

@@ -1,5 +1,5 @@
 -- A text has one core.
-use Rattle.std.proofs.Common.{◌≡◌, ◌≤◌, ◌<◌, ℕ, zero, suc, codes, List, [], ◌∷◌, Option, Some, None, length, refl, sym, subst, ap, ◌∙◌, arith, inl, inr}
+use Rattle.std.proofs.Common.{◌≡◌, ◌≤◌, ℕ, zero, suc, codes, List, [], Option, Some, None, length, refl, sym, subst, ap, ◌∙◌, arith, inl, inr}
 use Rattle.lrc_lang.specs.declared.fault.FaultKind.{FaultKind as TextKind}
 use Rattle.lrc_lang.specs.declared.fault.FaultKind.TheVariants as kinds
 use Rattle.lrc_named_tokens.specs.Token.{Located, Place}

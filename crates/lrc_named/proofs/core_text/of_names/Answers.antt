@@ -1,6 +1,6 @@
 -- By what the core comes to.
 use Rattle.std.proofs.Common.{refl, ap, subst, ◌∙◌}
-use Rattle.std.specs.Prelude.{option_map, slice_index}
+use Rattle.std.specs.Prelude.{slice_index}
 use Rattle.lrc_named_tree.specs.View.{program_of}
 use Rattle.lrc_named_names.specs.View.{declared_of}
 use Rattle.lrc_named_written.specs.Written.{IsWritten}
