@@ -47,6 +47,11 @@ rank_there-is : (run : List Act) (times : List (List ℕ)) (k node word v : ℕ)
     → rank_there run times k ≡ rank_of times node k
 rank_there-is run times k node word v does = ap (λ o. record { weight = weight_of (time_at times k) + 1; node = node_of o }) does.stands
 
+-- the rank of an interval, by another name of its index
+same_rank : (knows : Knowledge) (q index other : ℕ) (rank there : Rank) → rank ≡ record { weight = (knows.interval q index).weight; node = q }
+    → index ≡ other → record { weight = (knows.interval q other).weight; node = q } ≡ there → rank ≡ there
+same_rank knows q index other rank there is same made = is ∙ ap (λ x. record { weight = (knows.interval q x).weight; node = q }) same ∙ made
+
 -- a value that is changed was written over another
 changed_from : (kept : Option ℕ) (now v : ℕ) → change_of kept now ≡ Some v → (b : ℕ) × (kept ≡ Some b) × (now ≡ v)
 changed_from None now v e = let impossible : ⊥ = cc in absurd impossible
@@ -342,12 +347,9 @@ module _ (shape : Shape) (run : List Act) (states : List State) (keeps : KeepsEx
                       let less = before_closing run k q m.at (Write word there_too.value) mine refl closing in
                       own.last k there_too.value less mine (inside_too ∙ own.inside);
                 } in
-                let moved : record { weight = (knows.interval q c.index).weight; node = q }
-                ≡ record { weight = (knows.interval q (interval_at run q f)).weight; node = q } =
-                ap (λ x. record { weight = (knows.interval q x).weight; node = q }) (sym index) in
-                let made_rank : record { weight = (knows.interval q (interval_at run q f)).weight; node = q } ≡ rank_there run (times_of states) f =
-                rank_made f q value write known in
-                let mine : rank ≡ rank_there run (times_of states) f = c.ranked ∙ moved ∙ made_rank in
+                let mine : rank ≡ rank_there run (times_of states) f =
+                same_rank knows q c.index (interval_at run q f) rank (rank_there run (times_of states) f) c.ranked (sym index)
+                (rank_made f q value write known) in
                 let fits_there = taking_fits (HappensBefore run) (AreInOneInterval run) (value_at run) (λ i k h. forward h)
                 (λ i k one. turned run word i k one) X K IsChanged IsLower learned f here
                 (known-out run word since f q value write (omega arith))
