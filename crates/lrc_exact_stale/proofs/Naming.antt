@@ -97,7 +97,7 @@ module _ (shape : Shape) (run : List Act) (states : List State) (keeps : KeepsEx
       let same = ap (λ i. entry (state_at i node).knows.time q) (let e : k + suc n ≡ k + n + 1 = omega arith in e) in
       omega arith
 
-  knew : (k j : ℕ) → k ≤ j → j ≤ length run → (q : ℕ) → entry (state_at k node).knows.time q ≤ entry (state_at j node).knows.time q
+  pub knew : (k j : ℕ) → k ≤ j → j ≤ length run → (q : ℕ) → entry (state_at k node).knows.time q ≤ entry (state_at j node).knows.time q
   knew k j le within q =
       let more = knows-more k (j - k) (omega arith) q in
       let same = ap (λ i. entry (state_at i node).knows.time q) (let e : k + (j - k) ≡ j = omega arith in e) in
@@ -233,6 +233,23 @@ module _ (shape : Shape) (run : List Act) (states : List State) (keeps : KeepsEx
 
   -- ---- act by act
 
+  module _ (j : ℕ) (within : j < length run) where
+    pub index_here : interval_at run node j ≡ entry (state_at j node).knows.time node + 1
+    index_here = interval_between timed j node (omega arith) ∙ ap (λ t. entry t node + 1) (before-time shape run states keeps node j (omega arith))
+
+    -- what was known at a release is news of others alone
+    pub released_bound : (l : ℕ) (r : State) → released_state run states l j ≡ Some r → entry r.knows.time node ≤ entry (state_at j node).knows.time node
+    released_bound l r e =
+        elim (last-cases (releases_at run l) states j) [
+          | inl (none, never) ↦ let impossible : ⊥ = cc in absurd impossible
+          | inr (q, less, passes, last, is) ↦
+              let (act, does) = act_at run q (omega arith) in
+              let open = open_at timed q j act.node act.deed node less does in
+              let time = ap (λ t. entry t node) (time-there states q r (sym is ∙ e)) in
+              let index = index_here in
+              omega arith
+        ]
+
   module _ (j : ℕ) (within : j < length run) (before : Tallies j (state_at j node)) where
     no_access : (d : Deed) → Does run j node d → ((w v : ℕ) → d ≡ Read w v → ⊥) → ((w v : ℕ) → d ≡ Write w v → ⊥)
         → AccessesPage shape run j node page → ⊥
@@ -268,25 +285,9 @@ module _ (shape : Shape) (run : List Act) (states : List State) (keeps : KeepsEx
     stays_too d does not_read not_write =
         moves j (no_access d does not_read not_write) (state_at j node) (state_at j node) refl refl refl before
 
-    index_here : interval_at run node j ≡ entry (state_at j node).knows.time node + 1
-    index_here = interval_between timed j node (omega arith) ∙ ap (λ t. entry t node + 1) (before-time shape run states keeps node j (omega arith))
-
     closed_here : (d : Deed) → Does run j node d → ((w v : ℕ) → d ≡ Read w v → ⊥) → ((w v : ℕ) → d ≡ Write w v → ⊥)
         → Tallies (j + 1) (closed node (state_at j node))
     closed_here d does not_read not_write = closes_too j (no_access d does not_read not_write) (state_at j node) before
-
-    -- what was known at a release is news of others alone
-    released_bound : (l : ℕ) (r : State) → released_state run states l j ≡ Some r → entry r.knows.time node ≤ entry (state_at j node).knows.time node
-    released_bound l r e =
-        elim (last-cases (releases_at run l) states j) [
-          | inl (none, never) ↦ let impossible : ⊥ = cc in absurd impossible
-          | inr (q, less, passes, last, is) ↦
-              let (act, does) = act_at run q (omega arith) in
-              let open = open_at timed q j act.node act.deed node less does in
-              let time = ap (λ t. entry t node) (time-there states q r (sym is ∙ e)) in
-              let index = index_here in
-              omega arith
-        ]
 
     departs_too : Does run j node Depart → Tallies (j + 1) (state_after (exact_rule shape) run states j node Depart)
     departs_too does = go (collects shape arrived)
@@ -305,7 +306,7 @@ module _ (shape : Shape) (run : List Act) (states : List State) (keeps : KeepsEx
         bound =
             let most = all_bound shape run states keeps ws waits 0 j within
             (λ i p le. always shape run states keeps ws waits 0 i p (omega arith)) node does node in
-            let index = index_here in
+            let index = index_here j within in
             omega arith
 
         learned : Tallies (j + 1) (with_learned shape.nodes (known_by_all shape.nodes shape.nodes (arrived_state run states (departs_before run node j) j))
@@ -375,7 +376,7 @@ module _ (shape : Shape) (run : List Act) (states : List State) (keeps : KeepsEx
         go None e = closed_first
         go (Some r) e =
             let rise = λ q. covers-raised (state_at j node).knows.time node (entry (state_at j node).knows.time node + 1) (omega arith) q in
-            let most = released_bound l r e in
+            let most = released_bound j within l r e in
             let own_rise = rise node in
             learns_too j within (closed node (state_at j node)) rise (tells-closed shape.nodes node (state_at j node) (tells shape run states keeps j node))
             r.knows (omega arith) closed_first
