@@ -251,7 +251,7 @@ module _ (shape : Shape) (run : List Act) (states : List State) (keeps : KeepsEx
             let s = from.state_from in
             let h = of_arrived from.node_from s from.stands in
             let lt = h.earlier in
-            let open = open_before timed (h.at + 1) j from.node_from q (omega arith) in
+            let later = open_before timed (h.at + 1) j from.node_from q (omega arith) in
             let time : time_before shape.nodes run (times_of states) from.node_from (h.at + 1) ≡ s.knows.time =
             before-time shape run states keeps from.node_from (h.at + 1) (omega arith) ∙ ap (λ (x : State). x.knows.time) h.behind in
             let entries = ap (λ t. entry t q) time in

@@ -228,9 +228,6 @@ module _ (shape : Shape) (run : List Act) (states : List State) (keeps : KeepsEx
         → Has (state_after (exact_rule shape) run states j node Depart).knows ((state_after (exact_rule shape) run states j node Depart).words word)
     departs_too does = go (collects shape (arrived_state run states (departs_before run node j) j)) refl
       where
-        arrived : ℕ → Option State
-        arrived = arrived_state run states (departs_before run node j) j
-
         bound : entry (known_by_all shape.nodes shape.nodes (arrived_state run states (departs_before run node j) j)).time node
             ≤ entry (state_at j).knows.time node
         bound =

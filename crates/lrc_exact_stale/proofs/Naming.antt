@@ -244,7 +244,7 @@ module _ (shape : Shape) (run : List Act) (states : List State) (keeps : KeepsEx
           | inl (none, never) ↦ let impossible : ⊥ = cc in absurd impossible
           | inr (q, less, passes, last, is) ↦
               let (act, does) = act_at run q (omega arith) in
-              let open = open_at timed q j act.node act.deed node less does in
+              let later = open_at timed q j act.node act.deed node less does in
               let time = ap (λ t. entry t node) (time-there states q r (sym is ∙ e)) in
               let index = index_here in
               omega arith
@@ -290,17 +290,8 @@ module _ (shape : Shape) (run : List Act) (states : List State) (keeps : KeepsEx
     closed_here d does not_read not_write = closes_too j (no_access d does not_read not_write) (state_at j node) before
 
     departs_too : Does run j node Depart → Tallies (j + 1) (state_after (exact_rule shape) run states j node Depart)
-    departs_too does = go (collects shape arrived)
+    departs_too does = go (collects shape (arrived_state run states (departs_before run node j) j))
       where
-        arrived : ℕ → Option State
-        arrived = arrived_state run states (departs_before run node j) j
-
-        all : Knowledge
-        all = known_by_all shape.nodes shape.nodes (arrived_state run states (departs_before run node j) j)
-
-        here : State
-        here = state_at j node
-
         bound : entry (known_by_all shape.nodes shape.nodes (arrived_state run states (departs_before run node j) j)).time node
             ≤ entry (state_at j node).knows.time node
         bound =
@@ -310,17 +301,17 @@ module _ (shape : Shape) (run : List Act) (states : List State) (keeps : KeepsEx
             omega arith
 
         learned : Tallies (j + 1) (with_learned shape.nodes (known_by_all shape.nodes shape.nodes (arrived_state run states (departs_before run node j) j))
-        (state_at j node))
+            (state_at j node))
         learned =
             learns_too j within (state_at j node) (λ q. omega arith) (tells shape run states keeps j node)
             (known_by_all shape.nodes shape.nodes (arrived_state run states (departs_before run node j) j)) bound
             (stays_too Depart does (λ w v e. let impossible : ⊥ = cc in impossible) (λ w v e. let impossible : ⊥ = cc in impossible))
 
         go : (b : Bool) → Tallies (j + 1) (if b
-        then collected shape (known_by_all shape.nodes shape.nodes (arrived_state run states (departs_before run node j) j))
-        (arrived_state run states (departs_before run node j) j)
-        (with_learned shape.nodes (known_by_all shape.nodes shape.nodes (arrived_state run states (departs_before run node j) j)) (state_at j node))
-        else with_learned shape.nodes (known_by_all shape.nodes shape.nodes (arrived_state run states (departs_before run node j) j)) (state_at j node))
+            then collected shape (known_by_all shape.nodes shape.nodes (arrived_state run states (departs_before run node j) j))
+            (arrived_state run states (departs_before run node j) j)
+            (with_learned shape.nodes (known_by_all shape.nodes shape.nodes (arrived_state run states (departs_before run node j) j)) (state_at j node))
+            else with_learned shape.nodes (known_by_all shape.nodes shape.nodes (arrived_state run states (departs_before run node j) j)) (state_at j node))
         go false = learned
         go true = record {
           to = λ e. absurd (false≢true e);
