@@ -1,0 +1,10 @@
+pub mod Pasts
+pub mod Knowing
+pub mod News
+pub mod Settling
+pub mod Staleness
+pub mod Stepping
+pub mod Departing
+pub mod Always
+pub mod Giving
+pub mod Calm
