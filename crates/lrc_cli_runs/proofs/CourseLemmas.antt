@@ -20,7 +20,7 @@ use Rattle.lrc_cli_runs.specs.Lines.{AreLinesIn}
 use Rattle.lrc_cli_runs.specs.Runs.{turns_in}
 use Rattle.lrc_cli_runs.specs.Shown.{IsShowFault}
 use Rattle.lrc_cli_answer.specs.declared.fault.Fault.{Fault}
-use Rattle.lrc_cli_answer.specs.declared.fault.Fault.TheVariants.{LongActs, NoAct, Text, Events, Acts, Worn, TooManyStates, NoOutcome, TooManyTurns, TooLong, Mismatch, NoMemory}
+use Rattle.lrc_cli_answer.specs.declared.fault.Fault.TheVariants.{LongActs, NoAct, Text, Names, Events, Acts, Worn, TooManyStates, NoOutcome, TooManyTurns, TooLong, Mismatch, NoMemory}
 
 -- what was found of a run's acts is known of the run
 pub course_of_run : (text : List ℕ) (program : Program) (options : RunOptions) (run : Run)
@@ -50,6 +50,7 @@ pub chart_unshown : (charting : Charting) (choice : RunChoice) (text : List ℕ)
 chart_unshown charting choice text program run course TooLong known long = (course, known, long)
 chart_unshown charting choice text program run course NoMemory known h = tt
 chart_unshown charting choice text program run course (Text line kind) known h = h
+chart_unshown charting choice text program run course (Names line kind) known h = h
 chart_unshown charting choice text program run course (Events line) known h = h
 chart_unshown charting choice text program run course (Acts line) known h = h
 chart_unshown charting choice text program run course Worn known h = h
