@@ -253,7 +253,10 @@ pub judged_ill : {form : Form} {asked : Asked} (before : Judged) (after : Naming
     → ((events : List Event) (n : ℕ) → n + 1 < 2 ^ 64 → At events n event → HasLooked events n before.finder → HasLooked events (n + 1) finder)
     → FindsIll asked after finder halt → HasHaltedOne form asked one before halt
 judged_ill {form} {asked} before after finder one event halt mentioned is small looks found said told h ill e =
-    let (strict, fault, finds, on_line, why) = subst (λ x. FindsIll asked after finder x) e found in
+    let (strict, here) = subst (λ x. FindsIll asked after finder x) e found in
+    let (fault, rest) = here in
+    let (finds, is_ill) = rest in
+    let (on_line, why) = is_ill in
     let events = h.events in
     let next = events ++ event ∷ [] in
     let position = taken-position asked.sought _ _ before.detector (h.taken []) in

@@ -501,7 +501,8 @@ module _ (before session : Session) (block left old mid : List ℕ) (i : Invaria
   pub ends_bad : (result : Result Unit Halt) → IsOneLine left → IfErr result NeverIll → IfErr result (IsTooLong session left)
       → IfErr result (IsStoppedAt before block old mid)
   ends_bad (Ok done) one never bad = tt
-  ends_bad (Err halt) one never bad form asked bytes told h = stopped_long (i form asked bytes told h.has_lines) halt one never bad
+  ends_bad (Err halt) one never bad = λ (form : Form) (asked : Asked) (bytes told : List ℕ) (h : HasRead form asked bytes told before).
+      stopped_long (i form asked bytes told h.has_lines) halt one never bad
 
   pub line_bad : (part behind new : List ℕ) (halt : Halt) → left ≡ part ++ 10 ∷ behind → IsOneLine part → new ≡ mid → IsBadLine session part halt
       → IsIllRest session part halt → IsStoppedAt before block old new halt

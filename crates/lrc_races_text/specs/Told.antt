@@ -11,7 +11,7 @@ use Rattle.lrc_races_lines.specs.Lacking.{Lacks}
 use Rattle.lrc_races_text.specs.declared.asked.Asked.{Asked}
 use Rattle.lrc_races_text.specs.declared.form.Form.{Form}
 use Rattle.lrc_races_text.specs.declared.halt.Halt.{Halt}
-use Rattle.lrc_races_text.specs.declared.halt.Halt.TheVariants.{BadEvent, IllFormed, NoMemory}
+use Rattle.lrc_races_text.specs.declared.halt.Halt.TheVariants as halts
 use Rattle.lrc_races_text.specs.Says.{Said, Say, Says, IsFirstBad, IsWhyText}
 use Rattle.lrc_races_text.specs.Ill.{IsFirstIll}
 use Rattle.lrc_races_text.specs.Naming.{Naming, IsTrace}
@@ -107,9 +107,9 @@ pub record HasIllEvent (form : Form) (asked : Asked) (bytes : List ℕ) (number 
 
 -- why no more is told of these bytes
 abbrev pub Stops : Form → Asked → List ℕ → Halt → List ℕ → Type 0
-Stops form asked bytes (BadEvent line why) told = IsBadEvent form asked bytes line told × IsReason form bytes line why.items
-Stops form asked bytes (IllFormed ill) told = HasIllEvent form asked bytes ill.line ill.why.items told
-Stops form asked bytes NoMemory told = Unit {0}
+Stops form asked bytes (halts.BadEvent line why) told = IsBadEvent form asked bytes line told × IsReason form bytes line why.items
+Stops form asked bytes (halts.IllFormed ill) told = HasIllEvent form asked bytes ill.line ill.why.items told
+Stops form asked bytes halts.NoMemory told = Unit {0}
 
 -- All that is told of a trace: behind the pairs the groups, where they are asked for, the first event that no program would give,
 -- and how many there are of all; and the status.
@@ -154,6 +154,6 @@ pub record IsIllTrace (form : Form) (asked : Asked) (bytes : List ℕ) (number :
 
 -- why no more is told of a whole trace
 abbrev pub Fails : Form → Asked → List ℕ → Halt → List ℕ → Type 0
-Fails form asked bytes (BadEvent line why) told = IsBadTrace form asked bytes line told × IsReason form bytes line why.items
-Fails form asked bytes (IllFormed ill) told = IsIllTrace form asked bytes ill.line ill.why.items told
-Fails form asked bytes NoMemory told = Unit {0}
+Fails form asked bytes (halts.BadEvent line why) told = IsBadTrace form asked bytes line told × IsReason form bytes line why.items
+Fails form asked bytes (halts.IllFormed ill) told = IsIllTrace form asked bytes ill.line ill.why.items told
+Fails form asked bytes halts.NoMemory told = Unit {0}
