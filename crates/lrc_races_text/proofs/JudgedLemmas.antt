@@ -27,7 +27,6 @@ use Rattle.lrc_races_text.specs.declared.asked.Sought.{Sought}
 use Rattle.lrc_races_text.specs.declared.asked.Sought.TheVariants.{AllRaces, SureRaces}
 use Rattle.lrc_races_text.specs.declared.form.Form.{Form}
 use Rattle.lrc_races_text.specs.declared.halt.Halt.{Halt}
-use Rattle.lrc_races_text.specs.declared.ill.Ill.{Ill}
 use Rattle.lrc_races_text.specs.declared.judged.Judged.{Judged}
 use Rattle.lrc_races_text.specs.declared.race_detector.RaceDetector.{RaceDetector}
 use Rattle.lrc_races_text.specs.declared.race_detector.RaceDetector.TheVariants.{All, Sure}
@@ -41,7 +40,7 @@ use Rattle.lrc_races_text.specs.Spelled.{name_at, variable_of, place_name, toget
 use Rattle.lrc_races_text.specs.Objects.{access_object, place_value, race_object, race_objects}
 use Rattle.lrc_races_text.specs.Layouts.{end_lines, pair_lines}
 use Rattle.lrc_races_text.specs.Told.{IsToldOf}
-use Rattle.lrc_races_text.specs.Judged.{FindsIll, FindsNone, HasHaltedOne, HasJudged, HasJudgedOne, HasToldAll, IsIllOne, IsTelling}
+use Rattle.lrc_races_text.specs.Judged.{FindsIll, FindsNone, HasHaltedOne, HasJudged, HasJudgedOne, HasToldAll, IsTelling}
 use Rattle.lrc_races_text.proofs.SoughtLemmas.{sought-push, sought-nothing, sought-told}
 use Rattle.lrc_races_text.proofs.NamingLemmas.{Keeps, KeepsAll, keeps_names, keeps_events, events_push, naming_more, nothing_named, slice_get-next}
 
@@ -205,8 +204,8 @@ module _ {form : Form} {asked : Asked} (before after : Judged) (one : Said) (eve
       let longer_by : length events + 1 ≡ length next = omega (arith, long) in
       let looked : (more : List Event) → HasLooked (next ++ more) (length next) after.finder
       = λ more. subst (λ n. HasLooked (next ++ more) n after.finder) longer_by
-          (subst (λ es. HasLooked es (length events + 1) after.finder) (sym (append_assoc events (event ∷ []) more))
-          (looks (events ++ event ∷ more) (length events) small_here (at more) (h.looked (event ∷ more)))) in
+      (subst (λ es. HasLooked es (length events + 1) after.finder) (sym (append_assoc events (event ∷ []) more))
+      (looks (events ++ event ∷ more) (length events) small_here (at more) (h.looked (event ∷ more)))) in
       let are_told = sought-push asked.sought events event h.pairs after.told.items h.are_told (both []).1 in (
         (if asked.group then [] else pair_lines asked.layout form (naming_of after.names) after.told.items),
         tells.text,
@@ -254,8 +253,7 @@ pub judged_ill : {form : Form} {asked : Asked} (before : Judged) (after : Naming
     → FindsIll asked after finder halt → HasHaltedOne form asked one before halt
 judged_ill {form} {asked} before after finder one event halt mentioned is small looks found said told h ill e =
     let (strict, here) = subst (λ x. FindsIll asked after finder x) e found in
-    let (fault, rest) = here in
-    let (finds, is_ill) = rest in
+    let (fault, finds, is_ill) = here in
     let (on_line, why) = is_ill in
     let events = h.events in
     let next = events ++ event ∷ [] in

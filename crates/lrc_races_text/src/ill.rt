@@ -46,11 +46,7 @@ pub fn ill_if_any(
 
 /// Returns the first of these events that no program would give, if there is one. They are a trace from its beginning on.
 /// It fails if memory runs out.
-pub fn first_ill(
-    alloc: Global,
-    names: &Names,
-    events: &[Event],
-) -> Result<Option<Ill>, AllocError>
+pub fn first_ill(alloc: Global, names: &Names, events: &[Event]) -> Result<Option<Ill>, AllocError>
     ensures { IfOk result (IsFirstIllOf (naming_of names.now) events.now) }
 {
     let mut finder = FaultFinder::new(alloc);

@@ -1,5 +1,6 @@
 -- What the finder has found, if anything.
 use Rattle.std.proofs.Common.{◌≡◌, ℕ, List, length, subst, arith}
+use Rattle.std.proofs.lemmas.Option.{slice_get-get_or}
 use Rattle.std.specs.Prelude.{Option, Result, Ok, Err, IfOk}
 use Rattle.lrc_races_trace.specs.declared.event.Event.{Event}
 use Rattle.lrc_races_trace.specs.declared.fault.Fault.{Fault}
@@ -18,6 +19,12 @@ first_of naming events fault (Err error) first is = tt
 
 pub loop-event-init : goal.loop-event-init
 loop-event-init c = c.new-finder.ensures c.args.events.now
+
+pub loop-event-preserved : goal.loop-event-preserved
+loop-event-preserved c =
+    let events = c.args.events.now in
+    let n = c.loop-event.event-index in
+    c.in_ok-take.ensures events n (omega arith) (record { is = slice_get-get_or events n _ c.loop-event-test.true }) c.loop-event.invariant
 
 pub returns : goal.returns
 returns c =
