@@ -7,3 +7,4 @@ pub mod Judged
 pub mod Placements
 pub mod Pairing
 pub mod Saying
+pub mod Renaming

@@ -24,7 +24,7 @@ use Rattle.lrc_races_claims.specs.contracts.places.TwoPlacesPartialEq.TheImpl.{e
 use Rattle.lrc_races_claims.specs.declared.places.Places.{Places}
 use Rattle.lrc_races_claims.specs.declared.places.TwoPlaces.{TwoPlaces}
 use Rattle.lrc_races_claims.specs.Known.{IsUnknown, IsOnlyNumber, known_names}
-use Rattle.lrc_races_claims.specs.Placed.{SomeIsBefore, ArePlaceNames, AreNumbersOf, SomeRaceAt, ArePlaces}
+use Rattle.lrc_races_claims.specs.Placed.{SomeIsBefore, ArePlaceNames, AreNumbersOf, SomeRaceAt, SomeShownAt, ArePlaces}
 use Rattle.lrc_races_claims.specs.Truth.{AccessesAt, SomeIsAt, PlacesRace}
 
 -- ---- two places in a set
@@ -117,14 +117,6 @@ module _ (naming : Naming) (names : List (List ℕ)) (pair : Pair) where
   )
 
 -- ---- the pairs so far
-
--- one of the first so many pairs has these places
-pub record SomeShownAt (naming : Naming) (names : List (List ℕ)) (shown : List Pair) (n : ℕ) (both : TwoPlaces) : Type 0 where
-  pub k : ℕ
-  pub pair : Pair
-  pub before : k < n
-  pub at : slice_get shown k ≡ Some pair
-  pub numbers : AreNumbersOf naming names pair both
 
 module _ (naming : Naming) (names : List (List ℕ)) (shown : List Pair) where
   pub shown_none : (keys : List TwoPlaces) → keys ≡ [] → (both : TwoPlaces) → Contains keys both ↔ SomeShownAt naming names shown 0 both
@@ -308,9 +300,11 @@ shown_noted naming names known shown n pair at before after same more old =
 
 pub places_done : (sought : Sought) (naming : Naming) (events : List Event) (places : Places) (start table : List (List ℕ)) (items shown : List Pair) (n : ℕ)
     → known_names places.names ≡ start → start ≡ table → ArePlaceNames naming events (length events) table → items ≡ shown → AreShown sought events shown
-    → n ≡ length items → ((both : TwoPlaces) → Contains places.pairs.keys both ↔ SomeShownAt naming start items n both) → ArePlaces sought naming events places
-places_done sought naming events places start table items shown n e f named g are end so_far = record {
+    → places.shown.items ≡ shown → n ≡ length items
+    → ((both : TwoPlaces) → Contains places.pairs.keys both ↔ SomeShownAt naming start items n both) → ArePlaces sought naming events places
+places_done sought naming events places start table items shown n e f named g are kept end so_far = record {
   names = subst (λ (l : List (List ℕ)). ArePlaceNames naming events (length events) l) (sym (e ∙ f)) named;
   pairs = subst (λ (l : List (List ℕ)). (both : TwoPlaces) → Contains places.pairs.keys both ↔ SomeRaceAt sought naming events l both) (sym e)
       (shown_all sought naming events start items places.pairs.keys n end (subst (λ (l : List Pair). AreShown sought events l) (sym g) are) so_far);
+  shown = subst (λ (l : List Pair). AreShown sought events l) (sym kept) are;
 }

@@ -7,5 +7,4 @@ pub mod Known
 pub mod Judging
 pub mod Spelled
 pub mod Placed
-pub mod Missed
 pub mod Judge

@@ -1,12 +1,12 @@
 -- The places of accesses, and which of them race.
-use Rattle.std.specs.Prelude.{◌≡◌, ◌↔◌, ℕ, ◌<◌, List, Contains, length}
+use Rattle.std.specs.Prelude.{◌≡◌, ◌↔◌, ℕ, ◌<◌, List, Some, Contains, length, slice_get}
 use Rattle.lrc_races_trace.specs.declared.event.Event.{Event}
 use Rattle.lrc_races_trace.specs.declared.event.Pair.{Pair}
 use Rattle.lrc_races_trace.specs.Trace.{At}
 use Rattle.lrc_races_text.specs.declared.asked.Sought.{Sought}
 use Rattle.lrc_races_text.specs.Naming.{Naming, Numbers}
 use Rattle.lrc_races_text.specs.Spelled.{side_place}
-use Rattle.lrc_races_locations.specs.Located.{AreRacing}
+use Rattle.lrc_races_locations.specs.Located.{AreRacing, AreShown}
 use Rattle.lrc_races_claims.specs.declared.places.Places.{Places}
 use Rattle.lrc_races_claims.specs.declared.places.TwoPlaces.{TwoPlaces}
 use Rattle.lrc_races_claims.specs.Known.{known_names}
@@ -29,6 +29,14 @@ pub record AreNumbersOf (naming : Naming) (names : List (List ℕ)) (pair : Pair
   pub earlier : Numbers names (side_place naming pair.earlier.event.location) places.earlier
   pub later : Numbers names (side_place naming pair.later.event.location) places.later
 
+-- one of the first so many pairs has these places
+pub record SomeShownAt (naming : Naming) (names : List (List ℕ)) (shown : List Pair) (n : ℕ) (both : TwoPlaces) : Type 0 where
+  pub k : ℕ
+  pub pair : Pair
+  pub before : k < n
+  pub at : slice_get shown k ≡ Some pair
+  pub numbers : AreNumbersOf naming names pair both
+
 -- some pair of accesses that race has these places
 pub record SomeRaceAt (sought : Sought) (naming : Naming) (events : List Event) (names : List (List ℕ)) (places : TwoPlaces) : Type 0 where
   pub pair : Pair
@@ -38,3 +46,4 @@ pub record SomeRaceAt (sought : Sought) (naming : Naming) (events : List Event) 
 pub record ArePlaces (sought : Sought) (naming : Naming) (events : List Event) (places : Places) : Type 0 where
   pub names : ArePlaceNames naming events (length events) (known_names places.names)
   pub pairs : (both : TwoPlaces) → Contains places.pairs.keys both ↔ SomeRaceAt sought naming events (known_names places.names) both
+  pub shown : AreShown sought events places.shown.items

@@ -5,6 +5,7 @@ pub mod access;
 pub mod asking;
 pub mod firsts;
 pub mod judge;
+pub mod judge_all;
 pub mod judging;
 pub mod known;
 pub mod naming;

@@ -41,10 +41,12 @@ pub struct Places {
     pub names: KnownNames,
     /// The places of each two accesses that race.
     pub pairs: IndexSet<TwoPlaces>,
+    /// The pairs of accesses that show them.
+    pub shown: Vec<Pair>,
 }
 
-// The name of a place.
-fn place_name(names: &Names, location: Option<u32>) -> &[u8]
+/// Returns the name of a place.
+pub fn place_name(names: &Names, location: Option<u32>) -> &[u8]
     ensures { result.now ≡ side_place (naming_of names.now) location }
 {
     match location {
@@ -83,8 +85,8 @@ fn place_names(alloc: Global, names: &Names, events: &[Event]) -> Result<Table, 
     Ok(table)
 }
 
-// Whether these are two places that race.
-fn are_there(pairs: &IndexSet<TwoPlaces>, earlier: usize, later: usize) -> bool
+/// Returns whether these two places are among the pairs.
+pub fn are_there(pairs: &IndexSet<TwoPlaces>, earlier: usize, later: usize) -> bool
     ensures { IsTrue result ↔ Contains pairs.now.keys (record { earlier = earlier; later = later }) }
 {
     match pairs.get_full(&TwoPlaces { earlier, later }) {
@@ -93,8 +95,8 @@ fn are_there(pairs: &IndexSet<TwoPlaces>, earlier: usize, later: usize) -> bool
     }
 }
 
-// Adds two places that race.
-fn add_pair(pairs: &mut IndexSet<TwoPlaces>, earlier: usize, later: usize) -> Result<(), AllocError>
+/// Adds two places to the pairs.
+pub fn add_pair(pairs: &mut IndexSet<TwoPlaces>, earlier: usize, later: usize) -> Result<(), AllocError>
     ensures { OnOk result ((places : AnyPlaces) → Contains pairs.new.keys places
         ↔ (Contains pairs.old.keys places
         ⊎ (places ≡ record { earlier = earlier; later = later }))) }
@@ -157,10 +159,12 @@ pub fn places_of(
     let mut places = Places {
         names: KnownNames::new(table),
         pairs: IndexSet::new(alloc),
+        shown: Vec::new(alloc),
     };
     for pair in shown.as_slice() {
         note_pair(&mut places, names, *pair)?;
     }
+    places.shown = shown;
     Ok(places)
 }
 
@@ -202,7 +206,7 @@ pub fn judge_locations(
         (events : List AnyEvent) (last : ℕ) → ArePlaces sought naming events places.old
         → IsJudged sought naming events last (locations place.now other.now) verdict) }
     ensures kept { OnOk result ((known_names places.new.names ≡ known_names places.old.names)
-        × (places.new.pairs ≡ places.old.pairs)) }
+        × (places.new.pairs ≡ places.old.pairs) × (places.new.shown ≡ places.old.shown)) }
 {
     let first = places.names.find(place)?;
     let second = places.names.find(other)?;

@@ -28,6 +28,6 @@ pub returns : goal.returns
 returns c =
     let items = c.as_slice-pair-items.result.now in
     let done : c.loop-pair.pair-index ≡ length items = omega arith in
-    places_done c.args.sought (naming_of c.args.names.now) c.args.events.now c.loop-pair.places (known_names c.new.result) (names_of c.in_ok-table.table) items
+    places_done c.args.sought (naming_of c.args.names.now) c.args.events.now _ (known_names c.new.result) (names_of c.in_ok-table.table) items
     c.in_ok-shown.shown.items c.loop-pair.pair-index c.loop-pair.invariant.same c.new.ensures c.in_ok-table.ensures c.as_slice-pair-items.ensures.value
-    c.in_ok-shown.ensures done c.loop-pair.invariant.pairs
+    c.in_ok-shown.ensures refl done c.loop-pair.invariant.pairs

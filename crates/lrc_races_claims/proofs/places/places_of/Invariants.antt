@@ -4,7 +4,7 @@ use Rattle.std.specs.Prelude.{◌↔◌, Contains}
 use Rattle.lrc_races_text.specs.Tables.{naming_of}
 use Rattle.lrc_races_claims.specs.Known.{known_names}
 use Rattle.lrc_races_claims.specs.declared.places.TwoPlaces.{TwoPlaces}
-use Rattle.lrc_races_claims.proofs.Pairing.{SomeShownAt}
+use Rattle.lrc_races_claims.specs.Placed.{SomeShownAt}
 use Rattle.lrc_races_claims.proofs.places.places_of.Given as goal
 
 abbrev pub invariant-loop-pair : goal.invariant-loop-pair

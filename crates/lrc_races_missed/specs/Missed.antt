@@ -1,7 +1,8 @@
 -- What the claims of a report missed.
-use Rattle.std.specs.Prelude.{◌≡◌, ℕ, ◌<◌, ◌↔◌, List, AllPairs, Contains}
+use Rattle.std.specs.Prelude.{◌≡◌, ℕ, ◌<◌, ◌↔◌, List, ◌++◌, AllPairs, Contains, length, map}
 use Rattle.lrc_races_trace.specs.declared.event.Event.{Event}
 use Rattle.lrc_races_trace.specs.declared.event.Pair.{Pair}
+use Rattle.lrc_races_trace.specs.Trace.{At, Accesses}
 use Rattle.lrc_races_trace.specs.Races.{ComesFirst, IsTold}
 use Rattle.lrc_races_sure.specs.Sure.{IsSureTold}
 use Rattle.lrc_races_text.specs.declared.asked.Sought.{Sought}
@@ -13,6 +14,8 @@ use Rattle.lrc_races_witness.specs.Relations.{IsAccessOn}
 use Rattle.lrc_races_score.specs.Claims.{Statement, event, pair, locations, variable, first, statement_of}
 use Rattle.lrc_races_score.specs.declared.report.LinedClaim.{LinedClaim}
 use Rattle.lrc_races_claims.specs.Racing.{RacesBefore, IsFirstRacing}
+use Rattle.lrc_races_missed.specs.declared.pairs.TwoLines.{TwoLines}
+use Rattle.lrc_races_missed.specs.declared.variables.Racing.{Racing}
 
 -- the report has the claim
 pub record Claims (claims : List LinedClaim) (claim : Statement) : Type 0 where
@@ -31,12 +34,28 @@ abbrev pub IsToldOf : Sought → List Event → Pair → Type 0
 IsToldOf AllRaces events told = IsTold events told
 IsToldOf SureRaces events told = IsSureTold events told
 
--- The pairs that are told, in order, but those that a claim `pair` has, in either order.
+-- no claim `pair` has the pair, in either order
+abbrev pub IsUnclaimed : List LinedClaim → Pair → Type 0
+IsUnclaimed claims told = ¬ Claims claims (pair told.earlier.event.line told.later.event.line)
+    × ¬ Claims claims (pair told.later.event.line told.earlier.event.line)
+
+-- The pairs that are told, in order, but those that are claimed.
 pub record AreMissedPairs (sought : Sought) (events : List Event) (claims : List LinedClaim) (pairs : List Pair) : Type 0 where
   pub in_order : AllPairs ComesFirst pairs
-  pub exact : (told : Pair) → Contains pairs told
-      ↔ (IsToldOf sought events told × ¬ Claims claims (pair told.earlier.event.line told.later.event.line)
-      × ¬ Claims claims (pair told.later.event.line told.earlier.event.line))
+  pub exact : (told : Pair) → Contains pairs told ↔ (IsToldOf sought events told × IsUnclaimed claims told)
+
+-- of some pairs those that are not claimed
+pub record AreUnclaimed (claims : List LinedClaim) (told pairs : List Pair) : Type 0 where
+  pub in_order : AllPairs ComesFirst pairs
+  pub exact : (pair : Pair) → Contains pairs pair ↔ (Contains told pair × IsUnclaimed claims pair)
+
+-- the lines of a pair
+abbrev pub lines_of : Pair → TwoLines
+lines_of pair = record { earlier = pair.earlier.event.line; later = pair.later.event.line }
+
+-- those of the pairs that are not claimed are added
+abbrev pub AreLinesAdded : List LinedClaim → List Pair → List TwoLines → List TwoLines → Type 0
+AreLinesAdded claims told old new = (pairs : List Pair) × AreUnclaimed claims told pairs × (new ≡ old ++ map lines_of pairs)
 
 -- both have the same two places, in either order
 pub data HaveSamePlaces (naming : Naming) (one other : Pair) : Type 0 where
@@ -55,16 +74,21 @@ pub record AreMissedLocations (sought : Sought) (naming : Naming) (events : List
       × ¬ Claims claims (locations (side_place naming shown.earlier.event.location) (side_place naming shown.later.event.location))
       × ¬ Claims claims (locations (side_place naming shown.later.event.location) (side_place naming shown.earlier.event.location)))
 
--- a variable by its number, and the line of its first access that races with an earlier one
-pub record Racing : Type 0 where
-  pub variable : ℕ
-  pub line : ℕ
-
+-- the line is that of the first access of the variable that races with an earlier one
 pub record IsRacing (sought : Sought) (events : List Event) (racing : Racing) : Type 0 where
   pub position : ℕ
   pub is : Event
   pub first : IsFirstRacing sought events racing.variable position is
   pub on : is.line ≡ racing.line
+
+-- all variables that race, by those lines
+pub record AreAllRacing (sought : Sought) (events : List Event) (all : List Racing) : Type 0 where
+  pub ascending : AllPairs (λ one other. one.line < other.line) all
+  pub exact : (racing : Racing) → Contains all racing ↔ IsRacing sought events racing
+
+-- the variables that are accessed have names
+abbrev pub AreNumbered : Naming → List Event → Type 0
+AreNumbered naming events = (k v : ℕ) (event : Event) → At events k event → Accesses event v → v < length naming.variables
 
 -- The variables that race and that no claim `variable` has, by those lines; likewise of claims `first`.
 pub record AreMissedVariables (sought : Sought) (naming : Naming) (events : List Event) (claims : List LinedClaim) (missed : List Racing) : Type 0 where
