@@ -1,12 +1,16 @@
 -- The places of accesses depend on the names of locations alone.
 use Rattle.std.proofs.Common.{◌≡◌, ℕ, List, length, refl, sym, subst, ap, ◌∙◌}
 use Rattle.std.specs.Prelude.{◌↔◌, Contains, Option, Some, None}
+use Rattle.std.specs.Prelude.{Vec}
+use Rattle.std.specs.declared.alloc.Global.{Global}
 use Rattle.lrc_races_trace.specs.declared.event.Event.{Event}
+use Rattle.lrc_races_trace.specs.declared.event.Pair.{Pair}
+use Rattle.lrc_races_locations.specs.Located.{AreShown}
 use Rattle.lrc_races_text.specs.declared.asked.Sought.{Sought}
 use Rattle.lrc_races_text.specs.Naming.{Naming, Numbers}
 use Rattle.lrc_races_text.specs.Spelled.{name_at, side_place}
 use Rattle.lrc_races_claims.specs.Known.{known_names}
-use Rattle.lrc_races_claims.specs.Placed.{SomeIsBefore, ArePlaceNames, AreNumbersOf, SomeRaceAt, ArePlaces}
+use Rattle.lrc_races_claims.specs.Placed.{SomeIsBefore, ArePlaceNames, AreNumbersOf, SomeRaceAt, ArePlaces, HasSamePlaces}
 use Rattle.lrc_races_claims.specs.declared.places.Places.{Places}
 use Rattle.lrc_races_claims.specs.declared.places.TwoPlaces.{TwoPlaces}
 
@@ -55,12 +59,12 @@ same_places sought naming other events places e are = record {
   shown = are.shown;
 }
 
--- the places are the same, with names that were looked for and are none of them
-pub kept_places : (sought : Sought) (naming : Naming) (events : List Event) (places after : Places) → known_names after.names ≡ known_names places.names
-    → after.pairs ≡ places.pairs → after.shown.items ≡ places.shown.items → ArePlaces sought naming events places → ArePlaces sought naming events after
-kept_places sought naming events places after e f g are = record {
-  names = subst (λ (names : List (List ℕ)). ArePlaceNames naming events (length events) names) (sym e) are.names;
-  pairs = λ both. subst (λ (names : List (List ℕ)). Contains after.pairs.keys both ↔ SomeRaceAt sought naming events names both) (sym e)
-      (subst (λ (pairs : _). Contains pairs.keys both ↔ SomeRaceAt sought naming events (known_names places.names) both) (sym f) (are.pairs both));
-  shown = subst (λ (shown : List _). AreShown sought events shown) (sym g) are.shown;
+pub kept_places : (sought : Sought) (naming : Naming) (events : List Event) (places after : Places) → HasSamePlaces places after
+    → ArePlaces sought naming events places → ArePlaces sought naming events after
+kept_places sought naming events places after same are = record {
+  names = subst (λ (names : List (List ℕ)). ArePlaceNames naming events (length events) names) (sym same.names) are.names;
+  pairs = λ both. subst (λ (names : List (List ℕ)). Contains after.pairs.keys both ↔ SomeRaceAt sought naming events names both) (sym same.names)
+      (subst (λ (keys : List TwoPlaces). Contains keys both ↔ SomeRaceAt sought naming events (known_names places.names) both)
+      (sym (ap (λ (set : IndexSet TwoPlaces _). set.keys) same.pairs)) (are.pairs both));
+  shown = subst (λ (shown : List Pair). AreShown sought events shown) (sym (ap (λ (v : Vec Pair Global). v.items) same.shown)) are.shown;
 }

@@ -47,3 +47,9 @@ pub record ArePlaces (sought : Sought) (naming : Naming) (events : List Event) (
   pub names : ArePlaceNames naming events (length events) (known_names places.names)
   pub pairs : (both : TwoPlaces) → Contains places.pairs.keys both ↔ SomeRaceAt sought naming events (known_names places.names) both
   pub shown : AreShown sought events places.shown.items
+
+-- they are the same, with names that were looked for and are none of them
+pub record HasSamePlaces (before after : Places) : Type 0 where
+  pub names : known_names after.names ≡ known_names before.names
+  pub pairs : after.pairs ≡ before.pairs
+  pub shown : after.shown ≡ before.shown

@@ -1,6 +1,7 @@
 // Finding names that a trace has.
 ghost use Rattle.std.specs.Prelude.{◌≡◌, IfOk, OnOk, MatchOption};
 ghost use Rattle.lrc_races_lines.specs.Table.{names_of};
+ghost use Rattle.lrc_races_text.specs.Spelled.{name_at};
 ghost use Rattle.lrc_races_claims.specs.Known.{IsUnknown, IsOnlyNumber, known_names};
 
 use crate::known::KnownNames;
@@ -28,5 +29,18 @@ impl KnownNames {
             return Ok(Some(number));
         }
         Ok(None)
+    }
+
+    /// Returns the name with this number, and no bytes if the trace has none.
+    pub fn name(&self, number: usize) -> &[u8]
+        ensures { result.now ≡ name_at (known_names self.now) number }
+    {
+        if number >= self.known {
+            return &[];
+        }
+        match self.table.name(number) {
+            Some(name) => name,
+            None => &[],
+        }
     }
 }

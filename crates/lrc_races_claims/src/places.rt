@@ -10,7 +10,7 @@ ghost use Rattle.lrc_races_text.specs.Spelled.{side_place};
 ghost use Rattle.lrc_races_text.specs.Tables.{naming_of};
 ghost use Rattle.lrc_races_score.specs.Claims.{locations};
 ghost use Rattle.lrc_races_claims.specs.Known.{IsOnlyNumber, IsUnknown, known_names};
-ghost use Rattle.lrc_races_claims.specs.Placed.{ArePlaceNames, ArePlaces, AreNumbersOf};
+ghost use Rattle.lrc_races_claims.specs.Placed.{ArePlaceNames, ArePlaces, AreNumbersOf, HasSamePlaces};
 ghost use Rattle.lrc_races_claims.specs.Truth.{IsJudged};
 ghost use Rattle.lrc_races_claims.specs.declared.places.TwoPlaces.{TwoPlaces as AnyPlaces};
 ghost use Rattle.lrc_races_claims.specs.declared.places.Places.{Places as KnownPlaces};
@@ -205,8 +205,7 @@ pub fn judge_locations(
     ensures judged { IfOk result (λ verdict. (sought : AnySought) (naming : Naming)
         (events : List AnyEvent) (last : ℕ) → ArePlaces sought naming events places.old
         → IsJudged sought naming events last (locations place.now other.now) verdict) }
-    ensures kept { OnOk result ((known_names places.new.names ≡ known_names places.old.names)
-        × (places.new.pairs ≡ places.old.pairs) × (places.new.shown ≡ places.old.shown)) }
+    ensures kept { OnOk result (HasSamePlaces places.old places.new) }
 {
     let first = places.names.find(place)?;
     let second = places.names.find(other)?;

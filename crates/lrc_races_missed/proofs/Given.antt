@@ -36,11 +36,8 @@ push_in_order S xs x all below i j d lt within =
       | inr right ↦
           let last : j ≡ length xs = omega arith in
           let i_left : i < length xs = omega arith in
-          rw (get_or_append_left xs (x ∷ []) d i i_left, get_or_push xs x d j last) (below (get_or xs i d) (i, i_left, same_there xs i d i_left))
+          rw (get_or_append_left xs (x ∷ []) d i i_left, get_or_push xs x d j last) (below (get_or xs i d) (i, i_left, get_or_default xs i (get_or xs i d) d i_left))
     ]
-  where
-    same_there : (xs : List X) (i : ℕ) (d : X) → i < length xs → get_or xs i (get_or xs i d) ≡ get_or xs i d
-    same_there xs i d lt = get_or_default xs i (get_or xs i d) d lt
 
 module _ {Y X : Type 0} (source : List Y) (R : Y → Y → Type 0) (S : X → X → Type 0) (Gives : ℕ → Y → X → Type 0) (ordered : AllPairs R source)
     (carries : (k l : ℕ) (y z : Y) (x w : X) → Gives k y x → Gives l z w → R y z → S x w) where

@@ -11,4 +11,4 @@ returns-clause-judged c = λ sought naming events last are.
     c.in_ok-first.ensures.kept c.in_ok-second.ensures.found)
 
 pub returns-clause-kept : goal.returns-clause-kept
-returns-clause-kept c = (c.in_ok-second.ensures.kept ∙ c.in_ok-first.ensures.kept, refl, refl)
+returns-clause-kept c = record { names = c.in_ok-second.ensures.kept ∙ c.in_ok-first.ensures.kept; pairs = refl; shown = refl }
