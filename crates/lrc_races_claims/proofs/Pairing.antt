@@ -173,7 +173,7 @@ shown_all sought naming events names shown keys n end are so_far both = (
 
 -- ---- what is said of two places
 
-rival_accesses : (sought : Sought) (events : List Event) (i j : ℕ) (a b : Event) → At events i a → At events j b → Rivals sought events i j
+pub rival_accesses : (sought : Sought) (events : List Event) (i j : ℕ) (a b : Event) → At events i a → At events j b → Rivals sought events i j
     → (v : ℕ) × Accesses a v × Accesses b v
 rival_accesses AllRaces events i j a b at at' race = (
   race.conflict.variable,

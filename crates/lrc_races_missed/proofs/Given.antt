@@ -19,7 +19,7 @@ pub record AreGiven {Y X : Type 0} (source : List Y) (Gives : ℕ → Y → X �
   pub in_order : AllPairs S xs
   pub exact : (x : X) → Contains xs x ↔ SomeGives source Gives n x
 
-in_source : {Y : Type 0} (source : List Y) (R : Y → Y → Type 0) → AllPairs R source → (k l : ℕ) (y z : Y) → k < l → slice_get source k ≡ Some y
+pub in_source : {Y : Type 0} (source : List Y) (R : Y → Y → Type 0) → AllPairs R source → (k l : ℕ) (y z : Y) → k < l → slice_get source k ≡ Some y
     → slice_get source l ≡ Some z → R y z
 in_source source R all k l y z lt at at' =
     let first = get_or_from_slice_get source k y y at in

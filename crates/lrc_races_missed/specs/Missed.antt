@@ -1,5 +1,5 @@
 -- What the claims of a report missed.
-use Rattle.std.specs.Prelude.{◌≡◌, ℕ, ◌<◌, ◌↔◌, List, ◌++◌, AllPairs, Contains, length, map}
+use Rattle.std.specs.Prelude.{◌≡◌, ℕ, ◌<◌, ◌↔◌, List, AllPairs, Contains, length}
 use Rattle.lrc_races_trace.specs.declared.event.Event.{Event}
 use Rattle.lrc_races_trace.specs.declared.event.Pair.{Pair}
 use Rattle.lrc_races_trace.specs.Trace.{At, Accesses}
@@ -44,18 +44,9 @@ pub record AreMissedPairs (sought : Sought) (events : List Event) (claims : List
   pub in_order : AllPairs ComesFirst pairs
   pub exact : (told : Pair) → Contains pairs told ↔ (IsToldOf sought events told × IsUnclaimed claims told)
 
--- of some pairs those that are not claimed
-pub record AreUnclaimed (claims : List LinedClaim) (told pairs : List Pair) : Type 0 where
-  pub in_order : AllPairs ComesFirst pairs
-  pub exact : (pair : Pair) → Contains pairs pair ↔ (Contains told pair × IsUnclaimed claims pair)
-
 -- the lines of a pair
 abbrev pub lines_of : Pair → TwoLines
 lines_of pair = record { earlier = pair.earlier.event.line; later = pair.later.event.line }
-
--- those of the pairs that are not claimed are added
-abbrev pub AreLinesAdded : List LinedClaim → List Pair → List TwoLines → List TwoLines → Type 0
-AreLinesAdded claims told old new = (pairs : List Pair) × AreUnclaimed claims told pairs × (new ≡ old ++ map lines_of pairs)
 
 -- both have the same two places, in either order
 pub data HaveSamePlaces (naming : Naming) (one other : Pair) : Type 0 where

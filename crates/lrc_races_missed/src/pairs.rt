@@ -1,12 +1,12 @@
 // The racing pairs that a report missed.
-ghost use Rattle.std.specs.Prelude.{◌≡◌, ◌++◌, ◌↔◌, ℕ, AllPairs, Contains, IfOk, IsTrue, List, OnOk, map};
+ghost use Rattle.std.specs.Prelude.{◌≡◌, ◌↔◌, ℕ, AllPairs, IfOk, IsTrue, List, OnOk, map};
 ghost use Rattle.lrc_races_trace.specs.declared.event.Pair.{Pair as AnyPair};
 ghost use Rattle.lrc_races_trace.specs.Races.{ComesFirst};
 ghost use Rattle.lrc_races_text.specs.declared.asked.Sought.{Sought as AnySought};
 ghost use Rattle.lrc_races_score.specs.declared.report.LinedClaim.{LinedClaim as AnyClaim};
+ghost use Rattle.lrc_races_missed.specs.Keyless.{AreLinesAdded, IsKeyless};
 ghost use Rattle.lrc_races_missed.specs.Keys.{AreKeys};
-ghost use Rattle.lrc_races_missed.specs.Missed.{AreLinesAdded, AreMissedPairs, lines_of};
-ghost use Rattle.lrc_races_missed.specs.declared.key.Key.TheVariants.{Pair as PairKey};
+ghost use Rattle.lrc_races_missed.specs.Missed.{AreMissedPairs, lines_of};
 
 use crate::key::{Key, is_among};
 use indexmap::IndexSet;
@@ -26,8 +26,7 @@ pub struct TwoLines {
 
 // Whether no claim has the pair, in either order.
 fn is_unclaimed(keys: &IndexSet<Key>, pair: TwoLines) -> bool
-    ensures { IsTrue result ↔ (¬ Contains keys.now.keys (PairKey pair.earlier pair.later)
-        × ¬ Contains keys.now.keys (PairKey pair.later pair.earlier)) }
+    ensures { IsTrue result ↔ IsKeyless keys.now.keys pair }
 {
     if is_among(keys, Key::Pair(pair.earlier, pair.later)) {
         return false;
@@ -41,9 +40,8 @@ fn note_told(
     keys: &IndexSet<Key>,
     told: &[Pair],
 ) -> Result<(), AllocError>
-    ensures { OnOk result ((claims : List AnyClaim) (variables places : List (List ℕ))
-        → AreKeys variables places claims keys.now.keys → AllPairs ComesFirst told.now
-        → AreLinesAdded claims told.now lines.old.items lines.new.items) }
+    ensures { OnOk result (AllPairs ComesFirst told.now
+        → AreLinesAdded keys.now.keys told.now lines.old.items lines.new.items) }
 {
     for pair in told {
         let both = TwoLines {

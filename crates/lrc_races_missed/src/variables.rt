@@ -1,15 +1,16 @@
 // The racing variables that a report missed.
-ghost use Rattle.std.specs.Prelude.{◌≡◌, ◌↔◌, ◌<◌, ℕ, Contains, IfOk, IsTrue, List, OnOk, length};
+ghost use Rattle.std.specs.Prelude.{◌≡◌, ◌↔◌, ℕ, IfOk, List, Some};
 ghost use Rattle.lrc_races_trace.specs.declared.event.Event.{Event as AnyEvent};
-ghost use Rattle.lrc_races_trace.specs.Trace.{Accesses, At};
 ghost use Rattle.lrc_races_text.specs.declared.asked.Sought.{Sought as AnySought};
 ghost use Rattle.lrc_races_text.specs.Naming.{Naming};
 ghost use Rattle.lrc_races_score.specs.declared.report.LinedClaim.{LinedClaim as AnyClaim};
 ghost use Rattle.lrc_races_witness.specs.Relations.{AreByLine};
+ghost use Rattle.lrc_races_claims.specs.Firsts.{line_of};
 ghost use Rattle.lrc_races_claims.specs.Judging.{AreFacts};
 ghost use Rattle.lrc_races_missed.specs.Keys.{AreKeys};
 ghost use Rattle.lrc_races_missed.specs.Missed.{AreAllRacing, AreMissedFirsts, AreMissedVariables, AreNumbered};
-ghost use Rattle.lrc_races_missed.specs.declared.key.Key.TheVariants.{First as FirstKey, Variable as VariableKey};
+ghost use Rattle.lrc_races_missed.specs.Racings.{GivesRacing};
+ghost use Rattle.lrc_races_missed.specs.declared.variables.Racing.{Racing as AnyRacing};
 
 use crate::key::{Key, is_among};
 use indexmap::IndexSet;
@@ -26,13 +27,29 @@ pub struct Racing {
     pub line: u64,
 }
 
+// The variable, if this is the line of its first access that races with an earlier one.
+fn racing_on(facts: &Facts, variable: u32, line: u64) -> Option<Racing>
+    ensures { (other : AnyRacing) → ((other.variable ≡ variable) × (other.line ≡ line)
+        × (line_of facts.now.firsts.marked variable ≡ Some line)) ↔ (result ≡ Some other) }
+{
+    match facts.firsts.marked.line(variable as usize) {
+        Some(first) => {
+            if first == line {
+                return Some(Racing { variable, line });
+            }
+            None
+        }
+        None => None,
+    }
+}
+
 // The variable whose first access that races with an earlier one is this event.
 fn racing_at(facts: &Facts, event: Event) -> Option<Racing>
+    ensures { (racing : AnyRacing) → GivesRacing facts.now event racing ↔ (result ≡ Some racing) }
 {
     match event.operation {
         Operation::Read(variable) | Operation::Write(variable) => {
-            let first = facts.firsts.marked.line(variable as usize);
-            if first == Some(event.line) { Some(Racing { variable, line: event.line }) } else { None }
+            racing_on(facts, variable, event.line)
         }
         _ => None,
     }
