@@ -4,3 +4,4 @@ mod ByLine
 mod LocationLemmas
 mod Paths
 mod SeekerLemmas
+mod ScoreLemmas
