@@ -76,9 +76,10 @@ impl Judge {
         ensures known { OnOk result (IsSome self.new.facts) }
         ensures stays { OnOk result (StaysJudge events.now self.old self.new) }
     {
-        if self.facts.is_none() {
-            self.facts = Some(Facts::new(self.alloc, self.sought, events)?);
+        if self.facts.is_some() {
+            return Ok(());
         }
+        self.facts = Some(Facts::new(self.alloc, self.sought, events)?);
         Ok(())
     }
 
@@ -87,9 +88,10 @@ impl Judge {
         ensures known { OnOk result (IsSome self.new.places) }
         ensures stays { OnOk result (StaysJudge events.now self.old self.new) }
     {
-        if self.places.is_none() {
-            self.places = Some(places_of(self.alloc, self.sought, &self.names, events)?);
+        if self.places.is_some() {
+            return Ok(());
         }
+        self.places = Some(places_of(self.alloc, self.sought, &self.names, events)?);
         Ok(())
     }
 

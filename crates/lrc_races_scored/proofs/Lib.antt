@@ -1,1 +1,2 @@
+pub mod Zipping
 pub mod TracedLemmas
