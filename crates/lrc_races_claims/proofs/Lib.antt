@@ -8,3 +8,4 @@ pub mod Placements
 pub mod Pairing
 pub mod Saying
 pub mod Renaming
+pub mod JudgeLemmas

@@ -36,7 +36,7 @@ push_in_order S xs x all below i j d lt within =
       | inr right ↦
           let last : j ≡ length xs = omega arith in
           let i_left : i < length xs = omega arith in
-          rw (get_or_append_left xs (x ∷ []) d i i_left, get_or_push xs x d j last) (below (get_or xs i d) (i, i_left, get_or_default xs i (get_or xs i d) d i_left))
+          rw (get_or_append_left xs (x ∷ []) d i i_left, get_or_push xs x d j (sym last)) (below (get_or xs i d) (i, i_left, get_or_default xs i (get_or xs i d) d i_left))
     ]
 
 module _ {Y X : Type 0} (source : List Y) (R : Y → Y → Type 0) (S : X → X → Type 0) (Gives : ℕ → Y → X → Type 0) (ordered : AllPairs R source)
