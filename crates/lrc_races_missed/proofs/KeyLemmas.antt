@@ -74,6 +74,14 @@ key_added keys after s e t = added (list_any (λ (x : Key). eq-value.it s x) key
           ],
         )
 
+pub added_some : (before after : List Key) (found : Option Key) (key : Key) → found ≡ Some key
+    → ((other : Key) → Contains after other ↔ (Contains before other ⊎ (other ≡ key)))
+    → (other : Key) → Contains after other ↔ (Contains before other ⊎ (found ≡ Some other))
+added_some before after found key e more other = (
+  λ has. elim ((more other).0 has) [ inl was ↦ inl was | inr same ↦ inr (e ∙ ap Some (sym same)) ],
+  λ either. (more other).1 (elim either [ inl was ↦ inl was | inr own ↦ inr (sym (same_Some key other (sym e ∙ own))) ]),
+)
+
 -- ---- the keys of the claims so far
 
 module _ (variables places : List (List ℕ)) (claims : List LinedClaim) where

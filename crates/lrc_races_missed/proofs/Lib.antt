@@ -1,5 +1,6 @@
 pub mod Given
 pub mod KeyLemmas
+pub mod KeyFinding
 pub mod EventLemmas
 pub mod PairLemmas
 pub mod LocationLemmas
