@@ -1,5 +1,5 @@
 -- The keys of claims, and what they say of claims.
-use Rattle.std.proofs.Common.{◌≡◌, ◌+◌, ◌==◌, ℕ, ◌<◌, ◌≤◌, List, [], ◌∷◌, ◌++◌, Bool, true, false, cond, length, inl, inr, refl, sym, subst, ap, ◌∙◌, arith}
+use Rattle.std.proofs.Common.{◌≡◌, ◌+◌, ◌==◌, ℕ, ◌<◌, ◌≤◌, List, [], ◌∷◌, ◌++◌, Bool, true, false, cond, length, get_or, inl, inr, refl, sym, subst, ap, ◌∙◌, arith}
 use Rattle.std.specs.Prelude.{◌⊎◌, ◌↔◌, Option, Some, None, Contains, nat_eq, slice_get}
 use Rattle.std.specs.List.{list_any}
 use Rattle.std.proofs.lemmas.Bool.{cases_eq, true≢false, and_parts, and_from, eqb-true, eq-eqb}
@@ -190,3 +190,14 @@ module _ (variables places : List (List ℕ)) where
       let same : n ≡ number = cc in
       let same' : l ≡ line = cc in
       ap (λ m. first m l) (one_name variables number own name (subst (λ m. Numbers variables own m) same numbers) is) ∙ ap (λ m. first name m) same'
+
+-- one claim more, whose names are looked for among the same
+pub keys_noted : (variables places variables' places' : List (List ℕ)) → variables' ≡ variables → places' ≡ places → (claims : List LinedClaim) (n : ℕ) (d : LinedClaim)
+    → n < length claims → (found : Option Key) → IsKeyFound variables' places' (statement_of (get_or claims n d).claim) found → (before after : List Key)
+    → ((key : Key) → Contains after key ↔ (Contains before key ⊎ (found ≡ Some key)))
+    → ((key : Key) → Contains before key ↔ SomeHasKey variables places claims n key)
+    → (key : Key) → Contains after key ↔ SomeHasKey variables places claims (n + 1) key
+keys_noted variables places variables' places' e f claims n d lt found is before after more old =
+    keys_more variables places claims n (get_or claims n d) (slice_get-get_or claims n d lt) found
+    (subst (λ (l : List (List ℕ)). IsKeyFound l places (statement_of (get_or claims n d).claim) found) e
+    (subst (λ (l : List (List ℕ)). IsKeyFound variables' l (statement_of (get_or claims n d).claim) found) f is)) before after more old

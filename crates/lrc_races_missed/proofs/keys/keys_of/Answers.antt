@@ -1,27 +1,23 @@
 -- One claim more, and all.
-use Rattle.std.proofs.Common.{◌≡◌, List, ℕ, length, subst, ◌∙◌, arith}
+use Rattle.std.proofs.Common.{◌≡◌, length, subst, ◌∙◌, arith}
 use Rattle.std.specs.Prelude.{◌↔◌, Contains}
-use Rattle.std.proofs.lemmas.Option.{slice_get-get_or}
 use Rattle.lrc_races_claims.specs.Known.{known_names}
-use Rattle.lrc_races_missed.specs.Keys.{IsKeyFound, SomeHasKey}
+use Rattle.lrc_races_missed.specs.Keys.{SomeHasKey}
 use Rattle.lrc_races_missed.specs.declared.key.Key.{Key}
-use Rattle.lrc_races_missed.proofs.KeyLemmas.{keys_more}
+use Rattle.lrc_races_missed.proofs.KeyLemmas.{keys_noted}
 use Rattle.lrc_races_missed.proofs.keys.keys_of.Goals as goal
 
 pub loop-lined-preserved : goal.loop-lined-preserved
 loop-lined-preserved c =
     let variables = known_names c.args.variables.now in
     let places = known_names c.args.places.now in
-    let claims = c.args.claims.now in
     let n = c.loop-lined.lined-index in
     record {
       variables = c.in_ok-key.ensures.variables ∙ c.loop-lined.invariant.variables;
       places = c.in_ok-key.ensures.places ∙ c.loop-lined.invariant.places;
-      keys = keys_more variables places claims n _ (slice_get-get_or claims n _ c.loop-lined-test.true) c.in_ok-key.key
-          (subst (λ (l : List (List ℕ)). IsKeyFound l places _ c.in_ok-key.key) c.loop-lined.invariant.variables
-          (subst (λ (l : List (List ℕ)). IsKeyFound (known_names c.loop-lined.variables) l _ c.in_ok-key.key) c.loop-lined.invariant.places
-          c.in_ok-key.ensures.key))
-          c.loop-lined.keys.keys c.add_some.new.keys.keys c.in_ok-add_some.ensures c.loop-lined.invariant.keys;
+      keys = keys_noted variables places (known_names c.loop-lined.variables) (known_names c.loop-lined.places) c.loop-lined.invariant.variables
+          c.loop-lined.invariant.places c.args.claims.now n _ c.loop-lined-test.true c.in_ok-key.key c.in_ok-key.ensures.key c.loop-lined.keys.keys
+          c.add_some.new.keys.keys c.in_ok-add_some.ensures c.loop-lined.invariant.keys;
     }
 
 pub returns-clause-keys : goal.returns-clause-keys
