@@ -11,8 +11,9 @@ ghost use Rattle.lrc_races_claims.specs.Judging.{IsFirstFound};
 ghost use Rattle.lrc_races_claims.specs.Truth.{IsJudged};
 
 use crate::asking::Asker;
-use crate::judging::{Facts, FirstRacing, first_racing};
-use crate::judging::{judge_event, judge_first, judge_pair, judge_variable};
+use crate::judging::{
+    Facts, FirstRacing, first_racing, judge_event, judge_first, judge_pair, judge_variable,
+};
 use crate::known::KnownNames;
 use crate::places::{Places, judge_locations, places_of};
 use crate::verdict::Verdict;

@@ -96,7 +96,11 @@ pub fn are_there(pairs: &IndexSet<TwoPlaces>, earlier: usize, later: usize) -> b
 }
 
 /// Adds two places to the pairs.
-pub fn add_pair(pairs: &mut IndexSet<TwoPlaces>, earlier: usize, later: usize) -> Result<(), AllocError>
+pub fn add_pair(
+    pairs: &mut IndexSet<TwoPlaces>,
+    earlier: usize,
+    later: usize,
+) -> Result<(), AllocError>
     ensures { OnOk result ((places : AnyPlaces) → Contains pairs.new.keys places
         ↔ (Contains pairs.old.keys places
         ⊎ (places ≡ record { earlier = earlier; later = later }))) }

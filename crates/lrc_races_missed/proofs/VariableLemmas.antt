@@ -162,9 +162,10 @@ free_exact : (key_of : Racing → Key) (keys : List Key) (all missed : List Raci
     → (racing : Racing) → Contains missed racing ↔ (Contains all racing × ¬ Contains keys (key_of racing))
 free_exact key_of keys all missed n end given racing = (
   λ has.
-      let some = (given.exact racing).0 has in
-      (subst (λ r. Contains all r) some.gives.same (some.k, slice_get_within all some.k some.y some.at, get_or_from_slice_get all some.k some.y some.y some.at),
-      some.gives.free),
+      let some = (given.exact racing).0 has in (
+        subst (λ r. Contains all r) some.gives.same (some.k, slice_get_within all some.k some.y some.at, get_or_from_slice_get all some.k some.y some.y some.at),
+        some.gives.free,
+      ),
   λ ((k, lt, is), free). (given.exact racing).1 (record {
     k = k;
     y = racing;
@@ -202,12 +203,15 @@ module _ (sought : Sought) (naming : Naming) (events : List Event) (claims : Lis
               let (there, free) = both.0 has in (
                 (are.exact racing).0 there,
                 λ claimed. free (key_claimed naming.variables places claims keys are_keys (variable name) (variable_key_of racing)
-                (variable_key (has_name racing there)) claimed),
+                    (variable_key (has_name racing there)) claimed),
               ),
           λ (is, free).
               let there = (are.exact racing).1 is in
-              both.1 (there, λ has. free (claimed_key naming.variables places claims keys are_keys (variable name) (variable_key_of racing)
-              (λ other key. only_variable naming.variables places name racing.variable (has_name racing there) other (variable_key_of racing) refl key) has)),
+              both.1 (
+                there,
+                λ has. free (claimed_key naming.variables places claims keys are_keys (variable name) (variable_key_of racing)
+                    (λ other key. only_variable naming.variables places name racing.variable (has_name racing there) other (variable_key_of racing) refl key) has),
+              ),
         );
   }
 
@@ -221,11 +225,14 @@ module _ (sought : Sought) (naming : Naming) (events : List Event) (claims : Lis
               let (there, free) = both.0 has in (
                 (are.exact racing).0 there,
                 λ claimed. free (key_claimed naming.variables places claims keys are_keys (first name racing.line) (first_key_of racing)
-                (first_key (has_name racing there)) claimed),
+                    (first_key (has_name racing there)) claimed),
               ),
           λ (is, free).
               let there = (are.exact racing).1 is in
-              both.1 (there, λ has. free (claimed_key naming.variables places claims keys are_keys (first name racing.line) (first_key_of racing)
-              (λ other key. only_first naming.variables places name racing.variable racing.line (has_name racing there) other (first_key_of racing) refl key) has)),
+              both.1 (
+                there,
+                λ has. free (claimed_key naming.variables places claims keys are_keys (first name racing.line) (first_key_of racing)
+                    (λ other key. only_first naming.variables places name racing.variable racing.line (has_name racing there) other (first_key_of racing) refl key) has),
+              ),
         );
   }

@@ -56,11 +56,7 @@ fn racing_at(facts: &Facts, event: Event) -> Option<Racing>
 }
 
 /// Returns the variables that race, in the order of the first accesses that do. It fails if memory runs out.
-pub fn racing_of(
-    alloc: Global,
-    events: &[Event],
-    facts: &Facts,
-) -> Result<Vec<Racing>, AllocError>
+pub fn racing_of(alloc: Global, events: &[Event], facts: &Facts) -> Result<Vec<Racing>, AllocError>
     ensures { IfOk result (λ all. (sought : AnySought) → AreByLine events.now
         → AreFacts sought events.now facts.now → AreAllRacing sought events.now all.items) }
 {

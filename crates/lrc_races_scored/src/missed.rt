@@ -152,11 +152,7 @@ fn locations_part(
 }
 
 // All variables that race.
-fn racing_all(
-    alloc: Global,
-    judge: &mut Judge,
-    events: &[Event],
-) -> Result<Vec<Racing>, AllocError>
+fn racing_all(alloc: Global, judge: &mut Judge, events: &[Event]) -> Result<Vec<Racing>, AllocError>
     ensures racing { IfOk result (λ all. (sought : AnySought) (naming : Naming) (last : ℕ)
         → AreByLine events.now → IsJudge sought naming events.now last judge.old
         → AreAllRacing sought events.now all.items) }

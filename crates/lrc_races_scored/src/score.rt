@@ -76,8 +76,20 @@ fn push_score_lines(
 {
     push_score_line(text, claims, verdicts, Sort::Events, missed.events.len())?;
     push_score_line(text, claims, verdicts, Sort::Pairs, missed.pairs.len())?;
-    push_score_line(text, claims, verdicts, Sort::Locations, missed.locations.len())?;
-    push_score_line(text, claims, verdicts, Sort::Variables, missed.variables.len())?;
+    push_score_line(
+        text,
+        claims,
+        verdicts,
+        Sort::Locations,
+        missed.locations.len(),
+    )?;
+    push_score_line(
+        text,
+        claims,
+        verdicts,
+        Sort::Variables,
+        missed.variables.len(),
+    )?;
     push_score_line(text, claims, verdicts, Sort::Firsts, missed.firsts.len())
 }
 
@@ -146,7 +158,13 @@ fn push_by(
         → HasScored sought naming events.now last claims.now text.old.items status text.new.items) }
 {
     let verdicts = judge_all(alloc, judge, events, claims)?;
-    push_judged(text, sought, &judge.names.threads, claims, verdicts.as_slice())?;
+    push_judged(
+        text,
+        sought,
+        &judge.names.threads,
+        claims,
+        verdicts.as_slice(),
+    )?;
     let missed = missed_of(alloc, sought, judge, events, claims)?;
     push_rest(text, judge, claims, verdicts.as_slice(), &missed)
 }

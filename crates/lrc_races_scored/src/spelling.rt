@@ -44,7 +44,14 @@ pub fn push_judged(
         ++ judged_lines sought (names_of threads.now) claims.now verdicts.now) }
 {
     for (place, lined) in claims.iter().enumerate() {
-        push_line(text, sought, threads, lined.line, lined.claim, verdicts[place])?;
+        push_line(
+            text,
+            sought,
+            threads,
+            lined.line,
+            lined.claim,
+            verdicts[place],
+        )?;
     }
     Ok(())
 }
@@ -99,11 +106,7 @@ fn push_places(text: &mut Vec<u8>, names: &Names, pair: Pair) -> Result<(), Allo
 }
 
 /// Adds the lines of the two places of each pair that are missed.
-pub fn push_locations(
-    text: &mut Vec<u8>,
-    names: &Names,
-    pairs: &[Pair],
-) -> Result<(), AllocError>
+pub fn push_locations(text: &mut Vec<u8>, names: &Names, pairs: &[Pair]) -> Result<(), AllocError>
     ensures { OnOk result (text.new.items
         ≡ text.old.items ++ flat_map (locations_line (naming_of names.now)) pairs.now) }
 {
@@ -146,11 +149,7 @@ pub fn push_variables(
 }
 
 // Adds the line of a variable whose first access that races is missed.
-fn push_first(
-    text: &mut Vec<u8>,
-    variables: &KnownNames,
-    racing: Racing,
-) -> Result<(), AllocError>
+fn push_first(text: &mut Vec<u8>, variables: &KnownNames, racing: Racing) -> Result<(), AllocError>
     ensures { OnOk result (text.new.items
         ≡ text.old.items ++ first_line (known_names variables.now) racing) }
 {

@@ -4,4 +4,3 @@ mod ByLine
 mod LocationLemmas
 mod Paths
 mod SeekerLemmas
-mod ScoreLemmas

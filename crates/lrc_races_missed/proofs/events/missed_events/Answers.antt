@@ -7,9 +7,6 @@ use Rattle.lrc_races_missed.proofs.events.missed_events.Goals as goal
 pub loop-position-init : goal.loop-position-init
 loop-position-init c = λ by_line. lines_none c.args.events.now c.args.marks.now c.args.keys.now.keys _ c.new-lines.ensures.items
 
-pub loop-position-preserved : goal.loop-position-preserved
-loop-position-preserved c = ?
-
 pub returns : goal.returns
 returns c =
     let done : c.loop-position.position ≡ length c.args.events.now = omega arith in

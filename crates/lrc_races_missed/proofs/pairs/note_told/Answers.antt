@@ -7,9 +7,6 @@ use Rattle.lrc_races_missed.proofs.pairs.note_told.Goals as goal
 pub loop-pair-init : goal.loop-pair-init
 loop-pair-init c = λ ordered. added_none c.args.keys.now.keys c.args.told.now c.args.lines.now.items
 
-pub loop-pair-preserved : goal.loop-pair-preserved
-loop-pair-preserved c = ?
-
 pub returns : goal.returns
 returns c =
     let done : c.loop-pair.pair-index ≡ length c.args.told.now = omega arith in

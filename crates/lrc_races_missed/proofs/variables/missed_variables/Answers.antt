@@ -7,9 +7,6 @@ use Rattle.lrc_races_missed.proofs.variables.missed_variables.Goals as goal
 pub loop-racing-init : goal.loop-racing-init
 loop-racing-init c = λ ascending. free_none variable_key_of c.args.keys.now.keys c.args.all.now _ c.new-missed.ensures.items
 
-pub loop-racing-preserved : goal.loop-racing-preserved
-loop-racing-preserved c = ?
-
 pub returns : goal.returns
 returns c =
     let done : c.loop-racing.racing-index ≡ length c.args.all.now = omega arith in

@@ -7,9 +7,6 @@ use Rattle.lrc_races_missed.proofs.variables.racing_of.Goals as goal
 pub loop-event-init : goal.loop-event-init
 loop-event-init c = λ by_line. racing_none c.args.events.now c.args.facts.now _ c.new-all.ensures.items
 
-pub loop-event-preserved : goal.loop-event-preserved
-loop-event-preserved c = ?
-
 pub returns : goal.returns
 returns c =
     let done : c.loop-event.event-index ≡ length c.args.events.now = omega arith in
