@@ -5,16 +5,17 @@ use Rattle.std.specs.Prelude.{All, option_map, slice_get, unwrap_or}
 use Rattle.std.specs.List.{range_with_len}
 use Rattle.std.specs.Option.{option_to_list}
 use Rattle.std.proofs.lemmas.List.Elements.{All-append}
-use Rattle.std.proofs.lemmas.Option.{same_Some, slice_get_cases}
+use Rattle.std.proofs.lemmas.Option.{same_Some, slice_get_past}
 use Rattle.lrc_lang.specs.declared.program.Program.{Program}
 use Rattle.lrc_trace.specs.declared.act.Act.{Act}
+use Rattle.lrc_envelope.specs.Envelope.{EnvelopeRecord}
 use Rattle.lrc_lines.specs.Seen.{walks_of}
 use Rattle.lrc_lines.specs.Statements.{numbers_of}
 use Rattle.lrc_lines.specs.Walks.{walks_behind}
 use Rattle.lrc_protocol.specs.declared.event.Event.{Event}
 use Rattle.lrc_protocol.specs.declared.event.Event.TheVariants as events
 use Rattle.lrc_protocol.specs.Node.{Node, OptionsRecord}
-use Rattle.lrc_protocol.specs.Run.{Logged, World, event_on, fresh_world, run_of}
+use Rattle.lrc_protocol.specs.Run.{Flying, Logged, World, event_on, fresh_world, run_of}
 use Rattle.lrc_protocol.specs.Turn.{TurnRecord, is_ready}
 use Rattle.lrc_replay.specs.declared.replay.Replay.{Replay}
 use Rattle.lrc_replay.specs.Replays.{IsMade, nodes_in, nodes_played}
@@ -82,6 +83,25 @@ ready_found nodes world same n t there =
     ready_by (slice_get world.nodes n) t.node
     (sym (mapped_get (λ (l : Logged). Some l.node) world.nodes n) ∙ ap (λ l. slice_get l n) (sym same)
     ∙ mapped_get (λ (x : TracedNode). x.node) nodes n ∙ ap (option_map (λ (x : TracedNode). x.node)) there)
+
+-- one that is not there is not ready
+past_none : (o : Option Logged) → None ≡ option_map (λ (l : Logged). Some l.node) o → false ≡ is_ready_if o
+past_none None is = refl
+past_none (Some l) is = cc
+
+pub ready_nowhere : (nodes : List TracedNode) (world : World) → nodes_played nodes ≡ nodes_in world → (n : ℕ) → length nodes ≤ n → false ≡ is_ready_at world n
+ready_nowhere nodes world same n past =
+    past_none (slice_get world.nodes n)
+    (sym (ap (option_map (λ (x : TracedNode). x.node)) (slice_get_past nodes n past)) ∙ sym (mapped_get (λ (x : TracedNode). x.node) nodes n)
+    ∙ ap (λ l. slice_get l n) same ∙ mapped_get (λ (l : Logged). Some l.node) world.nodes n)
+
+-- ---- messages
+
+-- none is in flight where none is kept
+pub none_fly : (kept : List EnvelopeRecord) (flight : List Flying) → kept ≡ map (λ (sent : Flying). sent.envelope) flight
+    → (kept ≡ [] → flight ≡ []) × (flight ≡ [] → kept ≡ [])
+none_fly kept [] same = (λ none. refl, λ none. same)
+none_fly kept (sent ∷ flight) same = (λ none. let never : [] ≡ sent.envelope ∷ map (λ (s : Flying). s.envelope) flight = sym none ∙ same in cc, λ none. cc)
 
 -- ---- along the order
 

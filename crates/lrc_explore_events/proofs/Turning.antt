@@ -1,6 +1,6 @@
 -- Whether the node of the order's next act is at its turn.
-use Rattle.std.proofs.Common.{◌≡◌, ◌≢◌, ◌∙◌, ◌<◌, ℕ, Bool, true, List, Some, sym, ap, subst, length, get_or, map}
-use Rattle.std.specs.Prelude.{nat_lt, slice_get, slice_index_or}
+use Rattle.std.proofs.Common.{◌≡◌, ◌≢◌, ◌∙◌, ◌<◌, ℕ, Bool, true, false, List, Option, None, Some, inr, sym, ap, subst, length, get_or, map}
+use Rattle.std.specs.Prelude.{MatchOption, if◌then◌else◌, nat_lt, option_map, position, slice_get, slice_index_or}
 use Rattle.std.proofs.lemmas.Bool.{ltb-true}
 use Rattle.std.proofs.lemmas.Option.{same_Some, slice_get-get_or}
 use Rattle.lrc_lang.specs.declared.program.Program.{Program}
@@ -13,9 +13,12 @@ use Rattle.lrc_lines.specs.Seen.{walks_of}
 use Rattle.lrc_lines.specs.Statements.{act_statements, numbers_of}
 use Rattle.lrc_lines.specs.Walks.{Walk, line_at}
 use Rattle.lrc_lines.proofs.Several.{line_found}
+use Rattle.lrc_protocol.specs.declared.event.Event.{Event}
+use Rattle.lrc_protocol.specs.declared.event.Event.TheVariants.{Deliver, Run}
 use Rattle.lrc_protocol.specs.Run.{World}
+use Rattle.lrc_along.specs.Along.{NoneDue}
 use Rattle.lrc_along.specs.Asked.{IsAsked}
-use Rattle.lrc_along.specs.Due.{IsAtTurn, ask_behind, statement_behind}
+use Rattle.lrc_along.specs.Due.{IsAtTurn, IsDue, ask_behind, envelopes_in, event_for, is_ready_at, may_come, needs_message, statement_behind}
 use Rattle.lrc_explore_events.specs.declared.player.Player.{Player}
 use Rattle.lrc_explore_events.specs.Player.{IsPlayer}
 
@@ -69,3 +72,25 @@ module _ (program : Program) (nodes : ℕ) (player : Player) (world : World) (is
       asks_otherwise never other turn =
           never (subst (λ a. IsAsked a act.deed) (sym (ask_so ∙ ask_is act.node))
           (subst (λ (a : Act). IsAsked (ask_behind program nodes world.acts a.node) a.deed) (same_act other turn) turn.asks))
+
+-- ---- the event for it
+
+module _ (world : World) (act : Act) where
+  -- a message, where one is needed
+  pub event_delivered : needs_message world act ≡ true
+      → option_map Deliver (position (may_come act.node) (envelopes_in world)) ≡ event_for world act
+  event_delivered needs =
+      sym (ap (λ (b : Bool). if b then option_map Deliver (position (may_come act.node) (envelopes_in world))
+      else (if is_ready_at world act.node then Some (Run act.node) else None)) needs)
+
+  -- or the node goes on by itself
+  pub event_alone : needs_message world act ≡ false → (if is_ready_at world act.node then Some (Run act.node) else None) ≡ event_for world act
+  event_alone needs =
+      sym (ap (λ (b : Bool). if b then option_map Deliver (position (may_come act.node) (envelopes_in world))
+      else (if is_ready_at world act.node then Some (Run act.node) else None)) needs)
+
+-- so it is due, if there is one
+pub due_so : (program : Program) (nodes : ℕ) (order : List Act) (world : World) (act : Act) → IsAtTurn program nodes order world.acts act
+    → (event : Option Event) → event ≡ event_for world act → MatchOption event (NoneDue program nodes order world) (IsDue program nodes order world)
+due_so program nodes order world act turn None is = inr (act, turn, sym is)
+due_so program nodes order world act turn (Some event) is = record { act = act; turn = turn; is = sym is }

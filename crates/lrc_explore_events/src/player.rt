@@ -166,10 +166,7 @@ impl<'c> Player<'c> {
             → IsPlayer program nodes self.now world
             → result ≡ is_ready_at world node }
     {
-        match self.replay.nodes.get(node) {
-            Some(node) => node.ready(),
-            None => false,
-        }
+        node < self.replay.nodes.len() && self.replay.nodes[node].ready()
     }
 
     // Whether its node needs a message to make the act.

@@ -2,5 +2,6 @@
 #![tactic(auto)]
 
 pub mod outcome;
+mod numbered;
 mod showing;
 pub mod told;

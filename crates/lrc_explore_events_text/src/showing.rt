@@ -54,13 +54,13 @@ pub(crate) fn order_shown(
         (option_map (λ order. order.now) order) text.items) }
 {
     match order {
-        Some(order) => acts_shown(alloc, program, nodes, order),
+        Some(order) => made_shown(alloc, program, nodes, order),
         None => Ok(Vec::new(alloc)),
     }
 }
 
 // The same, where there is an order.
-fn acts_shown(
+fn made_shown(
     alloc: Global,
     program: &Program,
     nodes: u8,
@@ -70,8 +70,23 @@ fn acts_shown(
     requires led { IsSome (plain program.now nodes order.now) }
     ensures { IfOk result (λ text. ShowsOrder program.now nodes (Some order.now) text.items) }
 {
+    let acts = acts_of(alloc, program, nodes, order)?;
+    events_shown(alloc, program, nodes, &acts)
+}
+
+/// Returns the acts that the plain machine makes in an order.
+pub(crate) fn acts_of(
+    alloc: Global,
+    program: &Program,
+    nodes: u8,
+    order: &[usize],
+) -> Result<Vec<Act>, AllocError>
+    requires nodes { AreNodes nodes }
+    requires led { IsSome (plain program.now nodes order.now) }
+    ensures { IfOk result (λ acts. plain program.now nodes order.now ≡ Some acts.items) }
+{
     match plain_run(alloc, program, nodes, order)? {
-        Some(acts) => events_shown(alloc, program, nodes, &acts),
+        Some(acts) => Ok(acts),
         None => unreachable!(),
     }
 }

@@ -9,8 +9,7 @@ ghost use Rattle.lrc_explore_text.specs.Orders.{findings_status};
 ghost use Rattle.lrc_orders.specs.Verdict.{AreFindings, EndsInRace, FindsNoRace};
 ghost use Rattle.lrc_explore_events_text.specs.Shows.{ShowsCauses, ShowsFound, ShowsLine, ShowsRace, TellsEndIf, chosen};
 
-use crate::showing::{events_shown, order_shown};
-use lrc_exec::plain::plain_run;
+use crate::showing::{acts_of, events_shown, order_shown};
 use lrc_explore::answers::{explore, findings};
 use lrc_explore_causes::told::race_told;
 use lrc_explore_ends::answers::{EndVerdict, explore_ends};
@@ -167,6 +166,8 @@ fn found_shown(
 ) -> Result<Shown, AllocError>
     requires nodes { AreNodes nodes }
     requires found { AreFindings program.now nodes found.now }
+    requires end { (ends : Bool) × TellsEndIf program.now nodes ends
+        (option_map (λ order. order.items) end.now) }
     ensures { (ends : Bool) → TellsEndIf program.now nodes ends
         (option_map (λ order. order.items) end.now)
         → IfOk result (λ shown. ShowsFound program.now nodes ends line shown.text.items
@@ -210,13 +211,9 @@ fn causes_shown(
     requires ends { EndsInRace program.now nodes order.now }
     ensures { IfOk result (λ text. ShowsCauses program.now nodes text.items) }
 {
-    match plain_run(alloc, program, nodes, order)? {
-        Some(run) => {
-            let told = race_told(alloc, program, nodes, &run)?;
-            events_shown(alloc, program, nodes, &told)
-        }
-        None => unreachable!(),
-    }
+    let run = acts_of(alloc, program, nodes, order)?;
+    let told = race_told(alloc, program, nodes, &run)?;
+    events_shown(alloc, program, nodes, &told)
 }
 
 // The order of the line that is asked for.
