@@ -3,6 +3,7 @@
 #![tactic(auto)]
 
 pub mod answer;
+mod events;
 mod explored;
 mod judged;
 mod linted;
