@@ -97,6 +97,10 @@ ready_nowhere nodes world same n past =
 
 -- ---- messages
 
+pub no_items : {X : Type 0} (xs : List X) → length xs ≡ 0 → xs ≡ []
+no_items [] none = refl
+no_items (x ∷ xs) none = absurd (omega (arith, none))
+
 -- none is in flight where none is kept
 pub none_fly : (kept : List EnvelopeRecord) (flight : List Flying) → kept ≡ map (λ (sent : Flying). sent.envelope) flight
     → (kept ≡ [] → flight ≡ []) × (flight ≡ [] → kept ≡ [])

@@ -19,7 +19,7 @@ use lrc_envelope::{Envelope, Message};
 use lrc_exec::code::Code;
 use lrc_lines::walks::Walks;
 use lrc_need::Wait;
-use lrc_node::Options;
+use lrc_node::{Options, Turn};
 use lrc_protocol::Event;
 use lrc_replay::Replay;
 use lrc_trace::act::{Act, Deed};
@@ -73,8 +73,9 @@ impl<'c> Player<'c> {
         let Some(turn) = self.replay.make(event)? else {
             return Err(AllocError);
         };
-        self.replay.post(turn.out)?;
-        self.follow(turn.act)?;
+        let Turn { act, out } = turn;
+        self.replay.post(out)?;
+        self.follow(act)?;
         self.events.push(event)?;
         Ok(())
     }

@@ -1,5 +1,6 @@
-use Rattle.std.proofs.Common.{◌≡◌, ◌∙◌, ◌++◌, Option, List, ap, rules, subst}
+use Rattle.std.proofs.Common.{◌≡◌, ◌∙◌, ◌++◌, List, Option, ap, length, rules, subst}
 use Rattle.std.specs.Option.{option_to_list}
+use Rattle.lrc_envelope.specs.Envelope.{EnvelopeRecord}
 use Rattle.lrc_trace.specs.declared.act.Act.{Act}
 use Rattle.lrc_lines.specs.Seen.{walks_of}
 use Rattle.lrc_lines.specs.Walks.{walks_behind}
@@ -13,8 +14,15 @@ pub returns-clause-played : goal.returns-clause-played
 returns-clause-played c program nodes world next is goes =
     let old = c.args.self.now in
     let turn = c.in-Some.turn in
+    let mid = c.make.new.self in
     let new : Player = record c.follow.new.self { events = c.push.new.self } in
-    let made = subst (λ (o : Option TurnRecord). IsMade world c.args.event next o c.make.new.self) c.in-Some.is (c.in_ok-turn.ensures world next is.replay goes) in
-    played_so program nodes c.args.event world next turn old new c.make.new.self is made
-    (ap (λ r. r.nodes) c.follow.ensures.replay ∙ c.in_ok-post.ensures.nodes) (ap (λ r. r.flight.items) c.follow.ensures.replay ∙ c.in_ok-post.ensures.flight)
-    c.in_ok-follow.ensures.walks c.follow.ensures.end c.in_ok-follow.ensures.acts
+    let act : c.turn.inside.act ≡ turn.act = search rules in
+    let out : c.turn.inside.out.items ≡ turn.out = search rules in
+    let made = subst (λ (o : Option TurnRecord). IsMade world c.args.event next o mid) c.in-Some.is (c.in_ok-turn.ensures world next is.replay goes) in
+    played_so program nodes c.args.event world next turn old new mid is made (ap (λ r. r.nodes) c.follow.ensures.replay ∙ c.in_ok-post.ensures.nodes)
+    (ap (λ r. r.flight.items) c.follow.ensures.replay ∙ c.in_ok-post.ensures.flight ∙ ap (λ (l : List EnvelopeRecord). mid.flight.items ++ l) out)
+    (λ lines before walked. subst (λ (o : Option Act). walks_of c.follow.new.self.walks ≡ walks_behind program nodes lines (before ++ option_to_list o)) act
+    (c.in_ok-follow.ensures.walks program nodes lines before walked))
+    c.follow.ensures.end
+    (λ before counted. subst (λ (o : Option Act). c.follow.new.self.acts ≡ length (before ++ option_to_list o)) act
+    (c.in_ok-follow.ensures.acts before counted))
