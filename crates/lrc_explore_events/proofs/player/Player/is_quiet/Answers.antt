@@ -7,8 +7,7 @@ pub returns : goal.returns
 returns c = λ program nodes world is.
     let flight = c.args.self.now.replay.flight in
     let fly = none_fly flight.items world.flight is.replay.flight in
-    let count : deque_len flight ≡ length flight.items = search rules in
-    (
+    let count : deque_len flight ≡ length flight.items = search rules in (
       λ quiet. fly.0 (no_items flight.items (sym count ∙ eqb-true (deque_len flight) 0 (sym c.is_empty.ensures ∙ quiet))),
       λ none. c.is_empty.ensures ∙ eq-eqb (deque_len flight) 0 (count ∙ ap (λ l. length l) (fly.1 none)),
     )
