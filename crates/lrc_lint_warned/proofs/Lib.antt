@@ -3,6 +3,7 @@ pub mod Derived
 pub mod Known
 pub mod Learns
 pub mod Lists
+pub mod Marks
 pub mod Standing
 pub mod Trees
 pub mod Under

@@ -11,3 +11,4 @@ pub mod Operations
 pub mod Places
 pub mod Words
 pub mod Under
+pub mod Undone

@@ -1,7 +1,7 @@
 // Locks that are held, or are not, wherever a statement is reached.
 
 ghost use Rattle.std.specs.Prelude.{◌≡◌, ◌<◌, ◌++◌, ◌∷◌, [], ◌&&◌, IfOk, OnOk, false, length, map, option_map, position, slice_index_or, true, if◌then◌else◌};
-ghost use Rattle.std.specs.List.{list_any, range_with_len};
+ghost use Rattle.std.specs.List.{range_with_len};
 ghost use Rattle.lrc_text.specs.Each.{each};
 ghost use Rattle.lrc_lang.specs.Statements.{block_of, statement_of};
 ghost use Rattle.lrc_lint_warned.specs.declared.found.Kind.TheVariants.{HeldAtBarrier};
@@ -10,11 +10,12 @@ ghost use Rattle.lrc_lint_warned.specs.Found.{found_at, statement_seen};
 ghost use Rattle.lrc_lint_warned.specs.Held.{Path, acquire_by, at_start, barrier_by, found_if, held_already, held_already_at, held_at_barrier, is_under};
 ghost use Rattle.lrc_lint_warned.specs.Held.{not_held, not_held_at, paths, paths_within, release_by, takes, undoes, with_path};
 ghost use Rattle.lrc_lint_warned.specs.Inside.{statements_in, within};
+ghost use Rattle.lrc_lint_warned.specs.Undone.{AreMarked};
 
 use crate::blocks::is_barrier;
 use crate::found::{Found, Kind, StatementAt, push_found};
-use crate::inside::{put_statement, statements_in};
 use crate::locks::{acquires, may_acquire, may_release, releases};
+use crate::undone::{Undone, mark_at, undone_in};
 use lrc_lang::program::Statement;
 use std::alloc::{AllocError, Global};
 
@@ -266,8 +267,9 @@ fn all_under(
     ensures { IfOk result (λ under. under.items
         ≡ map (is_under side lock) (paths [] (block_of block.now))) }
 {
+    let marks = undone_in(alloc, block, side, lock)?;
     let mut out = Vec::new(alloc);
-    put_block(&mut out, alloc, block, side, lock, at_start(side))?;
+    put_block(&mut out, block, side, lock, &marks, at_start(side))?;
     Ok(out)
 }
 
@@ -284,20 +286,22 @@ fn at_start(side: Side) -> bool
 #[cycle(under)]
 fn put_block(
     out: &mut Vec<bool>,
-    alloc: Global,
     block: &[Statement],
     side: Side,
     lock: u8,
+    marks: &[Undone],
     start: bool,
 ) -> Result<(), AllocError>
     ensures { (path : Path) → start ≡ is_under side lock path →
+        AreMarked side lock marks.now (length out.old.items) (statements_in (block_of block.now)) →
         OnOk result (out.new.items
         ≡ out.old.items ++ map (is_under side lock) (paths path (block_of block.now))) }
 {
     let mut under = start;
     for s in block {
-        put_paths_of(out, alloc, s, side, lock, under)?;
-        under = behind(alloc, s, side, lock, under)?;
+        let mark = mark_at(marks, out.len());
+        put_paths_of(out, s, side, lock, marks, under)?;
+        under = behind(s, side, lock, mark.whole, under);
     }
     Ok(())
 }
@@ -305,83 +309,48 @@ fn put_block(
 #[cycle(under)]
 fn put_paths_of(
     out: &mut Vec<bool>,
-    alloc: Global,
     statement: &Statement,
     side: Side,
     lock: u8,
+    marks: &[Undone],
     under: bool,
 ) -> Result<(), AllocError>
-    ensures { (path : Path) → under ≡ is_under side lock path → OnOk result (out.new.items
+    ensures { (path : Path) → under ≡ is_under side lock path →
+        AreMarked side lock marks.now (length out.old.items)
+        (statement_of statement.now ∷ within (statement_of statement.now)) →
+        OnOk result (out.new.items
         ≡ out.old.items ++ map (is_under side lock)
         (path ∷ paths_within path (statement_of statement.now))) }
 {
+    let inner = unless_undone(mark_at(marks, out.len()).first, under);
     out.push(under)?;
     match statement {
         Statement::If(_, first, second) => {
-            put_block(out, alloc, first, side, lock, under)?;
-            let beside = kept(alloc, first, side, lock, under)?;
-            put_block(out, alloc, second, side, lock, beside)
+            put_block(out, first, side, lock, marks, under)?;
+            put_block(out, second, side, lock, marks, inner)
         }
-        Statement::While(_, inside) => {
-            let inner = kept(alloc, inside, side, lock, under)?;
-            put_block(out, alloc, inside, side, lock, inner)
-        }
+        Statement::While(_, inside) => put_block(out, inside, side, lock, marks, inner),
         _ => Ok(()),
     }
 }
 
 // Whether what stands behind a statement stands under an acquire, or a release, where the statement does or does not.
-fn behind(
-    alloc: Global,
-    statement: &Statement,
-    side: Side,
-    lock: u8,
-    under: bool,
-) -> Result<bool, AllocError>
-    ensures { let s = statement_of statement.now in
-        IfOk result (λ holds. holds
-        ≡ (if takes side lock s then true else
-        (if list_any (undoes side lock) (s ∷ within s) then false else under))) }
+fn behind(statement: &Statement, side: Side, lock: u8, undone: bool, under: bool) -> bool
+    ensures { result ≡ (if takes side lock (statement_of statement.now) then true else
+        (if undone then false else under)) }
 {
     if takes(statement, side, lock) {
-        return Ok(true);
+        true
+    } else {
+        unless_undone(undone, under)
     }
-    let mut all = Vec::new(alloc);
-    put_statement(&mut all, statement)?;
-    Ok(unless_undone(&all, side, lock, under))
 }
 
 // The same of what stands beside a block, or in it.
-fn kept(
-    alloc: Global,
-    block: &[Statement],
-    side: Side,
-    lock: u8,
-    under: bool,
-) -> Result<bool, AllocError>
-    ensures { IfOk result (λ holds. holds
-        ≡ (if list_any (undoes side lock)
-        (statements_in (block_of block.now)) then false else under)) }
+fn unless_undone(undone: bool, under: bool) -> bool
+    ensures { result ≡ (if undone then false else under) }
 {
-    let all = statements_in(alloc, block)?;
-    Ok(unless_undone(&all, side, lock, under))
-}
-
-fn unless_undone(statements: &[&Statement], side: Side, lock: u8, under: bool) -> bool
-    ensures { result ≡ (if list_any (undoes side lock)
-        (map (λ s. statement_of s.now) statements.now) then false else under) }
-{
-    if some_undoes(statements, side, lock) {
-        false
-    } else {
-        under
-    }
-}
-
-fn some_undoes(statements: &[&Statement], side: Side, lock: u8) -> bool
-    ensures { result ≡ list_any (undoes side lock) (map (λ s. statement_of s.now) statements.now) }
-{
-    statements.iter().any(|s| undoes(s, side, lock))
+    !undone && under
 }
 
 fn takes(statement: &Statement, side: Side, lock: u8) -> bool
@@ -393,7 +362,8 @@ fn takes(statement: &Statement, side: Side, lock: u8) -> bool
     }
 }
 
-fn undoes(statement: &Statement, side: Side, lock: u8) -> bool
+/// Returns whether a statement undoes an acquire, or a release, of this lock.
+pub(crate) fn undoes(statement: &Statement, side: Side, lock: u8) -> bool
     ensures { result ≡ undoes side lock (statement_of statement.now) }
 {
     match side {

@@ -13,4 +13,5 @@ pub mod locks;
 pub mod names;
 pub mod operations;
 pub mod places;
+mod undone;
 pub mod words;
