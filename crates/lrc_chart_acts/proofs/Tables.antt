@@ -1,6 +1,6 @@
 -- Arrows by the table of what happens before what.
-use Rattle.std.proofs.Common.{◌≡◌, ◌∙◌, ◌<◌, ◌≤◌, ◌↔◌, ◌⊎◌, ◌==◌, ◌&&◌, ◌||◌, ℕ, zero, suc, ap, arith, eqb-true, get_or, inl, inr, length, refl, subst, sym, List, Bool, true, false, cond}
-use Rattle.std.proofs.lemmas.Bool.{cases_order, eq-eqb, false_from_ne_true, lt-ltb, ltb-true, ne_eqb, true≢false}
+use Rattle.std.proofs.Common.{◌≡◌, ◌∙◌, ◌<◌, ◌≤◌, ◌↔◌, ◌⊎◌, ◌==◌, ◌&&◌, ◌||◌, ◌+◌, ℕ, zero, suc, add-one, ap, arith, eqb-true, get_or, inl, inr, length, refl, subst, sym, List, Bool, true, false, cond}
+use Rattle.std.proofs.lemmas.Bool.{and_parts, cases_lt, cases_order, eq-eqb, false_from_ne_true, le-ltb, lt-ltb, ltb-true, ne_eqb, true≢false}
 use Rattle.std.specs.Prelude.{Some, None, IsTrue, nat_lt, not, slice_get}
 use Rattle.std.proofs.lemmas.List.{get_or_past}
 use Rattle.std.proofs.lemmas.Option.{get_or_from_slice_get, slice_get_cases}
@@ -10,7 +10,7 @@ use Rattle.lrc_trace.specs.declared.act.Deed.TheVariants.{Acquire, Arrive, Depar
 use Rattle.lrc_trace.specs.Run.{Does, act_of}
 use Rattle.lrc_trace.proofs.HappensBefore.{forward}
 use Rattle.lrc_acts_text.specs.Acts.{act_at}
-use Rattle.lrc_judge.specs.Order.{IsOrderOf, is_before}
+use Rattle.lrc_judge.specs.Order.{IsOrderOf, is_before, is_reached}
 use Rattle.lrc_judge.specs.declared.order.Order.{Order}
 use Rattle.lrc_chart_acts.specs.Direct.{IsDirect, acquired_lock, direct_lock, goes_over, lock_between, lock_unless, passed_lock}
 
@@ -37,6 +37,20 @@ module _ (order : Order) (i j : ℕ) where
   or_true true = refl
   or_true false = refl
 
+  -- no act up to the earlier one follows it
+  pub none_before : (m : ℕ) → m ≤ i → goes_over order i j m ≡ false
+  none_before zero inside = refl
+  none_before (suc m) inside =
+      let late : nat_lt i m ≡ false = le-ltb i m (omega (arith, inside)) in
+      let lower : goes_over order i j m ≡ false = none_before m (omega (arith, inside)) in
+      ap (λ (b : Bool). ((b && is_reached i (slice_get order.rows.items i) (slice_get order.rows.items m)) && is_before order m j) || goes_over order i j m) late
+      ∙ lower
+
+  -- one act more that is not between
+  pub none_more : (m : ℕ) → goes_over order i j m ≡ false → false ≡ (is_before order i m && is_before order m j) → goes_over order i j (m + 1) ≡ false
+  none_more m before is =
+      subst (λ n. goes_over order i j n ≡ false) (sym (add-one m)) (ap (λ (b : Bool). b || goes_over order i j m) (sym is) ∙ before)
+
   kept : (m k : ℕ) → k < m → Between k → goes_over order i j m ≡ true
   kept zero k inside is = absurd (omega (arith, inside))
   kept (suc m) k inside is = by (λ less. kept m k less is) (cases_order k m)
@@ -49,6 +63,18 @@ module _ (order : Order) (i j : ℕ) where
       by lower (inr (inl less)) =
           ap (λ b. (is_before order i m && is_before order m j) || b) (lower less) ∙ or_true (is_before order i m && is_before order m j)
       by lower (inr (inr more)) = absurd (omega (arith, inside, more))
+
+  -- an act that is between
+  pub some_here : (m k : ℕ) → k < m → true ≡ (is_before order i k && is_before order k j) → true ≡ goes_over order i j m
+  some_here m k inside is = sym (kept m k inside (and_parts (is_before order i k) (is_before order k j) (sym is)))
+
+  -- once all acts up to the later one are passed
+  pub none_all : (k : ℕ) → goes_over order i j k ≡ false → j ≤ k → (i ≤ j → k ≤ j) → false ≡ goes_over order i j j
+  none_all k is past end =
+      elim (cases_lt j i) [
+        | inl less ↦ sym (none_before j (omega (arith, less)))
+        | inr le ↦ let low = end le in let same : k ≡ j = omega (arith, past, low) in sym (subst (λ n. goes_over order i j n ≡ false) same is)
+      ]
 
 -- ---- the lock that goes from one act to another
 

@@ -1,7 +1,8 @@
 // Releases and acquires that nothing but the two themselves orders.
 
-ghost use Rattle.std.specs.Prelude.{◌≡◌, ◌||◌, ◌++◌, IfOk, OnOk, map, nat_lt, not, take};
+ghost use Rattle.std.specs.Prelude.{◌≡◌, ◌&&◌, ◌||◌, ◌++◌, IfOk, OnOk, map, nat_lt, not, take};
 ghost use Rattle.std.specs.Prelude.{codes, decimal};
+ghost use Rattle.lrc_judge.specs.Order.{is_before};
 ghost use Rattle.lrc_text.specs.Each.{each};
 ghost use Rattle.lrc_chart_build.specs.Seen.{seen_arrow};
 ghost use Rattle.lrc_chart_acts.specs.Direct.{acquired_lock, arrow_between, arrow_hint, arrow_if, arrow_of, arrows_to, direct_arrows};
@@ -15,17 +16,23 @@ use lrc_text::push_number;
 use lrc_trace::act::{Act, Deed};
 use std::alloc::{AllocError, Global};
 
+// Whether the act at k follows the one at the earlier position and comes before the one at the later.
+fn is_between(order: &Order, earlier: usize, k: usize, later: usize) -> bool
+    ensures { result ≡ (is_before order.now earlier k && is_before order.now k later) }
+{
+    order.is_before(earlier, k) && order.is_before(k, later)
+}
+
 // Whether some act follows the one at the earlier position and comes before the one at the later.
 fn goes_over(order: &Order, earlier: usize, later: usize) -> bool
     ensures { result ≡ goes_over order.now earlier later later }
 {
-    let mut is_over = false;
-    for k in 0..later {
-        if order.is_before(earlier, k) && order.is_before(k, later) {
-            is_over = true;
+    for k in earlier..later {
+        if is_between(order, earlier, k, later) {
+            return true;
         }
     }
-    is_over
+    false
 }
 
 fn acquired_lock(lock: u8, later: Deed) -> Option<u8>
