@@ -7,7 +7,8 @@ use Rattle.lrc_named_core.specs.declared.tree.Expression as code_expression
 use Rattle.lrc_named_core.specs.declared.tree.Statement as code_statement
 use Rattle.lrc_named_core.specs.declared.tree.Statement.{Assign, Read, Write, Acquire, Release, Barrier, Print, If', While'}
 use Rattle.lrc_named_core.specs.declared.tree.Statement.{Row_of-Statement, end_of-Statement, more_of-Statement}
-use Rattle.lrc_named_core.specs.Shape.{private_of, tree_of}
+use Rattle.lrc_named_core.specs.Shape.{tree_of}
+pub use Rattle.lrc_named_core.specs.Shape.{private_of}
 use Rattle.lrc_named_core.specs.Tree as tree
 use Rattle.lrc_named_core.specs.Tree.{plain, assertion, index, Origin, Block, empty, next}
 
