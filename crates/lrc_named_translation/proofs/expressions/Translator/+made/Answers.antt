@@ -160,9 +160,12 @@ pub made-returns-in-Value : goal.made-returns-in-Value
 made-returns-in-Value t c =
     let declared = declared_of c.args.self.now.names.now in
     let known = map known_of c.args.with.known.now in
-    made_value declared (origin_of c.args.self.now.origin) known (map expression_of c.args.with.cores.now) (trees.expression_of c.args.expression.now)
-    c.in-Value.v c.args.taken.now c.args.before.now.items
-    (subst (λ w. IsConstancy declared known (trees.expression_of c.args.expression.now) w) c.in-Value.is c.in_ok-constancy.ensures)
+    let at = origin_of c.args.self.now.origin in
+    let cores = map expression_of c.args.with.cores.now in
+    let e = trees.expression_of c.args.expression.now in
+    let old = c.args.before.now.items in
+    subst (λ p. IsAdded (λ b. IsMade declared at known cores e c.args.taken.now b p c.args.taken.now) old old) (sym c.number.ensures)
+    (made_value declared at known cores e c.in-Value.v c.args.taken.now old (subst (λ w. IsConstancy declared known e w) c.in-Value.is c.in_ok-constancy.ensures))
 
 pub call-returns : goal.call-returns
 call-returns t c =
