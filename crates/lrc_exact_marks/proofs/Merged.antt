@@ -1,6 +1,6 @@
 -- Changes that are learned in parts make of a word what they make of it one by one, by rising rank.
 use Rattle.std.proofs.Common.{◌≡◌, ℕ, zero, suc, ◌⊎◌, true, false, List, [], ◌∷◌, inl, inr, refl, sym, subst, ap, ◌∙◌, arith}
-use Rattle.std.specs.Prelude.{Some, None, fold, Contains, AllPairs}
+use Rattle.std.specs.Prelude.{◌↔◌, Some, None, Contains, AllPairs}
 use Rattle.std.proofs.lemmas.Bool.{true≢false, both_ways}
 use Rattle.lrc_exact.specs.Memory.{Rank, Word, is_lower, replaces}
 use Rattle.lrc_exact.specs.Rule.{with_news}
@@ -32,7 +32,7 @@ pairs_rest R x xs pairs = λ i j d less within. pairs (suc i) (suc j) d (omega a
 
 -- ---- one by one
 
-abbrev IsRising : Change → Change → Type 0
+abbrev pub IsRising : Change → Change → Type 0
 IsRising a b = is_lower a.rank b.rank ≡ true
 
 -- the highest of rising changes is the last
@@ -55,6 +55,20 @@ put_highest (c ∷ d ∷ changes) now top rising is_in least =
           put_highest (d ∷ changes) (record { value = c.value; mark = Some c.rank }) top (pairs_rest IsRising c (d ∷ changes) rising) there
           (λ other deeper. least other (later_in c (d ∷ changes) other deeper))
     ]
+
+-- a word without a mark that has taken the highest of some changes has what it has if all are put in place one by one, by rising rank
+pub highest_is_put : (Changes : Rank → ℕ → Type 0) (changes : List Change) (now after : Word) → now.mark ≡ None → AllPairs IsRising changes
+    → ((change : Change) → Contains changes change ↔ Changes change.rank change.value) → TakesHighest Changes now after → after ≡ put changes now
+highest_is_put Changes changes now after unmarked rising same (unchanged is none) =
+    is ∙ none_left changes (λ c there.
+    true≢false (ap (replaces c.rank) (sym unmarked) ∙ none c.rank c.value ((same c).0 there)))
+  where
+    none_left : (cs : List Change) → ((c : Change) → Contains cs c → ⊥) → now ≡ put cs now
+    none_left [] nothing = refl
+    none_left (c ∷ cs) nothing = absurd (nothing c (first_in c cs))
+highest_is_put Changes changes now after unmarked rising same (taken rank value change above is least) =
+    let top : Change = record { rank = rank; value = value } in
+    is ∙ sym (put_highest changes now top rising ((same top).1 change) (λ other there. least other.rank other.value ((same other).0 there)))
 
 -- ---- by parts
 
@@ -85,18 +99,5 @@ highest nodes word (p ∷ parts) now =
 
 pub learned_is_merged : (nodes word : ℕ) (parts : List Part) (changes : List Change) (now : Word) → now.mark ≡ None
     → AreMerged nodes word parts changes → learned nodes word parts now ≡ put changes now
-learned_is_merged nodes word parts changes now unmarked merged = go (highest nodes word parts now)
-  where
-    none_left : (cs : List Change) → ((c : Change) → Contains cs c → ⊥) → now ≡ put cs now
-    none_left [] none = refl
-    none_left (c ∷ cs) none = absurd (none c (first_in c cs))
-
-    go : TakesHighest (InParts nodes word parts) now (learned nodes word parts now) → learned nodes word parts now ≡ put changes now
-    go (unchanged is none) =
-        is ∙ none_left changes (λ c there.
-        let in_parts = (merged.same c).0 there in
-        true≢false (ap (replaces c.rank) (sym unmarked) ∙ none c.rank c.value in_parts))
-    go (taken rank value change above is least) =
-        let top : Change = record { rank = rank; value = value } in
-        is ∙ sym (put_highest changes now top merged.rising ((merged.same top).1 change) (λ other there.
-        least other.rank other.value ((merged.same other).0 there)))
+learned_is_merged nodes word parts changes now unmarked merged =
+    highest_is_put (InParts nodes word parts) changes now (learned nodes word parts now) unmarked merged.rising merged.same (highest nodes word parts now)

@@ -20,6 +20,7 @@ use Rattle.lrc_clock.specs.Times.{time_at, time_before, acts_at, arrives_at}
 use Rattle.lrc_clock.specs.Keeping.{KeepsTime, leaves_time}
 use Rattle.lrc_clock.proofs.Passing.{acts_at-true, acts_at-act, arrives_at-true, arrives_at-act}
 use Rattle.lrc_clock.proofs.Ordering.{closed_once}
+use Rattle.lrc_clock.proofs.Present.{open_before}
 use Rattle.lrc_exact.specs.LocalRule.{last_state, state_before, arrived_state, arrives_there, state_after}
 use Rattle.lrc_exact.specs.Memory.{Interval, Word}
 use Rattle.lrc_exact.specs.Rule.{Shape, Knowledge, State, exact_rule, KeepsExact, page_of, open_interval, closed, known_together, with_news, with_learned}
@@ -240,6 +241,24 @@ module _ (shape : Shape) (run : List Act) (states : List State) (keeps : KeepsEx
       covers-trans all.time s.knows.time (time_at (times_of states) k) (all-above shape.nodes from.node_from s (below from.node_from s h) from.stands)
       (low_arrived from.node_from s h k q e there still from.known)
 
+  -- of a node nobody knew more than it has closed
+  pub all_bound : (q : ℕ) → entry all.time q < interval_at run q j
+  all_bound q =
+      elim (cases_lt (entry all.time q) (interval_at run q j)) [
+        | inl less ↦ less
+        | inr most ↦
+            let from = all-from shape.nodes q (entry all.time q) (omega arith) (omega arith) in
+            let s = from.state_from in
+            let h = of_arrived from.node_from s from.stands in
+            let lt = h.earlier in
+            let later = open_before timed (h.at + 1) j from.node_from q (omega arith) in
+            let time : time_before shape.nodes run (times_of states) from.node_from (h.at + 1) ≡ s.knows.time =
+            before-time shape run states keeps from.node_from (h.at + 1) (omega arith) ∙ ap (λ (x : State). x.knows.time) h.behind in
+            let entries = ap (λ t. entry t q) time in
+            let known = from.known in
+            absurd (omega arith)
+      ]
+
   -- what one knows together with it
   made_together : (mine : Knowledge) → AreMadeBefore shape run states keeps ws waits j mine
       → AreMadeBefore shape run states keeps ws waits j (known_together mine all)
@@ -313,7 +332,7 @@ module _ (shape : Shape) (run : List Act) (states : List State) (keeps : KeepsEx
   pub nothing_kept : here.before word ≡ None
   nothing_kept = let (s, stands, same, none) = own_arrival in none
 
-  above_own : Covers all.time here.knows.time
+  pub above_own : Covers all.time here.knows.time
   above_own =
       let (s, stands, same, none) = own_arrival in
       subst (λ (x : State). Covers all.time x.knows.time) (sym same) (all-above shape.nodes node s (keeps.in_range j node Depart does) stands)

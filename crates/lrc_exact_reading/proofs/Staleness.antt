@@ -64,7 +64,7 @@ pub record IsNamedNews (nodes : ℕ) (had : List ℕ) (news : Knowledge) (page :
   pub among : node < nodes
   pub by : IsNamedBy (news.interval node) page (entry had node) (entry news.time node)
 
-named_news : (nodes : ℕ) (had : List ℕ) (news : Knowledge) (page : ℕ) → is_named nodes had news page ≡ true → IsNamedNews nodes had news page
+pub named_news : (nodes : ℕ) (had : List ℕ) (news : Knowledge) (page : ℕ) → is_named nodes had news page ≡ true → IsNamedNews nodes had news page
 named_news zero had news page e = absurd (false≢true e)
 named_news (suc node) had news page e =
     go (λ h. named_news node had news page h) (names_between (news.interval node) page (entry had node) (entry news.time node)) refl e
@@ -124,7 +124,7 @@ tells-accessed shape page s t = record {
     still true c e = let impossible : ⊥ = cc in absurd impossible
     still false c e = e
 
-tells-closed : (nodes node : ℕ) (s : State) → Tells nodes s → Tells nodes (closed node s)
+pub tells-closed : (nodes node : ℕ) (s : State) → Tells nodes s → Tells nodes (closed node s)
 tells-closed nodes node s t = record {
   above = covers-trans (raised s.knows.time node) s.knows.time s.dropped (rise) t.above;
   stale = λ page e.
