@@ -204,6 +204,7 @@ pub record IsRacing (rows : List Row) (racing : Racing) : Type 0 where
   pub asked : IsQuestion rows (Told racing.grouping)
   pub sure : IsFlag (codes "sure") racing.sure rows
   pub json : IsFlag (codes "json") racing.json rows
+  pub strict : IsFlag (codes "strict") racing.strict rows
 
 -- Of which two lines it is asked how their events are ordered.
 pub record IsReasoning (rows : List Row) (reasoning : Reasoning) : Type 0 where
@@ -214,6 +215,7 @@ pub record IsReasoning (rows : List Row) (reasoning : Reasoning) : Type 0 where
   pub lines : AreLines (texts_of texts) reasoning.lines
   pub sure : IsFlag (codes "sure") false rows
   pub json : IsFlag (codes "json") false rows
+  pub strict : IsFlag (codes "strict") reasoning.strict rows
 
 -- Of which two lines it is asked whether they are a sure race. The trace may be read twice, so it is a file.
 pub record IsWitnessing (rows : List Row) (witnessing : Witnessing) : Type 0 where
@@ -225,6 +227,7 @@ pub record IsWitnessing (rows : List Row) (witnessing : Witnessing) : Type 0 whe
   pub lines : AreLines (texts_of texts) witnessing.lines
   pub sure : IsFlag (codes "sure") false rows
   pub json : IsFlag (codes "json") false rows
+  pub strict : IsFlag (codes "strict") witnessing.strict rows
 
 -- what the command that clap found asks for, with its matches
 abbrev pub IsRequest : Text × List Row → Request → Type 0

@@ -187,6 +187,7 @@ pub record IsRacesTaken (rows : List Row) : Type 0 where
   pub locations : IsFlagOption (codes "locations") rows
   pub sure : IsFlagOption (codes "sure") rows
   pub json : IsFlagOption (codes "json") rows
+  pub strict : IsFlagOption (codes "strict") rows
 
 -- of `why`: a FILE need not be there
 pub record IsWhyTaken (rows : List Row) : Type 0 where

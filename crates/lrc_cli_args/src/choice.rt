@@ -252,6 +252,8 @@ pub struct Racing<'w> {
     pub sure: bool,
     /// Whether each line is a JSON object.
     pub json: bool,
+    /// Whether the first event that no program would give is a fault.
+    pub strict: bool,
 }
 
 /// The numbers of two lines of a trace, counted from 1, the lesser one first.
@@ -271,6 +273,8 @@ pub struct Witnessing<'w> {
     pub form: TraceForm,
     /// The lines of the two accesses.
     pub lines: LinePair,
+    /// Whether the first event that no program would give is a fault.
+    pub strict: bool,
 }
 
 /// The options of the command `races` if it is asked how two events of a trace are ordered.
@@ -281,6 +285,8 @@ pub struct Reasoning<'w> {
     pub form: TraceForm,
     /// The lines of the two events.
     pub lines: LinePair,
+    /// Whether the first event that no program would give is a fault.
+    pub strict: bool,
 }
 
 /// A text of acts for the command `why`. The acts may come from any system.

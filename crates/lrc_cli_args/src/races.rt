@@ -99,6 +99,14 @@ fn grouping_of(options: &ArgMatches<'_>) -> Result<Grouping, Misfit>
     }
 }
 
+// Whether the first event that no program would give is a fault.
+fn is_strict(options: &ArgMatches<'_>) -> bool
+    requires { IsRacesTaken (rows_of (found_of options.now)) }
+    ensures { IsFlag (codes "strict") result (rows_of (found_of options.now)) }
+{
+    is_named(options, "strict")
+}
+
 // What is asked where races are told.
 fn racing<'w>(options: &ArgMatches<'w>, form: TraceForm, grouping: Grouping) -> Racing<'w>
     requires taken { IsRacesTaken (rows_of (found_of options.now)) }
@@ -112,6 +120,7 @@ fn racing<'w>(options: &ArgMatches<'w>, form: TraceForm, grouping: Grouping) -> 
         grouping,
         sure: is_named(options, "sure"),
         json: is_named(options, "json"),
+        strict: is_strict(options),
     }
 }
 
@@ -136,6 +145,7 @@ fn reasoning<'w>(
             file: text_of(options, "FILE"),
             form,
             lines,
+            strict: is_strict(options),
         }),
         None => Err(Misfit::ReasonLines),
     }
@@ -159,7 +169,12 @@ fn witnessing<'w>(
         return Err(Misfit::Witness);
     }
     match line_pair(lines) {
-        Some(lines) => Ok(Witnessing { file, form, lines }),
+        Some(lines) => Ok(Witnessing {
+            file,
+            form,
+            lines,
+            strict: is_strict(options),
+        }),
         None => Err(Misfit::WitnessLines),
     }
 }

@@ -130,6 +130,8 @@ const SURE_HELP: &str =
 
 const JSON_HELP: &str = "Prints each line as a JSON object";
 
+const STRICT_HELP: &str = "Takes the first event that no program would give for a fault";
+
 const REASONS_HELP: &str =
     "Says step by step how the events at lines I and J are ordered, or that they race. I is less than J; not with `--sure` or `--json`";
 
@@ -474,6 +476,7 @@ fn races_command<'w>(alloc: Global) -> Result<Command<'w>, AllocError>
     let command = taking(command, flag_option(alloc, "locations", LOCATIONS_HELP));
     let command = taking(command, flag_option(alloc, "sure", SURE_HELP));
     let command = taking(command, flag_option(alloc, "json", JSON_HELP));
+    let command = taking(command, flag_option(alloc, "strict", STRICT_HELP));
     let command = taking(command, line_pair(alloc, "why", REASONS_HELP));
     taking(command, line_pair(alloc, "witness", WITNESS_HELP))
 }

@@ -206,6 +206,7 @@ const REFUSED: &[Row] = &[
     ("races t --locations --group", Wanted::Usage),
     ("races t --locations --locations", Wanted::Usage),
     ("races t --locations 3", Wanted::Usage),
+    ("races t --strict=1", Wanted::Usage),
     ("races t --why 1", Wanted::Usage),
     ("races t --why 2 1", Wanted::Usage),
     ("races t --why 1 1", Wanted::Usage),

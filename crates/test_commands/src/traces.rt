@@ -11,6 +11,7 @@ pub struct TwoLines {
     acts: bool,
     first: u64,
     second: u64,
+    strict: bool,
 }
 
 fn is_acts(form: TraceForm) -> bool {
@@ -32,18 +33,21 @@ fn is_racing(made: &Racing<'_>, wanted: &Racing<'_>) -> bool {
         && is_same_grouping(made.grouping, wanted.grouping)
         && made.sure == wanted.sure
         && made.json == wanted.json
+        && made.strict == wanted.strict
 }
 
 fn is_witnessing(made: &Witnessing<'_>, wanted: &TwoLines) -> bool {
     made.file == wanted.file
         && is_acts(made.form) == wanted.acts
         && are_lines(made.lines, wanted.first, wanted.second)
+        && made.strict == wanted.strict
 }
 
 fn is_reasoning(made: &Reasoning<'_>, wanted: &TwoLines) -> bool {
     made.file == wanted.file
         && is_acts(made.form) == wanted.acts
         && are_lines(made.lines, wanted.first, wanted.second)
+        && made.strict == wanted.strict
 }
 
 fn are_lines(made: LinePair, first: u64, second: u64) -> bool {
@@ -67,6 +71,7 @@ const THE_RACES: Racing<'static> = Racing {
     grouping: Grouping::Each,
     sure: false,
     json: false,
+    strict: false,
 };
 
 /// The greatest lines of this trace.
@@ -75,6 +80,7 @@ const THE_LAST_LINES: TwoLines = TwoLines {
     acts: false,
     first: u64::MAX - 1,
     second: u64::MAX,
+    strict: false,
 };
 
 const TRACES: &[Row] = &[
@@ -108,11 +114,12 @@ const TRACES: &[Row] = &[
         }),
     ),
     (
-        "races --json t.std --group --sure",
+        "races --json t.std --strict --group --sure",
         Wanted::Races(Racing {
             grouping: Grouping::Groups,
             sure: true,
             json: true,
+            strict: true,
             ..THE_RACES
         }),
     ),
@@ -125,16 +132,24 @@ const TRACES: &[Row] = &[
         }),
     ),
     (
+        "races t.std --strict",
+        Wanted::Races(Racing {
+            strict: true,
+            ..THE_RACES
+        }),
+    ),
+    (
         "races t.std --witness 18446744073709551614 18446744073709551615",
         Wanted::Witness(THE_LAST_LINES),
     ),
     (
-        "races --witness 01 +2 --as=acts t.acts",
+        "races --strict --witness 01 +2 --as=acts t.acts",
         Wanted::Witness(TwoLines {
             file: "t.acts",
             acts: true,
             first: 1,
             second: 2,
+            strict: true,
         }),
     ),
     (
@@ -142,12 +157,13 @@ const TRACES: &[Row] = &[
         Wanted::Reasons(THE_LAST_LINES),
     ),
     (
-        "races - --why 01 +2 --as=acts",
+        "races - --why 01 +2 --as=acts --strict",
         Wanted::Reasons(TwoLines {
             file: "-",
             acts: true,
             first: 1,
             second: 2,
+            strict: true,
         }),
     ),
 ];
