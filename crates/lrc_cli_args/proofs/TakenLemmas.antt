@@ -266,34 +266,7 @@ judge_keyed = (
 )
 
 explore_keyed : AllByRecursion (IsKeyed explore_built.rules) explore_built.rules
-explore_keyed = (
-  record { own = refl; acts = inl (refl, lit< tt) },
-  (
-    record { own = refl; acts = inl (refl, lit< tt) },
-    (
-      record { own = refl; acts = inl (refl, lit< tt) },
-      (
-        record { own = refl; acts = inl (refl, lit< tt) },
-        (
-          record { own = refl; acts = inr (inl (refl, lit< tt)) },
-          (
-            record { own = refl; acts = inl (refl, lit< tt) },
-            (
-              record { own = refl; acts = inl (refl, lit< tt) },
-              (
-                record { own = refl; acts = inr (inl (refl, lit< tt)) },
-                (
-                  record { own = refl; acts = inr (inl (refl, lit< tt)) },
-                  (record { own = refl; acts = inr (inr refl) }, tt),
-                ),
-              ),
-            ),
-          ),
-        ),
-      ),
-    ),
-  ),
-)
+explore_keyed = (record { own = refl; acts = inl (refl, lit< tt) }, (record { own = refl; acts = inl (refl, lit< tt) }, (record { own = refl; acts = inl (refl, lit< tt) }, (record { own = refl; acts = inl (refl, lit< tt) }, (record { own = refl; acts = inr (inl (refl, lit< tt)) }, (record { own = refl; acts = inl (refl, lit< tt) }, (record { own = refl; acts = inl (refl, lit< tt) }, (record { own = refl; acts = inr (inl (refl, lit< tt)) }, (record { own = refl; acts = inr (inl (refl, lit< tt)) }, (record { own = refl; acts = inl (refl, lit< tt) }, (record { own = refl; acts = inl (refl, lit< tt) }, (record { own = refl; acts = inr (inr refl) }, tt))))))))))))
 
 why_keyed : AllByRecursion (IsKeyed why_built.rules) why_built.rules
 why_keyed = (record { own = refl; acts = inl (refl, lit< tt) }, (record { own = refl; acts = inl (refl, lit< tt) }, (record { own = refl; acts = inl (refl, lit< tt) }, (record { own = refl; acts = inl (refl, lit< tt) }, (record { own = refl; acts = inl (refl, lit< tt) }, (record { own = refl; acts = inl (refl, lit< tt) }, (record { own = refl; acts = inl (refl, lit< tt) }, (record { own = refl; acts = inl (refl, lit< tt) }, (record { own = refl; acts = inl (refl, lit< tt) }, (record { own = refl; acts = inl (refl, lit< tt) }, (record { own = refl; acts = inl (refl, lit< tt) }, (record { own = refl; acts = inl (refl, lit< tt) }, (record { own = refl; acts = inr (inr refl) }, tt)))))))))))))

@@ -1,5 +1,5 @@
 -- What the options of a command say, by the matches that clap made of its words.
-use Rattle.std.specs.Prelude.{◌≡◌, ◌≢◌, ◌⊎◌, ℕ, Bool, false, true, List, [], ◌∷◌, Option, None, Some, IfSome, IsSome, IsSomeAnd, codes, if◌then◌else◌, map, option_map, is_some, unwrap_or, ◌&&◌, ◌||◌}
+use Rattle.std.specs.Prelude.{◌≡◌, ◌≢◌, ◌⊎◌, ℕ, Bool, false, true, List, [], ◌∷◌, Option, None, Some, IfSome, IsSome, IsSomeAnd, codes, if◌then◌else◌, map, not, option_map, is_some, unwrap_or, ◌&&◌, ◌||◌}
 use Rattle.std.specs.Borrow.{Bor}
 use Rattle.std.specs.Int.{IsOutOfRange}
 use Rattle.std.specs.List.{list_any}
@@ -25,6 +25,8 @@ use Rattle.lrc_cli_args.specs.declared.choice.Memory.{Memory}
 use Rattle.lrc_cli_args.specs.declared.choice.Memory.TheVariants.{Flat, Lazy}
 use Rattle.lrc_cli_args.specs.declared.choice.Part.{Part}
 use Rattle.lrc_cli_args.specs.declared.choice.RunOptions.{RunOptions}
+use Rattle.lrc_cli_args.specs.declared.choice.Tell.{Tell}
+use Rattle.lrc_cli_args.specs.declared.choice.Tell.TheVariants as tells
 use Rattle.lrc_cli_args.specs.declared.choice.TraceForm.{TraceForm}
 use Rattle.lrc_cli_args.specs.declared.choice.TraceForm.TheVariants.{Std, Acts}
 use Rattle.lrc_cli_args.specs.declared.choice.Then.{Then}
@@ -404,6 +406,31 @@ pub record IsQuestion (rows : List Row) (question : Question) : Type 0 where
   pub grouped : IsGrouping rows grouping
   pub one : IsOneOf grouping (report_in rows) (reasons_in rows) (witness_in rows) question
 
+-- The order of which events are shown that a word names: the first where there is no word.
+abbrev pub IsTell : Option Text → Tell → Type 0
+IsTell word tells.First = word ≡ None
+IsTell word tells.Stuck = word ≡ Some (codes "stuck")
+IsTell word tells.Trap = word ≡ Some (codes "trap")
+IsTell word tells.End = word ≡ Some (codes "end")
+
+-- events are of one order of the flat memory: none are shown of a list of outcomes
+abbrev pub takes_events : Memory → (outcomes : Bool) → (outcome : Option ℕ) → Bool
+takes_events Flat outcomes outcome = not outcomes || is_some outcome
+takes_events Lazy outcomes outcome = false
+
+-- of an outcome there is one order, and an order that can no longer end is looked for only where ends are asked for
+abbrev pub takes_tell : Tell → (outcome : Option ℕ) → (ends : Bool) → Bool
+takes_tell tells.First outcome ends = true
+takes_tell tells.Stuck outcome ends = is_none outcome
+takes_tell tells.Trap outcome ends = is_none outcome
+takes_tell tells.End outcome ends = ends && is_none outcome
+
+-- the order whose events are shown is chosen by these matches, or no events are
+abbrev pub AreEventsChosen : Memory → (outcomes : Bool) → (outcome : Option ℕ) → (ends : Bool) → List Row → Option Tell → Type 0
+AreEventsChosen memory outcomes outcome ends rows None = (first_of (codes "as") rows ≡ None) × (first_of (codes "tell") rows ≡ None)
+AreEventsChosen memory outcomes outcome ends rows (Some tell) = (first_of (codes "as") rows ≡ Some (codes "events"))
+    × IsTell (first_of (codes "tell") rows) tell × (takes_events memory outcomes outcome ≡ true) × (takes_tell tell outcome ends ≡ true)
+
 -- outcomes are asked for, or a memory is named: so races are not ignored, and it is not asked for ends
 abbrev pub asks_outcomes : (outcomes : Bool) → (outcome : Option ℕ) → List Row → Bool
 asks_outcomes outcomes outcome rows = outcomes || is_some outcome || is_given (codes "memory") rows
@@ -489,6 +516,18 @@ HasFormMisfitIn rows misfit =
 abbrev pub HasBadExploreNumber : List Row → Type 0
 HasBadExploreNumber rows = IsOutOfRange 1 16 (nodes_in rows) ⊎ IsOutOfRange 1 100000000 (most_in rows) ⊎ (outcome_in rows ≡ Some 0)
     ⊎ IsSomeAnd (tries_in rows) (IsOutOfRange 1 1000000)
+
+-- of events: an order of theirs is named and they are not asked for; then the word that asks for them; then that they may not be asked for;
+-- then the word of the order; then that it may not be that one
+abbrev pub HasEventsMisfit : Memory → (outcomes : Bool) → (outcome : Option ℕ) → (ends : Bool) → List Row → Misfit → Type 0
+HasEventsMisfit memory outcomes outcome ends rows misfit =
+    ((misfit ≡ unfit.Tell) × (first_of (codes "as") rows ≡ None) × IsSome (first_of (codes "tell") rows))
+    ⊎ ((misfit ≡ unfit.ExploreForm) × IsSomeAnd (first_of (codes "as") rows) (λ word. word ≢ codes "events"))
+    ⊎ ((misfit ≡ unfit.Events) × (first_of (codes "as") rows ≡ Some (codes "events")) × (takes_events memory outcomes outcome ≡ false))
+    ⊎ ((misfit ≡ unfit.ToldOrder) × (first_of (codes "as") rows ≡ Some (codes "events")) × (takes_events memory outcomes outcome ≡ true)
+    × ((tell : Tell) → ¬ IsTell (first_of (codes "tell") rows) tell))
+    ⊎ ((misfit ≡ unfit.Tell) × (first_of (codes "as") rows ≡ Some (codes "events")) × (takes_events memory outcomes outcome ≡ true)
+    × ((tell : Tell) × IsTell (first_of (codes "tell") rows) tell × (takes_tell tell outcome ends ≡ false)))
 
 -- of the exact memory: another one is named, or an option of it is given without it; then the size of its pages; then the number
 abbrev pub HasExactMisfit : List Row → Misfit → Type 0

@@ -197,6 +197,19 @@ pub enum Memory {
     Lazy,
 }
 
+/// Of which order the events are shown, of the orders that `explore` tells of.
+#[derive(Clone, Copy)]
+pub enum Tell {
+    /// The first that it tells of.
+    First,
+    /// The order that gets stuck.
+    Stuck,
+    /// The order in which a node traps.
+    Trap,
+    /// The order that can no longer end. It comes only where ends are asked for.
+    End,
+}
+
 /// The options of the command `explore`.
 #[derive(Clone, Copy)]
 pub struct Exploring<'w> {
@@ -219,6 +232,9 @@ pub struct Exploring<'w> {
     pub ignores_races: bool,
     /// Whether it is asked whether every order can end. It does not come with outcomes, nor where a memory is named.
     pub ends: bool,
+    /// The order whose events are shown in place of all lines, if events are asked for. They come neither with the list of
+    /// outcomes nor with lazy memory, and with one outcome only as those of the first order.
+    pub events: Option<Tell>,
 }
 
 /// The form of a trace that is searched for races.

@@ -94,6 +94,12 @@ const IGNORE_RACES_HELP: &str =
 const ENDS_HELP: &str =
     "Tells too whether every order can end, so that no node waits for what can no longer come";
 
+const EXPLORE_FORM_HELP: &str =
+    "events: in place of all lines, prints the events by which `sim --events` makes a run that follows the order told, the first if several are. Not with the list of outcomes, or `--memory lazy`";
+
+const TELL_HELP: &str =
+    "With `--as events`: which order they are of: stuck, trap, or end, which goes with `--ends`; not with `--outcome`. Left out, the first that is told";
+
 const OUTCOME_HELP: &str =
     "Shows the acts of a run that has the outcome of this number in the list of `--outcomes`, counted from 1, in place of the list";
 
@@ -445,7 +451,9 @@ fn explore_command<'w>(alloc: Global) -> Result<Command<'w>, AllocError>
         command,
         flag_option(alloc, "ignore-races", IGNORE_RACES_HELP),
     );
-    taking(command, flag_option(alloc, "ends", ENDS_HELP))
+    let command = taking(command, flag_option(alloc, "ends", ENDS_HELP));
+    let command = taking(command, text(alloc, "as", "FORM", EXPLORE_FORM_HELP));
+    taking(command, text(alloc, "tell", "ORDER", TELL_HELP))
 }
 
 fn why_command<'w>(alloc: Global) -> Result<Command<'w>, AllocError>
