@@ -14,13 +14,14 @@ use Rattle.lrc_why_text.specs.declared.fault.WhyFault.TheVariants as why_faults
 use Rattle.lrc_cli.specs.Answer.{Answers, IsActsChartFault, IsFault, IsWhyFault, KeepsRaces, Prints, charted_nodes, foreign_nodes, printed}
 use Rattle.lrc_cli_answer.specs.FaultLine.{fault_of_acts_chart, fault_of_why}
 use Rattle.lrc_cli_runs.specs.Reasoned.{asked_of}
-use Rattle.lrc_cli_runs.specs.Showing.{AnswersShowing}
+use Rattle.lrc_cli.specs.Showing.{AnswersAsRead, takes_named}
+use Rattle.lrc_cli.proofs.ShownLemmas.{refused_memory}
 use Rattle.lrc_text.specs.Parts.{whole_text}
 use Rattle.lrc_cli_answer.specs.declared.printout.Printout.{Printout}
 use Rattle.lrc_cli.specs.declared.answer.Answered.{Answered}
 use Rattle.lrc_cli.specs.declared.answer.Answered.TheVariants.{Printed, Judged}
 use Rattle.lrc_cli_args.specs.declared.choice.Choice.{Choice}
-use Rattle.lrc_cli_args.specs.declared.choice.Choice.TheVariants.{Check, Plain, Show, Judge, Explore, Lint, WhyActs, ChartActs}
+use Rattle.lrc_cli_args.specs.declared.choice.Choice.TheVariants.{Check, Core, Plain, Show, Judge, Explore, Lint, WhyActs, ChartActs}
 use Rattle.lrc_cli_args.specs.declared.choice.RunChoice.{RunChoice}
 use Rattle.lrc_cli_args.specs.declared.choice.Shape.{Shape}
 use Rattle.lrc_cli_answer.specs.declared.fault.Fault.{Fault}
@@ -46,9 +47,10 @@ keeps_races choice text events (Err fault) h = tt
 
 -- memory may run out at any choice
 pub memory_ran_out : (choice : Choice) (text : List ℕ) (events : Option (List ℕ)) → IsFault choice text events NoMemory
-memory_ran_out (Check file) text events = tt
-memory_ran_out (Plain run) text events = tt
-memory_ran_out (Show run shape) text events = inl tt
+memory_ran_out (Check file) text events = inl tt
+memory_ran_out (Core file) text events = inl tt
+memory_ran_out (Plain run) text events = inl tt
+memory_ran_out (Show run shape) text events = refused_memory (takes_named shape) run shape text events
 memory_ran_out (Judge judging) text events = tt
 memory_ran_out (Explore exploring) text events = inl tt
 memory_ran_out (Lint file) text events = refl
@@ -80,6 +82,6 @@ answers_for choice other text events r a same is prints faults =
 
 -- what is answered to a choice of a run is what is answered to that choice
 pub answers_of_run : (run : RunChoice) (shape : Shape) (text : List ℕ) (events : Option (List ℕ)) (r : Result Printout Fault)
-    (a : Result Answered Fault) → a ≡ printed r → AnswersShowing run shape text events r → Answers (Show run shape) text events a
+    (a : Result Answered Fault) → a ≡ printed r → AnswersAsRead run shape text events r → Answers (Show run shape) text events a
 answers_of_run run shape text events (Ok printout) a is h = subst (Answers (Show run shape) text events) (sym is) h
 answers_of_run run shape text events (Err fault) a is h = subst (Answers (Show run shape) text events) (sym is) h

@@ -1,1 +1,3 @@
 pub mod AnswerLemmas
+pub mod ReadingLemmas
+pub mod ShownLemmas

@@ -27,13 +27,14 @@ use Rattle.lrc_world.specs.Ends.{ends_of}
 use Rattle.lrc_report.specs.ReportText.{report_text, status_of}
 use Rattle.lrc_cli_answer.specs.Labels.{labels_in}
 use Rattle.lrc_cli_runs.specs.Reasoned.{asked_of}
-use Rattle.lrc_cli_runs.specs.Showing.{RefusesRun, ShowsRun}
 use Rattle.lrc_cli_answer.specs.Texts.{IsTextFault, IsTextOf}
 use Rattle.lrc_cli_answer.specs.declared.printout.Printout.{Printout}
 use Rattle.lrc_cli.specs.declared.answer.Answered.{Answered}
 use Rattle.lrc_cli.specs.declared.answer.Answered.TheVariants.{Printed, Judged}
 use Rattle.lrc_cli_args.specs.declared.choice.Choice.{Choice}
-use Rattle.lrc_cli_args.specs.declared.choice.Choice.TheVariants.{Check, Plain, Show, Judge, Explore, Lint, WhyActs, ChartActs}
+use Rattle.lrc_cli_args.specs.declared.choice.Choice.TheVariants.{Check, Core, Plain, Show, Judge, Explore, Lint, WhyActs, ChartActs}
+use Rattle.lrc_cli.specs.Reading.{HoldsAsRead, IsFaultAsRead, nodes_for}
+use Rattle.lrc_cli.specs.Showing.{RefusesAsRead, ShowsAsRead, takes_named}
 use Rattle.lrc_cli_args.specs.declared.choice.Asking.{Asking}
 use Rattle.lrc_cli_args.specs.declared.choice.ChartedActs.{ChartedActs}
 use Rattle.lrc_cli_args.specs.declared.choice.Charting.{Charting}
@@ -57,6 +58,10 @@ use Rattle.lrc_cli_answer.specs.declared.fault.Fault.TheVariants as printout_fau
 -- the text is a program's, and `ok` says so
 abbrev pub IsChecked : List ℕ → List ℕ → ℕ → Type 0
 IsChecked text out status = (program : Program) × IsTextOf text program × (out ≡ codes "ok\n") × (status ≡ 0)
+
+-- the text is a program's, and is printed as it stands
+abbrev pub IsCored : List ℕ → List ℕ → ℕ → Type 0
+IsCored text out status = (program : Program) × IsTextOf text program × (out ≡ text) × (status ≡ 0)
 
 -- the text and the status are those of these acts
 abbrev pub IsPrintoutOfActs : ℕ → List Act → List ℕ → ℕ → Type 0
@@ -171,14 +176,14 @@ IsJudged true pairs judging text out status =
 IsJudged false pairs judging text out status =
     (memory : Option ExactMemory) × IsJudgedMemory judging memory × Judges (judged_nodes judging) memory pairs text out status
 
--- What is printed, with the status: `ok` where the text is a program's, the report of what the program does in rounds on
+-- What is printed, with the status: `ok` where the text is a program's, the text of its core, the report of what the program does in rounds on
 -- the plain machine, what is shown of its run, a judgement of acts, or what every order of the program comes to.
 abbrev pub Prints : Choice → List ℕ → Option (List ℕ) → List ℕ → ℕ → Type 0
-Prints (Check file) text events_text out status = IsChecked text out status
-Prints (Plain run) text events_text out status =
-    (program : Program) × IsTextOf text program
-    × IsPrintoutOfRounds program run.nodes.count run.steps.count out status
-Prints (Show run shape) text events_text out status = ShowsRun run shape text events_text out status
+Prints (Check file) text events_text out status = HoldsAsRead text (λ nodes core. IsChecked core out status)
+Prints (Core file) text events_text out status = HoldsAsRead text (λ nodes core. IsCored core out status)
+Prints (Plain run) text events_text out status = HoldsAsRead text (λ nodes core. (program : Program) × IsTextOf core program
+    × IsPrintoutOfRounds program (nodes_for run.nodes_given run.nodes nodes).count run.steps.count out status)
+Prints (Show run shape) text events_text out status = ShowsAsRead (takes_named shape) run shape text events_text out status
 Prints (Judge judging) text events_text out status = IsJudged judging.all judging.pairs judging text out status
 Prints (Explore exploring) text events_text out status =
     (program : Program) × IsTextOf text program × IsExploration exploring text program out status
@@ -265,9 +270,10 @@ IsSearchFault exploring program fault = IsFaultIn exploring.memory exploring pro
 
 -- The first fault: of the text, then of the events, then of the run or the search, then of what is shown of the run. Memory may run out at any time.
 abbrev pub IsFault : Choice → List ℕ → Option (List ℕ) → Fault → Type 0
-IsFault (Check file) text events_text fault = IsTextFault text fault
-IsFault (Plain run) text events_text fault = IsTextFault text fault
-IsFault (Show run shape) text events_text fault = RefusesRun run shape text events_text fault
+IsFault (Check file) text events_text fault = IsFaultAsRead text fault (λ nodes core. IsTextFault core fault)
+IsFault (Core file) text events_text fault = IsFaultAsRead text fault (λ nodes core. IsTextFault core fault)
+IsFault (Plain run) text events_text fault = IsFaultAsRead text fault (λ nodes core. IsTextFault core fault)
+IsFault (Show run shape) text events_text fault = RefusesAsRead (takes_named shape) run shape text events_text fault
 IsFault (Judge judging) text events_text fault = IsActsFault (judged_nodes judging) text fault
 IsFault (Explore exploring) text events_text fault = IsTextFault text fault
     ⊎ ((program : Program) × IsTextOf text program × IsSearchFault exploring program fault)

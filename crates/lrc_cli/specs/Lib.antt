@@ -1,2 +1,5 @@
 pub mod Answer
 pub mod Performance
+pub mod Reading
+pub mod ReadingSeen
+pub mod Showing

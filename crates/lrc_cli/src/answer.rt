@@ -1,22 +1,23 @@
 // What the program answers to a choice, before anything is written.
 
 ghost use Rattle.std.specs.Prelude.{◌≡◌, IfErr, IfOk, None, false, is_some, option_map};
-ghost use Rattle.lrc_cli.specs.Answer.{Answers, IsChecked, IsFault, IsPrintoutOfRounds, Prints, printed};
-ghost use Rattle.lrc_cli_answer.specs.Texts.{IsTextFault};
+ghost use Rattle.lrc_cli.specs.Answer.{Answers, IsFault, IsPrintoutOfRounds, Prints, printed};
 ghost use Rattle.lrc_report.specs.ReportText.{report_text, status_of};
 ghost use Rattle.lrc_text.specs.Parts.{whole_text};
 ghost use Rattle.lrc_cli_args.specs.Files.{names_events, starts_threads};
 ghost use Rattle.lrc_cli_args.specs.declared.choice.Choice.TheVariants.{Judge, Plain};
 
+use crate::cored::{checked, cored};
 use crate::explored::explored;
 use crate::judged::{judged, judged_all, judged_with_pairs};
 use crate::linted::linted;
 use crate::pictured::pictured;
+use crate::reading::{nodes_for, read};
 use crate::reasoned::reasoned;
+use crate::shown::shown;
 use lrc_cli_answer::fault::Fault;
-use lrc_cli_answer::printout::{Printout, in_one};
-use lrc_cli_args::choice::{Choice, Judging, PlainRun};
-use lrc_cli_runs::shown::show;
+use lrc_cli_answer::printout::Printout;
+use lrc_cli_args::choice::{Choice, Judging, Nodes, PlainRun, Steps};
 use lrc_exec::rounds::plain_rounds;
 use lrc_judge_text::pairs::PairsJudgement;
 use lrc_lang::parse;
@@ -50,8 +51,9 @@ pub fn answer(
 {
     match choice {
         Choice::Check(_) => printed(checked(alloc, text)),
+        Choice::Core(_) => printed(cored(alloc, text)),
         Choice::Plain(run) => printed(plain(alloc, run, text)),
-        Choice::Show(run, shape) => printed(show(alloc, run, *shape, text, events)),
+        Choice::Show(run, shape) => printed(shown(alloc, run, *shape, text, events)),
         Choice::Judge(judging) => judgement(alloc, judging, text),
         Choice::Explore(exploring) => printed(explored(alloc, exploring, text)),
         Choice::Lint(file) => printed(linted(alloc, file, text)),
@@ -84,34 +86,29 @@ fn judgement(alloc: Global, judging: &Judging<'_>, text: &[u8]) -> Result<Answer
     }
 }
 
-// Whether the text is a program's.
-fn checked(alloc: Global, text: &[u8]) -> Result<Printout, Fault>
-    ensures ok { IfOk result (λ printout. IsChecked text.now (whole_text printout.parts.items)
-        printout.status) }
-    ensures err { IfErr result (IsTextFault text.now) }
-{
-    let _program = parse(alloc, text)?;
-    let part = Vec::from_slice(alloc, b"ok\n")?;
-    let parts = in_one(alloc, part)?;
-    Ok(Printout { parts, status: 0 })
-}
-
 // What the nodes print on the plain machine, and how they end there.
 fn plain(alloc: Global, run: &PlainRun<'_>, text: &[u8]) -> Result<Printout, Fault>
     ensures ok { IfOk result (λ printout. Prints (Plain run.now) text.now None
         (whole_text printout.parts.items) printout.status) }
     ensures err { IfErr result (IsFault (Plain run.now) text.now None) }
 {
-    let program = parse(alloc, text)?;
-    Ok(in_rounds(alloc, run, &program)?)
+    let reading = read(alloc, text)?;
+    let program = parse(alloc, reading.text())?;
+    let nodes = nodes_for(run.nodes_given, run.nodes, reading.nodes());
+    Ok(in_rounds(alloc, nodes, run.steps, &program)?)
 }
 
-fn in_rounds(alloc: Global, run: &PlainRun<'_>, program: &Program) -> Result<Printout, AllocError>
-    ensures { IfOk result (λ printout. IsPrintoutOfRounds program.now run.now.nodes.count
-        run.now.steps.count (whole_text printout.parts.items) printout.status) }
+fn in_rounds(
+    alloc: Global,
+    nodes: Nodes,
+    steps: Steps,
+    program: &Program,
+) -> Result<Printout, AllocError>
+    ensures { IfOk result (λ printout. IsPrintoutOfRounds program.now nodes.count
+        steps.count (whole_text printout.parts.items) printout.status) }
 {
-    let nodes = run.nodes.count as u8;
-    let acts = plain_rounds(alloc, program, nodes, run.steps.count)?;
+    let nodes = nodes.count as u8;
+    let acts = plain_rounds(alloc, program, nodes, steps.count)?;
     let ends = ends(alloc, nodes, &acts)?;
     printout_of(alloc, &acts, &ends)
 }

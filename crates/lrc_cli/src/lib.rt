@@ -3,11 +3,14 @@
 #![tactic(auto)]
 
 pub mod answer;
+mod cored;
 mod explored;
 mod judged;
 mod linted;
 mod performance;
 mod pictured;
+pub mod reading;
 mod reasoned;
+mod shown;
 
 pub use performance::{answer_any, execute, perform, tell};

@@ -13,10 +13,10 @@ ghost use Rattle.lrc_cli_args.specs.declared.choice.Choice.{Choice as AnyChoice}
 ghost use Rattle.lrc_cli_answer.specs.declared.fault.Fault.TheVariants.{NoMemory};
 
 use crate::answer::{Answered, answer, printed};
+use crate::shown::shown_any;
 use lrc_cli_answer::fault::{Fault, NO_MEMORY_LINE, line_of};
 use lrc_cli_answer::printout::Printout;
 use lrc_cli_args::choice::Choice;
-use lrc_cli_runs::any::show_any;
 use lrc_judge_text::broken_off::BrokenOff;
 use lrc_judge_text::pairs::{PairsJudgement, put_pairs};
 use lrc_report::output::{Output, put, put_parts};
@@ -79,8 +79,9 @@ pub fn answer_any<R: Threads + Wait + Sync>(
     ensures { Answers choice.now text.now (option_map (λ e. e.now) events.entry) result }
 {
     match choice {
-        Choice::Show(run, shape) => printed(show_any(rt, alloc, run, *shape, text, events)),
+        Choice::Show(run, shape) => printed(shown_any(rt, alloc, run, *shape, text, events)),
         Choice::Check(_)
+        | Choice::Core(_)
         | Choice::Plain(_)
         | Choice::Judge(_)
         | Choice::Explore(_)

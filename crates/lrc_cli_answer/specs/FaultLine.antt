@@ -15,6 +15,7 @@ use Rattle.lrc_chart_build.specs.declared.portrait.PortraitFault.TheVariants as 
 use Rattle.lrc_events.specs.declared.events.EventsFault.{EventsFault}
 use Rattle.lrc_events.specs.declared.events.EventsFault.TheVariants.{BadEvent}
 use Rattle.lrc_events.specs.declared.events.EventsFault.TheVariants as events_faults
+use Rattle.lrc_named_expression_faults.specs.Fault.{words_of}
 use Rattle.lrc_cli_answer.specs.declared.fault.Fault.{Fault}
 use Rattle.lrc_cli_answer.specs.declared.fault.Fault.TheVariants as faults
 
@@ -64,6 +65,7 @@ kind_words NoMemory = codes "out of memory"
 
 abbrev pub fault_words : Fault → List ℕ
 fault_words (faults.Text line kind) = codes "line " ++ decimal line ++ codes ": " ++ kind_words kind
+fault_words (faults.Names line kind) = codes "line " ++ decimal line ++ codes ": " ++ words_of kind
 fault_words (faults.Events line) = codes "events line " ++ decimal line ++ codes ": bad event"
 fault_words (faults.Acts line) = codes "acts line " ++ decimal line ++ codes ": bad act"
 fault_words (faults.TooManyStates most) = codes "more than " ++ decimal most ++ codes " states"

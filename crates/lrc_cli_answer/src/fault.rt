@@ -4,12 +4,14 @@ ghost use Rattle.std.specs.Prelude.{◌≡◌, IfOk, Some};
 ghost use Rattle.std.specs.String.{string_bytes};
 ghost use Rattle.lrc_cli_answer.specs.FaultLine.{fault_line, fault_of_acts, fault_of_acts_chart, fault_of_events, fault_of_portrait, fault_of_text, fault_of_why, fault_words, kind_words};
 ghost use Rattle.lrc_cli_answer.specs.declared.fault.Fault.TheVariants.{NoMemory};
+ghost use Rattle.lrc_named_expression_faults.specs.Fault.{words_of as name_words};
 
 use lrc_acts::reading::ActsFault;
 use lrc_chart_acts::ActsChartFault;
 use lrc_chart_build::PortraitFault;
 use lrc_events::events::EventsFault;
 use lrc_lang::fault::{FaultKind, ParseFault};
+use lrc_named_expression_faults::fault::FaultKind as NameFault;
 use lrc_why_text::fault::WhyFault;
 use std::alloc::{AllocError, AllocFailed, Global};
 use std::error::Error;
@@ -17,10 +19,12 @@ use std::fmt;
 use std::fmt::{Display, Formatter};
 
 /// Why nothing is printed. The program shows the line of the fault.
-#[derive(Clone, Copy, Debug, PartialEq, Eq)]
+#[derive(Clone, Copy)]
 pub enum Fault {
     /// The text is not a program: the line of its first fault, and the fault.
     Text(u32, FaultKind),
+    /// A named program does not use its names as what they are: the line of its first fault, and the fault.
+    Names(u32, NameFault),
     /// The line with this number in the text of events is not an event.
     Events(u32),
     /// The line with this number in the text of acts is not an act.
@@ -55,6 +59,10 @@ impl Display for Fault {
                 let words = words_of(*kind);
                 write!(f, "line {line}: {words}")
             }
+            Fault::Names(line, kind) => {
+                let words = name_words(*kind);
+                write!(f, "line {line}: {words}")
+            }
             Fault::Events(line) => write!(f, "events line {line}: bad event"),
             Fault::Acts(line) => write!(f, "acts line {line}: bad act"),
             Fault::LongActs => write!(f, "acts line 1: text too long"),
@@ -67,6 +75,12 @@ impl Display for Fault {
             Fault::Mismatch => write!(f, "logs and wires differ"),
             Fault::NoMemory => write!(f, "out of memory"),
         }
+    }
+}
+
+impl fmt::Debug for Fault {
+    fn fmt<W: fmt::Write>(&self, f: &mut Formatter<W>) -> fmt::Result {
+        Display::fmt(self, f)
     }
 }
 
@@ -181,5 +195,22 @@ fn words_of(kind: FaultKind) -> &'static str
         FaultKind::TooManyNames => "too many names",
         FaultKind::OverLimit => "over a limit",
         FaultKind::NoMemory => "out of memory",
+    }
+}
+
+fn name_words(kind: NameFault) -> &'static str
+    ensures { result.now ≡ name_words kind }
+{
+    match kind {
+        NameFault::DeclaredTwice => "declared twice",
+        NameFault::ReservedName => "reserved name",
+        NameFault::UnknownName => "unknown name",
+        NameFault::WrongUse => "wrong use of a name",
+        NameFault::WrongIndices => "wrong number of indices",
+        NameFault::WrongArguments => "wrong number of arguments",
+        NameFault::NotConstant => "not a constant",
+        NameFault::OverLimit(_) => "over a limit",
+        NameFault::IndexOutOfRange => "index out of range",
+        NameFault::TooManyNames => "too many names",
     }
 }

@@ -2,13 +2,18 @@ use Rattle.std.proofs.Common.{ℕ, List, option_map, subst, sym}
 use Rattle.std.specs.Borrow.{Bor}
 use Rattle.lrc_cli_args.specs.declared.choice.Choice.{Choice}
 use Rattle.lrc_cli.specs.Answer.{Answers}
-use Rattle.lrc_cli.proofs.AnswerLemmas.{answers_for}
+use Rattle.lrc_cli.proofs.AnswerLemmas.{answers_for, answers_of_run}
 use Rattle.lrc_cli.proofs.answer.answer.Goals as goal
 
 pub returns-in-Check : goal.returns-in-Check
 returns-in-Check c =
     answers_for c.args.choice.now _ c.args.text.now (option_map (λ (e : Bor (List ℕ)). e.now) c.args.events) c.checked.result c.printed.result c.in-Check.is
     c.printed.ensures c.checked.ensures.ok c.checked.ensures.err
+
+pub returns-in-Core : goal.returns-in-Core
+returns-in-Core c =
+    answers_for c.args.choice.now _ c.args.text.now (option_map (λ (e : Bor (List ℕ)). e.now) c.args.events) c.cored.result c.printed-in-Core.result c.in-Core.is
+    c.printed-in-Core.ensures c.cored.ensures.ok c.cored.ensures.err
 
 pub returns-in-Plain : goal.returns-in-Plain
 returns-in-Plain c =
@@ -17,8 +22,9 @@ returns-in-Plain c =
 
 pub returns-in-Show : goal.returns-in-Show
 returns-in-Show c =
-    answers_for c.args.choice.now _ c.args.text.now (option_map (λ (e : Bor (List ℕ)). e.now) c.args.events) c.show.result c.printed-in-Show.result c.in-Show.is
-    c.printed-in-Show.ensures c.show.ensures.ok c.show.ensures.err
+    subst (λ (choice : Choice). Answers choice c.args.text.now (option_map (λ (e : Bor (List ℕ)). e.now) c.args.events) c.printed-in-Show.result) (sym c.in-Show.is)
+    (answers_of_run _ _ c.args.text.now (option_map (λ (e : Bor (List ℕ)). e.now) c.args.events) c.shown.result c.printed-in-Show.result
+    c.printed-in-Show.ensures c.shown.ensures)
 
 pub returns-in-Explore : goal.returns-in-Explore
 returns-in-Explore c =
