@@ -60,7 +60,8 @@ const ROWS: &[Row] = &[
     },
 ];
 
-fn put_parts(text: &mut Vec<u8>, parts: &[(&[u8], u32)]) -> Result<(), AllocError> {
+/// Puts each part behind the text, as often as it stands there.
+pub fn put_parts(text: &mut Vec<u8>, parts: &[(&[u8], u32)]) -> Result<(), AllocError> {
     for (part, times) in parts {
         for _ in 0..*times {
             text.extend_from_slice(part)?;

@@ -11,6 +11,8 @@ mod faults;
 #[cfg(test)]
 mod large;
 #[cfg(test)]
+mod long_programs;
+#[cfg(test)]
 mod progress;
 #[cfg(test)]
 mod refused;

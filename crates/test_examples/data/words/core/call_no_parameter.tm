@@ -1,0 +1,3 @@
+shared total;
+fn here() = total + me;
+x = here() * here();

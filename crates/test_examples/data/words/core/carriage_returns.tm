@@ -1,0 +1,3 @@
+shared a;
+a = 1;
+print a;

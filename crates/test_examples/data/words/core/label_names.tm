@@ -1,0 +1,2 @@
+shared a_1, Words, lockS[2];
+lock x_;

@@ -1,0 +1,3 @@
+lock m;
+acquire m;
+release m;

@@ -1,0 +1,3 @@
+lock m[64];
+acquire m[63];
+acquire m[me];

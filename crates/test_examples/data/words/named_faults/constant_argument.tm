@@ -1,0 +1,3 @@
+fn f(k) = 1;
+const A = f(
+me);

@@ -1,0 +1,3 @@
+fn f(k) = k + me;
+const A = 1 +
+f(1);

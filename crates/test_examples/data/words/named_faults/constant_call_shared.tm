@@ -1,0 +1,4 @@
+shared s;
+fn f() = s;
+fn g() = f();
+lock m[g()];

@@ -1,0 +1,2 @@
+lock m[2];
+acquire m;

@@ -1,0 +1,3 @@
+shared a[3];
+fn f(k) = a[k];
+print f(7);

@@ -1,0 +1,37 @@
+shared a[3];
+x = 1;
+if x {
+if x {
+if x {
+if x {
+if x {
+if x {
+if x {
+if x {
+if x {
+if x {
+if x {
+if x {
+if x {
+if x {
+if x {
+if x {
+if x {
+if x {
+if x {
+if x {
+if x {
+if x {
+if x {
+if x {
+if x {
+if x {
+if x {
+if x {
+if x {
+if x {
+if x {
+if x {
+a[1] = x;
+a[x] = x;
+}}}}}}}}}}}}}}}}}}}}}}}}}}}}}}}}

@@ -1,0 +1,37 @@
+shared s;
+x = 1;
+if x {
+if x {
+if x {
+if x {
+if x {
+if x {
+if x {
+if x {
+if x {
+if x {
+if x {
+if x {
+if x {
+if x {
+if x {
+if x {
+if x {
+if x {
+if x {
+if x {
+if x {
+if x {
+if x {
+if x {
+if x {
+if x {
+if x {
+if x {
+if x {
+if x {
+if x {
+if x {
+y = x;
+y = x and s;
+}}}}}}}}}}}}}}}}}}}}}}}}}}}}}}}}

@@ -1,0 +1,36 @@
+shared s;
+x = 1;
+if x {
+if x {
+if x {
+if x {
+if x {
+if x {
+if x {
+if x {
+if x {
+if x {
+if x {
+if x {
+if x {
+if x {
+if x {
+if x {
+if x {
+if x {
+if x {
+if x {
+if x {
+if x {
+if x {
+if x {
+if x {
+if x {
+if x {
+if x {
+if x {
+if x {
+if x {
+y = x and s;
+if x and s { }
+}}}}}}}}}}}}}}}}}}}}}}}}}}}}}}}

@@ -1,0 +1,2 @@
+const A = 0 and 1 / 0;
+print A;

@@ -1,0 +1,3 @@
+shared a;
+nodes
+17;

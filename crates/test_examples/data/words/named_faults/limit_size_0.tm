@@ -1,0 +1,3 @@
+const N = 2;
+shared a[
+N - 2];

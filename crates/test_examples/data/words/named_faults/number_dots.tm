@@ -1,0 +1,3 @@
+nodes 2;
+for_ = 1;
+for i in 1..3x { }

@@ -1,0 +1,3 @@
+shared a[2];
+x = a[
+5 + zzz];

@@ -1,0 +1,2 @@
+shared a;
+fn f(_a, _a) = 1;

@@ -1,0 +1,2 @@
+lock m;
+x = m + zzz;

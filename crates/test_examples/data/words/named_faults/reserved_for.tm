@@ -1,0 +1,2 @@
+nodes 1;
+for _i in 0..2 { }

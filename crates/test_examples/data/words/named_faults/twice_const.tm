@@ -1,0 +1,3 @@
+const A = 1;
+const B = 2;
+const A = 1;

@@ -1,0 +1,3 @@
+nodes 2;
+shared a;
+nodes 3;

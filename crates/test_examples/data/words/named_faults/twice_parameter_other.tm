@@ -1,0 +1,4 @@
+fn f(a) = a;
+fn g(a) = a;
+shared a;
+print f(g(a));

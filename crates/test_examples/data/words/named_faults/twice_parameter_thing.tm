@@ -1,0 +1,3 @@
+const a = 1;
+fn f(b,
+ a) = b;

@@ -1,0 +1,2 @@
+nodes 1;
+locks = 3;

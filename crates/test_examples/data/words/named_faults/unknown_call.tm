@@ -1,0 +1,2 @@
+nodes 1;
+print max(1, 2);

@@ -1,0 +1,2 @@
+fn f(k) = g(k);
+fn g(k) = k;

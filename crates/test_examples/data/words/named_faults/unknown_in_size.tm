@@ -1,0 +1,2 @@
+shared a[N];
+const N = 2;

@@ -1,0 +1,2 @@
+lock mutex;
+with mutx { }

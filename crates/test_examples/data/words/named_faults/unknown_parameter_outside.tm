@@ -1,0 +1,2 @@
+fn f(k) = k;
+print k;

@@ -1,0 +1,3 @@
+nodes 1;
+print
+x;

@@ -1,0 +1,2 @@
+const A = 1;
+acquire A;

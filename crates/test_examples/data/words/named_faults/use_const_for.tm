@@ -1,0 +1,2 @@
+const A = 1;
+for A in 0..2 { }

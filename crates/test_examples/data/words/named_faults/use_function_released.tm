@@ -1,0 +1,2 @@
+fn f() = 1;
+release f;

@@ -1,0 +1,2 @@
+shared a;
+for a in 0..2 { }

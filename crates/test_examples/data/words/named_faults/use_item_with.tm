@@ -1,0 +1,2 @@
+shared a[2];
+with a[0] { }

@@ -1,0 +1,3 @@
+nodes 1;
+x = 1;
+with x { }

@@ -1,0 +1,3 @@
+nodes 16;
+shared a[16];
+a[me] = me;

@@ -1,0 +1,2 @@
+nodes 16;
+print me;
