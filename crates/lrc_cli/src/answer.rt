@@ -93,7 +93,8 @@ fn plain(alloc: Global, run: &PlainRun<'_>, text: &[u8]) -> Result<Printout, Fau
     ensures err { IfErr result (IsFault (Plain run.now) text.now None) }
 {
     let reading = read(alloc, text)?;
-    let program = parse(alloc, reading.text())?;
+    let core = reading.text();
+    let program = parse(alloc, core)?;
     let nodes = nodes_for(run.nodes_given, run.nodes, reading.nodes());
     Ok(in_rounds(alloc, nodes, run.steps, &program)?)
 }

@@ -20,7 +20,8 @@ pub(crate) fn checked(alloc: Global, text: &[u8]) -> Result<Printout, Fault>
         (λ nodes core. IsTextFault core fault)) }
 {
     let reading = read(alloc, text)?;
-    let _program = parse(alloc, reading.text())?;
+    let core = reading.text();
+    let _program = parse(alloc, core)?;
     let part = Vec::from_slice(alloc, b"ok\n")?;
     let parts = in_one(alloc, part)?;
     Ok(Printout { parts, status: 0 })
@@ -34,8 +35,9 @@ pub(crate) fn cored(alloc: Global, text: &[u8]) -> Result<Printout, Fault>
         (λ nodes core. IsTextFault core fault)) }
 {
     let reading = read(alloc, text)?;
-    let _program = parse(alloc, reading.text())?;
-    let part = Vec::from_slice(alloc, reading.text())?;
+    let core = reading.text();
+    let _program = parse(alloc, core)?;
+    let part = Vec::from_slice(alloc, core)?;
     let parts = in_one(alloc, part)?;
     Ok(Printout { parts, status: 0 })
 }

@@ -27,7 +27,7 @@ impl Reading<'_> {
         ensures { result.now ≡ text_read self.now }
     {
         match self {
-            Reading::Written(text) => text,
+            Reading::Written(text) => *text,
             Reading::Translated(core) => &core.text,
         }
     }

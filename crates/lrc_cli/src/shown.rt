@@ -42,8 +42,9 @@ pub(crate) fn shown(
         return show(alloc, run, shape, text, events);
     }
     let reading = read(alloc, text)?;
-    let run = run_for(run, reading.nodes());
-    show(alloc, &run, shape, reading.text(), events)
+    let core = reading.text();
+    let own = run_for(run, reading.nodes());
+    show(alloc, &own, shape, core, events)
 }
 
 /// Answers a choice of a run, on threads or not, from its texts.
@@ -62,6 +63,7 @@ pub(crate) fn shown_any<R: Threads + Wait + Sync>(
         return show_any(rt, alloc, run, shape, text, events);
     }
     let reading = read(alloc, text)?;
-    let run = run_for(run, reading.nodes());
-    show_any(rt, alloc, &run, shape, reading.text(), events)
+    let core = reading.text();
+    let own = run_for(run, reading.nodes());
+    show_any(rt, alloc, &own, shape, core, events)
 }

@@ -1,6 +1,11 @@
-use Rattle.std.proofs.Common.{inr}
+use Rattle.std.proofs.Common.{inr, subst, sym}
+use Rattle.lrc_cli.specs.Reading.{IsUnread}
 use Rattle.lrc_cli.proofs.ReadingLemmas.{unread_named}
 use Rattle.lrc_cli.proofs.reading.translated.Goals as goal
 
 pub returns-in-Ok-clause-ok : goal.returns-in-Ok-clause-ok
 returns-in-Ok-clause-ok c = inr (c.requires, c.in-Ok.ensures.core)
+
+pub returns-in-Err-clause-err : goal.returns-in-Err-clause-err
+returns-in-Err-clause-err c =
+    subst (IsUnread c.args.text.now) (sym c.fault_of.ensures) (unread_named c.args.text.now c.in-Err.fault c.requires c.in-Err.ensures.fault)
