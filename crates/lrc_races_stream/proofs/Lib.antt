@@ -6,3 +6,4 @@ mod Paths
 mod Reached
 mod SeekerLemmas
 mod StrictLemmas
+mod ScoreLemmas

@@ -4,6 +4,7 @@ pub mod Lines
 pub mod Locations
 pub mod Plays
 pub mod Reach
+pub mod Score
 pub mod Why
 pub mod Witness
 pub mod Strict

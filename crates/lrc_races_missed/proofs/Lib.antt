@@ -1,0 +1,6 @@
+pub mod Given
+pub mod KeyLemmas
+pub mod EventLemmas
+pub mod PairLemmas
+pub mod LocationLemmas
+pub mod VariableLemmas
