@@ -1,0 +1,14 @@
+use Rattle.lrc_named.proofs.OneCore.{no_fault, one_core, one_count, one_fault}
+use Rattle.lrc_named.proofs.laws.a_text_has_one_core.Goals as goal
+
+pub returns-clause-core : goal.returns-clause-core
+returns-clause-core c = one_core
+
+pub returns-clause-nodes : goal.returns-clause-nodes
+returns-clause-nodes c = one_count
+
+pub returns-clause-either : goal.returns-clause-either
+returns-clause-either c = no_fault
+
+pub returns-clause-fault : goal.returns-clause-fault
+returns-clause-fault c = one_fault

@@ -1,0 +1,11 @@
+-- The lines of tokens.
+use Rattle.std.specs.Prelude.{ℕ, List, map, slice_index}
+use Rattle.lrc_named_tokens.specs.Token.{Located}
+
+-- the line of each token
+abbrev pub lines_of : List Located → List ℕ
+lines_of tokens = map (λ (found : Located). found.place.line) tokens
+
+-- the line of the token of this number, counted from 0
+abbrev pub line_at : List Located → ℕ → ℕ
+line_at tokens at = slice_index (lines_of tokens) at

@@ -1,0 +1,89 @@
+// The text of the core of a named program.
+
+ghost use Rattle.std.specs.Prelude.{◌≡◌, IfErr, IfOk, List, map, option_map};
+ghost use Rattle.lrc_named_tokens.specs.Token.{Located as LocatedSeen};
+ghost use Rattle.lrc_named_tokens.specs.View.{located_of};
+ghost use Rattle.lrc_named_tree.specs.View.{program_of};
+ghost use Rattle.lrc_named_check.specs.Program.{IsClean};
+ghost use Rattle.lrc_named_parse.specs.Faults.{IsNamed};
+ghost use Rattle.lrc_named.specs.Lines.{lines_of};
+ghost use Rattle.lrc_named.specs.Named.{IsCoreText, IsNamedFault};
+
+use crate::fault::NamedFault;
+use crate::lines::{line_of, lines_of};
+use crate::nodes::nodes_asked;
+use lrc_lang::fault::FaultKind;
+use lrc_named_check::names_of;
+use lrc_named_faults::layout::Layout;
+use lrc_named_faults::values::Found;
+use lrc_named_parse::parse;
+use lrc_named_tokens::token::Located;
+use lrc_named_tree::tree::NamedProgram;
+use lrc_named_written::{Written, core_text};
+use lrc_setting::setting::Nodes;
+use std::alloc::Global;
+
+/// The core of a named program.
+#[derive(Drop)]
+pub struct CoreText {
+    /// The text of the core.
+    pub text: Vec<u8>,
+    /// How many nodes the named program asks for, if it does.
+    pub nodes: Option<Nodes>,
+}
+
+/// Returns the core of the named program that this text is. It fails if the text is none, with the first fault, or if
+/// memory runs out.
+pub fn core_of_text(alloc: Global, text: &[u8]) -> Result<CoreText, NamedFault>
+    ensures core { IfOk result (λ core. IsCoreText text.now
+        (option_map (λ nodes. nodes.count) core.nodes) core.text.items) }
+    ensures fault { IfErr result (IsNamedFault text.now) }
+{
+    let parsed = parse(alloc, text)?;
+    of_program(alloc, text, &parsed.tokens, &parsed.program)
+}
+
+// The core of a program that is this text.
+fn of_program<'p>(
+    alloc: Global,
+    text: &[u8],
+    tokens: &[Located<'_>],
+    program: &'p NamedProgram<'p>,
+) -> Result<CoreText, NamedFault>
+    requires { IsNamed text.now (map located_of tokens.now) (program_of program.now) }
+    ensures core { IfOk result (λ core. IsCoreText text.now
+        (option_map (λ nodes. nodes.count) core.nodes) core.text.items) }
+    ensures fault { IfErr result (IsNamedFault text.now) }
+{
+    let lines = lines_of(alloc, tokens)?;
+    match names_of(alloc, program)? {
+        Found::Bad(fault) => Err(NamedFault::Names(line_of(&lines, fault.at), fault.kind)),
+        Found::Good(layout) => of_names(alloc, text, &lines, program, &layout),
+    }
+}
+
+// The core of a program that declares this, and whose tokens stand on these lines.
+fn of_names<'p>(
+    alloc: Global,
+    text: &[u8],
+    lines: &[u32],
+    program: &'p NamedProgram<'p>,
+    layout: &Layout<'p>,
+) -> Result<CoreText, NamedFault>
+    requires clean { IsClean (program_of program.now) layout.now }
+    requires tokens { (tokens : List LocatedSeen)
+        × IsNamed text.now tokens (program_of program.now) × (lines.now ≡ lines_of tokens) }
+    ensures core { IfOk result (λ core. IsCoreText text.now
+        (option_map (λ nodes. nodes.count) core.nodes) core.text.items) }
+    ensures fault { IfErr result (IsNamedFault text.now) }
+{
+    let nodes = nodes_asked(program, layout);
+    match core_text(alloc, &layout.names, lines, program)? {
+        Written::Core(text) => Ok(CoreText { text, nodes }),
+        Written::Over(excess) => {
+            let line = line_of(lines, u64::from(excess.at));
+            Err(NamedFault::Text(line, FaultKind::OverLimit))
+        }
+        Written::TooLong => Err(NamedFault::Text(1, FaultKind::TooLong)),
+    }
+}

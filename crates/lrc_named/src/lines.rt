@@ -1,0 +1,29 @@
+// The lines of tokens.
+
+ghost use Rattle.std.specs.Prelude.{◌≡◌, IfOk, map, slice_index};
+ghost use Rattle.lrc_named_tokens.specs.View.{located_of};
+ghost use Rattle.lrc_named.specs.Lines.{lines_of};
+
+use lrc_named_tokens::token::Located;
+use std::alloc::{AllocError, Global};
+
+/// Returns the line of each token.
+pub fn lines_of(alloc: Global, tokens: &[Located<'_>]) -> Result<Vec<u32>, AllocError>
+    ensures { IfOk result (λ lines. lines.items ≡ lines_of (map located_of tokens.now)) }
+{
+    let mut lines = Vec::new(alloc);
+    for token in tokens {
+        lines.push(token.place.line)?;
+    }
+    Ok(lines)
+}
+
+/// Returns the line of the token of this number, counted from 0; of no token, 0.
+pub fn line_of(lines: &[u32], token: u64) -> u32
+    ensures { result ≡ slice_index lines.now token }
+{
+    match lines.get(token as usize) {
+        Some(line) => *line,
+        None => 0,
+    }
+}

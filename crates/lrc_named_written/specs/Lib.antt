@@ -1,0 +1,2 @@
+pub mod Privates
+pub mod Written
