@@ -9,10 +9,9 @@ use Rattle.lrc_trace.specs.declared.act.Act.{Act}
 use Rattle.lrc_protocol.specs.declared.event.Event.{Event}
 use Rattle.lrc_protocol.specs.Run.{World as Run, fresh_world, run_of}
 use Rattle.lrc_protocol.proofs.Worlds.{run-whole}
-use Rattle.lrc_protocol.specs.Traced.{trace_of}
-use Rattle.lrc_node.specs.Logged.{TracedLog, sound}
+use Rattle.lrc_node.specs.Logged.{TracedLog}
 use Rattle.lrc_world.specs.declared.world.World.{World}
-use Rattle.lrc_world.specs.World.{Starts, Shows, log_is_long, sends_long}
+use Rattle.lrc_world.specs.World.{Starts, Shows, fresh_one, log_is_long, sends_long}
 
 all_quiet : (f : ℕ → Node) (xs : List ℕ) → list_any log_is_long (map unlogged (map f xs)) ≡ false
 all_quiet f [] = refl
@@ -25,13 +24,6 @@ fresh_short program nodes options = all_quiet (fresh_node program nodes options)
 pub fresh_few : (program : Program) (nodes : ℕ) (options : OptionsRecord) → nodes ≤ 16 → length (fresh_world program nodes options).nodes ≤ 256
 fresh_few program nodes options few =
     let count = (run-whole program nodes options [] (fresh_world program nodes options) refl).count in omega (arith, count, few)
-
--- one node at the beginning of a program, with no turns
-abbrev pub fresh_one : Program → ℕ → OptionsRecord → ℕ → TracedLog
-fresh_one program nodes options me = record {
-  logged = sound (unlogged (fresh_node program nodes options me));
-  trace = trace_of (fresh_node program nodes options me) [];
-}
 
 -- one node more
 pub fresh_next : (program : Program) (nodes : ℕ) (options : OptionsRecord) (made : List TracedLog) (next : TracedLog) (me : ℕ)

@@ -94,6 +94,13 @@ pub record Starts : Type 0 where
 abbrev pub starts_of : Program → ℕ → OptionsRecord → Keep → Starts
 starts_of program nodes options keep = record { start = fresh_node program nodes options; keep = keep }
 
+-- a node at the start of a program, with no turns
+abbrev pub fresh_one : Program → ℕ → OptionsRecord → ℕ → TracedLog
+fresh_one program nodes options me = record {
+  logged = sound (record { node = fresh_node program nodes options me; log = [] });
+  trace = trace_of (fresh_node program nodes options me) [];
+}
+
 -- a node of a run, with what is kept of its log, and its trace
 abbrev pub kept_node : Starts → ℕ × Logged → TracedLog
 kept_node starts at = record { logged = sound (cut starts.keep at.1); trace = trace_of (starts.start at.0) at.1.log }

@@ -2,10 +2,12 @@
 
 ghost use Rattle.std.specs.Prelude.{◌≡◌, ◌↔◌, ◌<◌, ◌≤◌, ◌++◌, ℕ, [], All, IfErr, IfOk, map, true};
 ghost use Rattle.lrc_exec.specs.Nodes.{AreNodes};
+ghost use Rattle.lrc_lang.specs.declared.program.Program.{Program};
 ghost use Rattle.lrc_protocol.specs.Node.{OptionsRecord};
 ghost use Rattle.lrc_protocol.specs.Run.{World as AnyRun, fresh_world, turns_of_logs};
 ghost use Rattle.lrc_race.specs.Races.{AreRacesOf, AreTracesOf};
 ghost use Rattle.lrc_trace.specs.Conflict.{IsRaceFree};
+ghost use Rattle.lrc_world.specs.declared.keep.Keep.{Keep};
 ghost use Rattle.lrc_world.specs.Driven.{schedule_of};
 ghost use Rattle.lrc_world.specs.Led.{WearsOut};
 ghost use Rattle.lrc_world.specs.Origins.{AreOriginsOf};
@@ -89,6 +91,9 @@ pub fn run_in(
 }
 
 // The run of these events.
+//
+// It is no part of its caller's frame, so that none of those who wait while the nodes are made has room for a node.
+#[inline(never)]
 fn by_events(
     alloc: Global,
     program: &Program,
@@ -103,8 +108,8 @@ fn by_events(
     ensures fault { IfErr result (IsWornFault (IsWornBy program.now nodes options.now events.now)) }
 {
     let code = Code::new(alloc, program)?;
-    let world = world_after(alloc, &code, nodes, options, events, keep)?;
     let played = Vec::from_slice(alloc, events)?;
+    let world = world_after(alloc, &code, nodes, options, events, keep)?;
     let run = run_shown(alloc, program, nodes, keep, world, played)?;
     Ok(run)
 }
@@ -147,6 +152,32 @@ fn followed(
 {
     let code = Code::new(alloc, program)?;
     let world = world_after(alloc, &code, nodes, options, before, keep)?;
+    led_on(alloc, program, nodes, lead, keep, before, world)
+}
+
+// The run of the events before, which the world shows, and of those that follow, led so.
+#[inline(never)]
+fn led_on(
+    alloc: Global,
+    program: &Program,
+    nodes: u8,
+    lead: Lead,
+    keep: Keep,
+    before: &[Event],
+    world: World<'_>,
+) -> Result<Run, TurnFault>
+    requires nodes { AreNodes nodes }
+    requires shown { (options : OptionsRecord)
+        × ShowsRun keep program.now nodes options before.now world }
+    ensures run { IfOk result (λ run. (options : OptionsRecord)
+        → ShowsRun keep program.now nodes options before.now world.entry
+        → IsRunBy (AreFollowed (schedule_of nodes lead) before.now program.now nodes options)
+        program.now nodes options keep run) }
+    ensures fault { IfErr result (λ fault. (options : OptionsRecord)
+        → ShowsRun keep program.now nodes options before.now world.entry
+        → IsWornFault (WearsOutBehind (schedule_of nodes lead) before.now program.now nodes options)
+        fault) }
+{
     let mut driver = Driver::new(alloc, world);
     driver.lead(nodes, lead)?;
     let Driver { world, events } = driver;
@@ -168,7 +199,20 @@ fn world_after<'c>(
     ensures shown { IfOk result (ShowsRun keep code.now nodes options.now events.now) }
     ensures fault { IfErr result (IsWornFault (IsWornBy code.now nodes options.now events.now)) }
 {
-    let mut world = World::new(alloc, code, nodes, options, keep)?;
+    let world = World::new(alloc, code, nodes, options, keep)?;
+    played(world, events)
+}
+
+// The world after these events, which it plays from the start of a program.
+#[inline(never)]
+fn played<'c>(mut world: World<'c>, events: &[Event]) -> Result<World<'c>, TurnFault>
+    ensures shown { IfOk result (λ after. (keep : Keep) (program : Program) (nodes : ℕ)
+        (options : OptionsRecord) → ShowsRun keep program nodes options [] world.entry
+        → ShowsRun keep program nodes options events.now after) }
+    ensures fault { IfErr result (λ fault. (keep : Keep) (program : Program) (nodes : ℕ)
+        (options : OptionsRecord) → ShowsRun keep program nodes options [] world.entry
+        → IsWornFault (IsWornBy program nodes options events.now) fault) }
+{
     for event in events {
         world.play(*event)?;
     }

@@ -17,7 +17,7 @@ ghost use Rattle.lrc_world.specs.Random.{drawn_event, picked};
 ghost use Rattle.lrc_world.specs.Rounds.{delivery_of, is_delivered, newest_place, ready_at};
 ghost use Rattle.lrc_world.specs.Turned.{when_all, taker, turner};
 ghost use Rattle.lrc_world.specs.World.{Starts, starts_of, Shows, PlaysTo, AddsTo, NodeLogsLast, NotesTurn, ReceivesTo, TurnsTo, turn_made, IsSendFault, trimmed};
-ghost use Rattle.lrc_world.specs.World.{seen_flying, seen_sent, shown_new, is_long};
+ghost use Rattle.lrc_world.specs.World.{fresh_one, seen_flying, seen_sent, shown_new, is_long};
 ghost use Rattle.lrc_node.specs.Logged.{TracedLog, sound};
 ghost use Rattle.lrc_trace.specs.Conflict.{IsRaceFree};
 
@@ -67,8 +67,7 @@ impl<'c> World<'c> {
     {
         let mut made = Vec::with_capacity(alloc, nodes as usize)?;
         for me in 0..nodes {
-            let node = Node::new(alloc, code, me, nodes, options)?;
-            made.push(Logged::new(alloc, node))?;
+            add_node(alloc, &mut made, code, me, nodes, options)?;
         }
         Ok(World {
             alloc,
@@ -359,6 +358,27 @@ fn newest_place(count: usize) -> u32
     ensures { result ≡ newest_place count }
 {
     u32::try_from(count.saturating_sub(1)).unwrap_or(u32::MAX)
+}
+
+// Adds a node at the start of a program. It has a frame of its own: what a node takes on the stack while it is made is
+// then nowhere else.
+#[inline(never)]
+fn add_node<'c>(
+    alloc: Global,
+    made: &mut Vec<Logged<'c>>,
+    code: &'c Code<'_>,
+    me: u8,
+    nodes: u8,
+    options: &Options,
+) -> Result<(), AllocError>
+    requires here { me < nodes }
+    requires few { nodes ≤ 16 }
+    ensures { OnOk result (made.new.items ≡ made.old.items
+        ++ fresh_one code.now nodes options.now me ∷ []) }
+{
+    let node = Node::new(alloc, code, me, nodes, options)?;
+    made.push(Logged::new(alloc, node))?;
+    Ok(())
 }
 
 // Adds an act, if one was made.

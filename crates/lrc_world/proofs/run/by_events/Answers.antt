@@ -1,6 +1,5 @@
 use Rattle.std.proofs.Common.{◌≡◌, ◌∙◌, subst, sym}
-use Rattle.lrc_protocol.specs.Node.{OptionsRecord}
-use Rattle.lrc_world.specs.Runs.{IsRunBy, ShowsRun}
+use Rattle.lrc_world.specs.Runs.{ShowsRun}
 use Rattle.lrc_world.proofs.Runs.{as_they_are}
 use Rattle.lrc_world.proofs.run.by_events.Goals as goal
 

@@ -1,6 +1,5 @@
-use Rattle.std.proofs.Common.{◌≡◌, ◌∙◌, ap, refl, sym}
+use Rattle.std.proofs.Common.{◌≡◌, ◌∙◌, ap}
 use Rattle.std.proofs.lemmas.Result.{IfOk-from_err}
-use Rattle.lrc_protocol.specs.Node.{OptionsRecord}
 use Rattle.lrc_world.specs.World.{starts_of}
 use Rattle.lrc_world.proofs.Races.{kept_raceless, kept_traces}
 use Rattle.lrc_world.proofs.Runs.{run_is}

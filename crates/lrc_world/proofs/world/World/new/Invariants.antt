@@ -1,6 +1,6 @@
 use Rattle.std.proofs.Common.{◌≡◌, map}
 use Rattle.std.specs.List.{range_with_len}
-use Rattle.lrc_world.proofs.Worlds.{fresh_one}
+use Rattle.lrc_world.specs.World.{fresh_one}
 use Rattle.lrc_world.proofs.world.World.new.Given as goal
 
 -- the nodes so far
