@@ -1,5 +1,5 @@
 -- What label lines say. Numbers are of any size.
-use Rattle.std.specs.Prelude.{ℕ, ◌+◌, ◌-◌, ◌&&◌, Bool, true, false, Option, Some, None, Result, Ok, Err, List, [], ◌∷◌, ◌++◌, codes, fold, if◌then◌else◌, map, nat_le, nat_lt, take}
+use Rattle.std.specs.Prelude.{ℕ, ◌+◌, ◌-◌, ◌&&◌, Bool, true, false, Option, Some, None, Result, Ok, Err, List, [], ◌∷◌, ◌++◌, codes, drop, fold, if◌then◌else◌, nat_le, nat_lt, take}
 use Rattle.std.specs.List.{list_all, list_any}
 use Rattle.std.specs.Str.{bytes_eq}
 use Rattle.std.specs.Str.Parse.{digits_value}
@@ -25,9 +25,13 @@ pub record Label : Type 0 where
 abbrev pub label_seen : code_label.Label → Label
 label_seen label = record { target = label.target; name = label.name.now; sizes = label.sizes.items }
 
--- the same, of one whose sizes are still fields of its line
-abbrev pub form_seen : code_form.Form → Label
-form_seen form = record { target = form.target; name = form.name.now; sizes = sizes_of (map (λ field. field.now) form.sizes.now) }
+-- the same, of a form with these sizes
+abbrev pub form_seen : code_form.Form → List ℕ → Label
+form_seen form sizes = record { target = form.target; name = form.name.now; sizes = sizes }
+
+-- of the fields of a label line those that are sizes: what stands behind `words W V NAME`
+abbrev pub size_fields : List (List ℕ) → List (List ℕ)
+size_fields fields = drop 4 fields
 
 -- ---- one label line
 

@@ -6,8 +6,8 @@ ghost use Rattle.std.specs.Str.{bytes_eq};
 ghost use Rattle.lrc_labels.specs.declared.cut.Divider.TheVariants.{LineFeed};
 ghost use Rattle.lrc_labels.specs.Cut.{cut, divides};
 ghost use Rattle.lrc_labels.specs.Line.{fields_of, label_line_in, line_seen};
-ghost use Rattle.lrc_labels.specs.Reading.{first_of, form_seen, idle_by, idle_in, idle_of, is_lock, label_seen, labels_by, labels_of, labels_with, last_of, meets, said_of, taken};
-ghost use Rattle.lrc_labels.specs.Sizes.{is_size};
+ghost use Rattle.lrc_labels.specs.Reading.{first_of, form_seen, idle_by, idle_in, idle_of, is_lock, label_seen, labels_by, labels_of, labels_with, last_of, meets, said_of, size_fields, taken};
+ghost use Rattle.lrc_labels.specs.Sizes.{is_size, sizes_of};
 
 use crate::cut::{Divider, cut};
 use crate::form::{Form, reading_of};
@@ -80,7 +80,7 @@ fn read_label_line<'t>(
 {
     let fields = fields(alloc, found.body)?;
     match said_by(&labels.said, &fields, words, locks) {
-        Ok(form) => labels.said.push(label_of(alloc, form)?)?,
+        Ok(form) => labels.said.push(label_of(alloc, form, &fields)?)?,
         Err(reason) => labels.idle.push(IdleLabel {
             line: number,
             column: found.column,
@@ -90,31 +90,46 @@ fn read_label_line<'t>(
     Ok(())
 }
 
-// The label that these fields form.
-fn label_of<'t>(alloc: Global, form: Form<'t, '_>) -> Result<Label<'t>, AllocError>
-    requires { list_all is_size (map (λ field. field.now) form.entry.sizes.now) ≡ true }
-    ensures { IfOk result (λ label. label_seen label ≡ form_seen form.entry) }
+// The label of this form, with the sizes among these fields.
+fn label_of<'t>(alloc: Global, form: Form<'t>, fields: &[&[u8]]) -> Result<Label<'t>, AllocError>
+    requires { list_all is_size (size_fields (map (λ field. field.now) fields.now)) ≡ true }
+    ensures { IfOk result (λ label. label_seen label
+        ≡ form_seen form.entry (sizes_of (size_fields (map (λ field. field.now) fields.now)))) }
 {
+    let sizes = sizes_among(alloc, fields)?;
     Ok(Label {
         target: form.target,
         name: form.name,
-        sizes: numbers_of(alloc, form.sizes)?,
+        sizes,
     })
 }
 
+// The sizes among the fields of a label line.
+fn sizes_among(alloc: Global, fields: &[&[u8]]) -> Result<Vec<u32>, AllocError>
+    requires { list_all is_size (size_fields (map (λ field. field.now) fields.now)) ≡ true }
+    ensures { IfOk result (λ sizes. sizes.items
+        ≡ sizes_of (size_fields (map (λ field. field.now) fields.now))) }
+{
+    match fields {
+        [_, _, _, _, sizes @ ..] => numbers_of(alloc, sizes),
+        [] | [_] | [_, _] | [_, _, _] => Ok(Vec::new(alloc)),
+    }
+}
+
 // What the fields of a label line say behind these labels.
-fn said_by<'t, 'f>(
+fn said_by<'t>(
     earlier: &[Label<'t>],
-    fields: &'f [&'t [u8]],
+    fields: &[&'t [u8]],
     words: u32,
     locks: u8,
-) -> Result<Form<'t, 'f>, Reason>
-    ensures is { let said_is = said_of words locks (map label_seen earlier.now)
-        (map (λ field. field.now) fields.entry.now) in
-        MatchResult result (λ form. said_is ≡ Ok (form_seen form))
+) -> Result<Form<'t>, Reason>
+    ensures is { let fields_are = map (λ field. field.now) fields.now in
+        let said_is = said_of words locks (map label_seen earlier.now) fields_are in
+        MatchResult result (λ form. said_is
+        ≡ Ok (form_seen form (sizes_of (size_fields fields_are))))
         (λ reason. said_is ≡ Err reason) }
     ensures sizes { IfOk result (λ form.
-        list_all is_size (map (λ field. field.now) form.sizes.now) ≡ true) }
+        list_all is_size (size_fields (map (λ field. field.now) fields.now)) ≡ true) }
 {
     let form = reading_of(fields, words, locks)?;
     if has_target(earlier, form.target) {

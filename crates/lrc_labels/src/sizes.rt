@@ -3,6 +3,7 @@
 ghost use Rattle.std.specs.Prelude.{◌≡◌, ◌∷◌, IfOk, map, true};
 ghost use Rattle.std.specs.List.{list_all};
 ghost use Rattle.std.specs.Str.Parse.{digits_value};
+ghost use Rattle.lrc_labels.specs.Name.{is_numeral};
 ghost use Rattle.lrc_labels.specs.Sizes.{fills, indices, is_size, sizes_of};
 
 use crate::name::{is_numeral, number_below};
