@@ -158,9 +158,18 @@ const ARRAYS: &[u8] =
 #[test]
 fn arrays_by_rows(rt: HostRuntime) {
     holds(&rt, shows(rt.alloc(), ARRAYS, 0, 0, b" (grid[0][0][0])"));
-    holds(&rt, shows(rt.alloc(), ARRAYS, 11, 1, b" (grid[0][2][3]) (fork[0][0])"));
-    holds(&rt, shows(rt.alloc(), ARRAYS, 12, 4, b" (grid[1][0][0]) (fork[1][1])"));
-    holds(&rt, shows(rt.alloc(), ARRAYS, 25, 5, b" (pair[0][0][1][0]) (last[0])"));
+    holds(
+        &rt,
+        shows(rt.alloc(), ARRAYS, 11, 1, b" (grid[0][2][3]) (fork[0][0])"),
+    );
+    holds(
+        &rt,
+        shows(rt.alloc(), ARRAYS, 12, 4, b" (grid[1][0][0]) (fork[1][1])"),
+    );
+    holds(
+        &rt,
+        shows(rt.alloc(), ARRAYS, 25, 5, b" (pair[0][0][1][0]) (last[0])"),
+    );
 }
 
 const ROWS: &[u8] =
