@@ -10,27 +10,35 @@ use Rattle.std.specs.Str.{bytes_eq}
 use Rattle.std.proofs.lemmas.Bool.Decides.{nat_tests}
 use Rattle.std.proofs.lemmas.Slice.Eq.{bytes_eq-Decides}
 use Rattle.lrc_labels.specs.declared.label.Target.{Target}
-use Rattle.lrc_labels.specs.declared.label.Target.TheVariants.{Word, Words, Lock}
+use Rattle.lrc_labels.specs.declared.label.Target.TheVariants.{Word, Words, Lock, Locks}
 use Rattle.lrc_labels.specs.declared.label.Reason.{Reason}
 use Rattle.lrc_labels.specs.Apart.{AreApart}
 use Rattle.lrc_labels.specs.Line.{LabelLine, fields_of, label_line_in}
 use Rattle.lrc_labels.specs.Reading.{Label, labels_by, labels_in, labels_of, labels_with, meets, reading_of, taken, unless_taken}
 use Rattle.lrc_labels.specs.Show.{names_lock, names_word}
 
--- targets with a word in common meet, and so do those of one lock
+-- targets with a word in common meet, and so do those with a lock in common
 word_meets : (one other : Target) (word : ℕ) → names_word one word ≡ true → names_word other word ≡ true → meets one other ≡ true
 word_meets (Word a) (Word b) word h k = grind (arith, nat_tests)
 word_meets (Word a) (Words c d) word h k = grind (arith, nat_tests)
 word_meets (Word a) (Lock l) word h k = absurd (cc)
+word_meets (Word a) (Locks l m) word h k = absurd (cc)
 word_meets (Words a b) (Word c) word h k = grind (arith, nat_tests)
 word_meets (Words a b) (Words c d) word h k = grind (arith, nat_tests)
 word_meets (Words a b) (Lock l) word h k = absurd (cc)
+word_meets (Words a b) (Locks l m) word h k = absurd (cc)
 word_meets (Lock l) other word h k = absurd (cc)
+word_meets (Locks l m) other word h k = absurd (cc)
 
 lock_meets : (one other : Target) (lock : ℕ) → names_lock one lock ≡ true → names_lock other lock ≡ true → meets one other ≡ true
 lock_meets (Lock a) (Lock b) lock h k = grind (arith, nat_tests)
+lock_meets (Lock a) (Locks b c) lock h k = grind (arith, nat_tests)
 lock_meets (Lock a) (Word b) lock h k = absurd (cc)
 lock_meets (Lock a) (Words b c) lock h k = absurd (cc)
+lock_meets (Locks a b) (Lock c) lock h k = grind (arith, nat_tests)
+lock_meets (Locks a b) (Locks c d) lock h k = grind (arith, nat_tests)
+lock_meets (Locks a b) (Word c) lock h k = absurd (cc)
+lock_meets (Locks a b) (Words c d) lock h k = absurd (cc)
 lock_meets (Word a) other lock h k = absurd (cc)
 lock_meets (Words a b) other lock h k = absurd (cc)
 

@@ -4,4 +4,5 @@ pub mod Fields
 pub mod Forms
 pub mod Names
 pub mod Readings
+pub mod Rows
 pub mod Words

@@ -1,7 +1,7 @@
 -- What the label lines of one line more say.
 use Rattle.std.proofs.Common.{◌≡◌, ◌∙◌, ◌<◌, ◌≤◌, ◌+◌, ℕ, ap, sym, subst, List, [], ◌∷◌, ◌++◌, length, map, take, get_or, Bool, ◌||◌, refl}
 use Rattle.std.specs.List.{list_any}
-use Rattle.std.specs.Prelude.{find, option_map, cond, true, false, Some}
+use Rattle.std.specs.Prelude.{find, option_map, cond, true, false, None, Option, Some}
 use Rattle.std.proofs.lemmas.List.{get_or-map, length-map, take_all}
 use Rattle.std.proofs.lemmas.List.Sums.{fold_more}
 use Rattle.lrc_text.specs.Each.{each}
@@ -71,3 +71,9 @@ find_seen {A} {B} seen test (item ∷ others) = first (find_seen seen test other
         → option_map seen (cond b (Some item) (find (λ other. test (seen other)) others)) ≡ cond b (Some (seen item)) (find test (map seen others))
     first more true = refl
     first more false = more
+
+-- the same of what is found in a list of references
+pub find_in : {R A B : Type 0} (at : R → A) (seen : A → B) (test : B → Bool) (items : List A) (found : Option R)
+    → option_map at found ≡ find (λ item. test (seen item)) items → option_map (λ r. seen (at r)) found ≡ find test (map seen items)
+find_in at seen test items None e = ap (option_map seen) e ∙ find_seen seen test items
+find_in at seen test items (Some r) e = ap (option_map seen) e ∙ find_seen seen test items

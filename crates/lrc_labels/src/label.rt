@@ -9,27 +9,31 @@ pub enum Target {
     Words(u32, u32),
     /// `lock K NAME`: this lock.
     Lock(u8),
+    /// `locks K M NAME`: the locks from the first to the last.
+    Locks(u8, u8),
 }
 
-/// A name for words or for a lock. The name is given by the bytes of the text that spell it.
-#[derive(Clone, Copy)]
+/// A name for words or for locks. The name is given by the bytes of the text that spell it.
+#[derive(Drop)]
 pub struct Label<'t> {
     pub target: Target,
     pub name: &'t [u8],
+    /// The sizes of an array by rows, without the first; none if an element has one index, or none.
+    pub sizes: Vec<u32>,
 }
 
 /// Why a label line has no effect. The first reason that applies is given.
 #[derive(Clone, Copy, PartialEq, Eq)]
 pub enum Reason {
-    /// It has none of the three forms.
+    /// It has none of the forms, or its sizes do not divide its words or locks into rows.
     AnotherForm,
     /// A word is not below the number of words, or the first word is above the last.
     NoSuchWord,
-    /// The lock is not below the number of locks.
+    /// A lock is not below the number of locks, or the first lock is above the last.
     NoSuchLock,
     /// An earlier label already names one of its words.
     WordTaken,
-    /// An earlier label already names its lock.
+    /// An earlier label already names one of its locks.
     LockTaken,
     /// An earlier label already has its name.
     NameTaken,

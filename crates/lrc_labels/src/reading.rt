@@ -1,17 +1,19 @@
 // What the label lines of a text say.
 
-ghost use Rattle.std.specs.Prelude.{◌≡◌, ◌++◌, Err, IfOk, MatchResult, Ok, OnOk, map, nat_le, ◌&&◌};
-ghost use Rattle.std.specs.List.{list_any};
+ghost use Rattle.std.specs.Prelude.{◌≡◌, ◌++◌, Err, IfOk, MatchResult, Ok, OnOk, map, nat_le, true, ◌&&◌};
+ghost use Rattle.std.specs.List.{list_all, list_any};
 ghost use Rattle.std.specs.Str.{bytes_eq};
 ghost use Rattle.lrc_labels.specs.declared.cut.Divider.TheVariants.{LineFeed};
 ghost use Rattle.lrc_labels.specs.Cut.{cut, divides};
 ghost use Rattle.lrc_labels.specs.Line.{fields_of, label_line_in, line_seen};
-ghost use Rattle.lrc_labels.specs.Reading.{first_of, idle_by, idle_in, idle_of, label_seen, labels_by, labels_of, labels_with, last_of, meets, said_of, taken};
+ghost use Rattle.lrc_labels.specs.Reading.{first_of, form_seen, idle_by, idle_in, idle_of, is_lock, label_seen, labels_by, labels_of, labels_with, last_of, meets, said_of, size_fields, taken};
+ghost use Rattle.lrc_labels.specs.Sizes.{is_size, sizes_of};
 
 use crate::cut::{Divider, cut};
-use crate::form::reading_of;
+use crate::form::{Form, reading_of};
 use crate::label::{IdleLabel, Label, Labels, Reason, Target};
 use crate::line::{LabelLine, fields, label_line};
+use crate::sizes::numbers_of;
 use std::alloc::{AllocError, Global};
 
 /// Reads the label lines of a text, for a program with this many words and locks. It fails only if memory runs out.
@@ -78,7 +80,7 @@ fn read_label_line<'t>(
 {
     let fields = fields(alloc, found.body)?;
     match said_by(&labels.said, &fields, words, locks) {
-        Ok(label) => labels.said.push(label)?,
+        Ok(form) => labels.said.push(label_of(alloc, form, &fields)?)?,
         Err(reason) => labels.idle.push(IdleLabel {
             line: number,
             column: found.column,
@@ -88,26 +90,55 @@ fn read_label_line<'t>(
     Ok(())
 }
 
+// The label of this form, with the sizes among these fields.
+fn label_of<'t>(alloc: Global, form: Form<'t>, fields: &[&[u8]]) -> Result<Label<'t>, AllocError>
+    requires { list_all is_size (size_fields (map (λ field. field.now) fields.now)) ≡ true }
+    ensures { IfOk result (λ label. label_seen label
+        ≡ form_seen form.entry (sizes_of (size_fields (map (λ field. field.now) fields.now)))) }
+{
+    let sizes = sizes_among(alloc, fields)?;
+    Ok(Label {
+        target: form.target,
+        name: form.name,
+        sizes,
+    })
+}
+
+// The sizes among the fields of a label line.
+fn sizes_among(alloc: Global, fields: &[&[u8]]) -> Result<Vec<u32>, AllocError>
+    requires { list_all is_size (size_fields (map (λ field. field.now) fields.now)) ≡ true }
+    ensures { IfOk result (λ sizes. sizes.items
+        ≡ sizes_of (size_fields (map (λ field. field.now) fields.now))) }
+{
+    match fields {
+        [_, _, _, _, sizes @ ..] => numbers_of(alloc, sizes),
+        [] | [_] | [_, _] | [_, _, _] => Ok(Vec::new(alloc)),
+    }
+}
+
 // What the fields of a label line say behind these labels.
 fn said_by<'t>(
     earlier: &[Label<'t>],
     fields: &[&'t [u8]],
     words: u32,
     locks: u8,
-) -> Result<Label<'t>, Reason>
-    ensures { let said_is = said_of words locks (map label_seen earlier.now)
-        (map (λ field. field.now) fields.now) in
-        MatchResult result (λ label. said_is ≡ Ok (label_seen label))
+) -> Result<Form<'t>, Reason>
+    ensures is { let fields_are = map (λ field. field.now) fields.now in
+        let said_is = said_of words locks (map label_seen earlier.now) fields_are in
+        MatchResult result (λ form. said_is
+        ≡ Ok (form_seen form (sizes_of (size_fields fields_are))))
         (λ reason. said_is ≡ Err reason) }
+    ensures sizes { IfOk result (λ form.
+        list_all is_size (size_fields (map (λ field. field.now) fields.now)) ≡ true) }
 {
-    let label = reading_of(fields, words, locks)?;
-    if has_target(earlier, label.target) {
-        return Err(taken(label.target));
+    let form = reading_of(fields, words, locks)?;
+    if has_target(earlier, form.target) {
+        return Err(taken(form.target));
     }
-    if has_name(earlier, label.name) {
+    if has_name(earlier, form.name) {
         return Err(Reason::NameTaken);
     }
-    Ok(label)
+    Ok(form)
 }
 
 // Whether one of these labels has a word or a lock of this target.
@@ -125,14 +156,19 @@ pub fn has_name(labels: &[Label<'_>], name: &[u8]) -> bool
     labels.iter().any(|label| label.name == name)
 }
 
-// Whether two targets are one lock, or have a word in common.
+// Whether two targets have a word or a lock in common.
 fn meets(one: Target, other: Target) -> bool
     ensures { result ≡ meets one other }
 {
-    match (one, other) {
-        (Target::Lock(_), Target::Lock(_)) => overlap(one, other),
-        (Target::Lock(_), _) | (_, Target::Lock(_)) => false,
-        _ => overlap(one, other),
+    is_lock(one) == is_lock(other) && overlap(one, other)
+}
+
+fn is_lock(target: Target) -> bool
+    ensures { result ≡ is_lock target }
+{
+    match target {
+        Target::Lock(_) | Target::Locks(..) => true,
+        Target::Word(_) | Target::Words(..) => false,
     }
 }
 
@@ -150,6 +186,7 @@ fn first_of(target: Target) -> u32
         Target::Word(word) => word,
         Target::Words(first, _) => first,
         Target::Lock(lock) => u32::from(lock),
+        Target::Locks(first, _) => u32::from(first),
     }
 }
 
@@ -160,6 +197,7 @@ fn last_of(target: Target) -> u32
         Target::Word(word) => word,
         Target::Words(_, last) => last,
         Target::Lock(lock) => u32::from(lock),
+        Target::Locks(_, last) => u32::from(last),
     }
 }
 
@@ -167,8 +205,9 @@ fn last_of(target: Target) -> u32
 fn taken(target: Target) -> Reason
     ensures { result ≡ taken target }
 {
-    match target {
-        Target::Lock(_) => Reason::LockTaken,
-        _ => Reason::WordTaken,
+    if is_lock(target) {
+        Reason::LockTaken
+    } else {
+        Reason::WordTaken
     }
 }

@@ -45,7 +45,7 @@ hint_words hints.AndOr = codes "there is no sign for and, or: of comparisons, `(
 hint_words hints.Not = codes "not equal is `!=`, and not A is `(A) == 0`"
 hint_words hints.NoTexts = codes "there are no texts: print takes a number"
 hint_words hints.Ascii = codes "only comments may have characters that are not ASCII"
-hint_words hints.Header = codes "a program begins with `words N; locks N;`"
+hint_words hints.Header = codes "a program begins with `words N; locks N;`, or with what it shares: `shared NAME;`"
 hint_words hints.Block = codes "behind the condition stands a block: `{ .. }`"
 hint_words hints.Comment = codes "a comment begins with `#`"
 hint_words hints.For = codes "there is no for: `i = 0; while i < N { .. i = i + 1; }`"

@@ -178,7 +178,8 @@ fn words_of(hint: Hint<'_>) -> &'static [u8]
         Hint::Not => b"not equal is `!=`, and not A is `(A) == 0`",
         Hint::NoTexts => b"there are no texts: print takes a number",
         Hint::Ascii => b"only comments may have characters that are not ASCII",
-        Hint::Header => b"a program begins with `words N; locks N;`",
+        Hint::Header =>
+            b"a program begins with `words N; locks N;`, or with what it shares: `shared NAME;`",
         Hint::Block => b"behind the condition stands a block: `{ .. }`",
         Hint::Comment => b"a comment begins with `#`",
         Hint::For => b"there is no for: `i = 0; while i < N { .. i = i + 1; }`",

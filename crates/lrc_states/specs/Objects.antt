@@ -1,10 +1,10 @@
 -- Objects of JSON: messages, labels, acts, and the last Write to a word.
-use Rattle.std.specs.Prelude.{ℕ, Bool, true, false, Option, None, Some, List, [], ◌++◌, codes, decimal}
+use Rattle.std.specs.Prelude.{ℕ, Bool, true, false, Option, None, Some, List, [], ◌∷◌, ◌++◌, codes, decimal}
 use Rattle.lrc_envelope.specs.Envelope.{EnvelopeRecord}
 use Rattle.lrc_protocol.specs.Run.{Input}
 use Rattle.lrc_protocol.specs.Run as log
 use Rattle.lrc_labels.specs.declared.label.Target.{Target}
-use Rattle.lrc_labels.specs.declared.label.Target.TheVariants.{Word, Words, Lock}
+use Rattle.lrc_labels.specs.declared.label.Target.TheVariants.{Word, Words, Lock, Locks}
 use Rattle.lrc_labels.specs.Reading.{first_of, Label, last_of}
 use Rattle.lrc_messages.specs.Lists.{separated}
 use Rattle.lrc_messages.specs.MessageText.{message_text}
@@ -39,11 +39,23 @@ unfoldable pub target_name : Target → List ℕ
 target_name (Word word) = codes "word"
 target_name (Words first last) = codes "words"
 target_name (Lock lock) = codes "lock"
+target_name (Locks first last) = codes "locks"
+
+abbrev pub target_members : Target → List ℕ
+target_members target =
+    codes "\"of\":\"" ++ target_name target ++ codes "\",\"from\":" ++ decimal (first_of target) ++ codes ",\"to\":" ++ decimal (last_of target)
+
+abbrev pub sizes_list : List ℕ → List ℕ
+sizes_list sizes = separated (codes ",") decimal sizes
+
+-- the sizes behind the first, where there are any
+abbrev pub sizes_member : List ℕ → List ℕ
+sizes_member [] = []
+sizes_member (size ∷ sizes) = codes ",\"sizes\":[" ++ sizes_list (size ∷ sizes) ++ codes "]"
 
 abbrev pub label_object : Label → List ℕ
 label_object label =
-    codes "{\"of\":\"" ++ target_name label.target ++ codes "\",\"from\":" ++ decimal (first_of label.target)
-    ++ codes ",\"to\":" ++ decimal (last_of label.target) ++ codes ",\"name\":\"" ++ label.name ++ codes "\"}"
+    codes "{" ++ target_members label.target ++ codes ",\"name\":\"" ++ label.name ++ codes "\"" ++ sizes_member label.sizes ++ codes "}"
 
 abbrev pub labels_list : List Label → List ℕ
 labels_list labels = separated (codes ",") label_object labels

@@ -1,9 +1,9 @@
 // Objects of JSON: messages, labels, acts, and the last Write to a word.
 
-ghost use Rattle.std.specs.Prelude.{◌≡◌, ◌++◌, OnOk, codes, map};
+ghost use Rattle.std.specs.Prelude.{◌≡◌, ◌++◌, OnOk, codes, decimal, map};
 ghost use Rattle.lrc_labels.specs.Reading.{first_of, label_seen, last_of};
 ghost use Rattle.lrc_messages.specs.Lists.{before};
-ghost use Rattle.lrc_states.specs.Objects.{act_object, act_or_null, label_object, labels_list, message_head, message_object, messages_list, note_head, note_object, notes_list, spot_members, target_name, truth_text};
+ghost use Rattle.lrc_states.specs.Objects.{act_object, act_or_null, label_object, labels_list, message_head, message_object, messages_list, note_head, note_object, notes_list, sizes_list, sizes_member, spot_members, target_members, target_name, truth_text};
 
 use lrc_envelope::Envelope;
 use lrc_labels::label::{Label, Target};
@@ -86,6 +86,7 @@ fn target_name(target: Target) -> &'static [u8]
         Target::Word(_) => b"word",
         Target::Words(..) => b"words",
         Target::Lock(_) => b"lock",
+        Target::Locks(..) => b"locks",
     }
 }
 
@@ -96,6 +97,7 @@ fn first_of(target: Target) -> u32
         Target::Word(word) => word,
         Target::Words(first, _) => first,
         Target::Lock(lock) => u32::from(lock),
+        Target::Locks(first, _) => u32::from(first),
     }
 }
 
@@ -106,22 +108,66 @@ fn last_of(target: Target) -> u32
         Target::Word(word) => word,
         Target::Words(_, last) => last,
         Target::Lock(lock) => u32::from(lock),
+        Target::Locks(_, last) => u32::from(last),
+    }
+}
+
+// Adds what a label names.
+fn push_target(text: &mut Vec<u8>, target: Target) -> Result<(), AllocError>
+    ensures { OnOk result (text.new.items ≡ text.old.items ++ target_members target) }
+{
+    text.extend_from_slice(b"\"of\":\"")?;
+    text.extend_from_slice(target_name(target))?;
+    push_number(text, b"\",\"from\":", u64::from(first_of(target)))?;
+    push_number(text, b",\"to\":", u64::from(last_of(target)))
+}
+
+// Adds a size at this place of a list.
+fn push_listed_size(text: &mut Vec<u8>, place: usize, size: u32) -> Result<(), AllocError>
+    ensures { OnOk result (text.new.items
+        ≡ text.old.items ++ before place (codes ",") ++ decimal size) }
+{
+    push_comma(text, place)?;
+    push_number(text, b"", u64::from(size))
+}
+
+// Adds sizes, separated by commas.
+fn push_listed_sizes(text: &mut Vec<u8>, sizes: &[u32]) -> Result<(), AllocError>
+    ensures { OnOk result (text.new.items ≡ text.old.items ++ sizes_list sizes.now) }
+{
+    for (place, size) in sizes.iter().enumerate() {
+        push_listed_size(text, place, *size)?;
+    }
+    Ok(())
+}
+
+// Adds the sizes of a label, if it has any.
+fn push_sizes(text: &mut Vec<u8>, sizes: &[u32]) -> Result<(), AllocError>
+    ensures { OnOk result (text.new.items ≡ text.old.items ++ sizes_member sizes.now) }
+{
+    match sizes {
+        [] => Ok(()),
+        [_first, ..] => {
+            text.extend_from_slice(b",\"sizes\":[")?;
+            push_listed_sizes(text, sizes)?;
+            text.extend_from_slice(b"]")
+        }
     }
 }
 
 // Adds a label at this place of a list.
-fn push_label(text: &mut Vec<u8>, place: usize, label: Label<'_>) -> Result<(), AllocError>
+fn push_label(text: &mut Vec<u8>, place: usize, label: &Label<'_>) -> Result<(), AllocError>
     ensures { OnOk result (text.new.items
-        ≡ text.old.items ++ before place (codes ",") ++ label_object (label_seen label.entry)) }
+        ≡ text.old.items ++ before place (codes ",") ++ label_object (label_seen label.now)) }
 {
     push_comma(text, place)?;
-    text.extend_from_slice(b"{\"of\":\"")?;
-    text.extend_from_slice(target_name(label.target))?;
-    push_number(text, b"\",\"from\":", u64::from(first_of(label.target)))?;
-    push_number(text, b",\"to\":", u64::from(last_of(label.target)))?;
+    text.extend_from_slice(b"{")?;
+    push_target(text, label.target)?;
     text.extend_from_slice(b",\"name\":\"")?;
     text.extend_from_slice(label.name)?;
-    text.extend_from_slice(b"\"}")
+    text.extend_from_slice(b"\"")?;
+    push_sizes(text, &label.sizes)?;
+    text.extend_from_slice(b"}")
 }
 
 /// Adds labels, separated by commas.
@@ -130,7 +176,7 @@ pub fn push_labels(text: &mut Vec<u8>, labels: &[Label<'_>]) -> Result<(), Alloc
         ≡ text.old.items ++ labels_list (map label_seen labels.now)) }
 {
     for (place, label) in labels.iter().enumerate() {
-        push_label(text, place, *label)?;
+        push_label(text, place, label)?;
     }
     Ok(())
 }

@@ -126,10 +126,17 @@ function raceName({ race }) { return race ? `race ${race}` : "race"; }
 
 const traps = ["", "division by zero", "word out of range", "lock out of range", "lock held already", "lock not held"];
 
+/** The indices of a word or of a lock under a label, by rows. */
+function placeOf({ of, from, sizes = [] }, number) {
+  if (!of.endsWith("s")) return "";
+  const indices = [];
+  let row = number - from;
+  for (const size of [...sizes].reverse()) { indices.unshift(row % size); row = Math.floor(row / size); }
+  return [row, ...indices].map(index => `[${index}]`).join("");
+}
 function labelled(kind, number) {
   const label = run.labels.find(({ of, from, to }) => of.startsWith(kind) && from <= number && number <= to);
-  const place = label?.of === "words" ? `[${number - label.from}]` : "";
-  return label ? `${kind} ${number} (${label.name}${place})` : `${kind} ${number}`;
+  return label ? `${kind} ${number} (${label.name}${placeOf(label, number)})` : `${kind} ${number}`;
 }
 /** A word's label alone, and the room that it takes above a column of values: at most that of nine signs. */
 function nameOf(word) { return / \((.*)\)$/.exec(labelled("word", word))?.[1] ?? ""; }

@@ -152,6 +152,45 @@ fn one_word_and_many(rt: HostRuntime) {
     holds(&rt, shows(rt.alloc(), b"words 1; locks 0;", 0, 0, b""));
 }
 
+const ARRAYS: &[u8] =
+    b"#: words 0 23 grid 3 4\n#: words 24 25 pair 1 2 1\n#: locks 1 4 fork 2\n#: locks 5 5 last\n";
+
+#[test]
+fn arrays_by_rows(rt: HostRuntime) {
+    holds(&rt, shows(rt.alloc(), ARRAYS, 0, 0, b" (grid[0][0][0])"));
+    holds(
+        &rt,
+        shows(rt.alloc(), ARRAYS, 11, 1, b" (grid[0][2][3]) (fork[0][0])"),
+    );
+    holds(
+        &rt,
+        shows(rt.alloc(), ARRAYS, 12, 4, b" (grid[1][0][0]) (fork[1][1])"),
+    );
+    holds(
+        &rt,
+        shows(rt.alloc(), ARRAYS, 25, 5, b" (pair[0][0][1][0]) (last[0])"),
+    );
+}
+
+const ROWS: &[u8] =
+    b"#: words 0 3 a 5\n#: words 0 3 b 0\n#: words 0 3 c 65537\n#: words 0 4 d 3\n#: locks 0 1 e 3\n#: locks 0 2 f\n#: locks 1 0 g\n#: words 0 3 h 65536 65536 65536 65536\n";
+
+const ROWS_IDLE: &[Idle] = &[
+    (1, 1, Reason::AnotherForm),
+    (2, 1, Reason::AnotherForm),
+    (3, 1, Reason::AnotherForm),
+    (4, 1, Reason::NoSuchWord),
+    (5, 1, Reason::AnotherForm),
+    (6, 1, Reason::NoSuchLock),
+    (7, 1, Reason::NoSuchLock),
+    (8, 1, Reason::AnotherForm),
+];
+
+#[test]
+fn rows_that_are_not_whole(rt: HostRuntime) {
+    holds(&rt, are_labels(rt.alloc(), ROWS, 4, 2, 0, ROWS_IDLE));
+}
+
 // A word and a lock behind names, and their labels as members of an object.
 fn numbered(alloc: Global, labels: &Labels<'_>) -> Result<Vec<u8>, AllocError> {
     let mut out = Vec::new(alloc);
