@@ -3,4 +3,6 @@ mod AnswerLemmas
 mod ByLine
 mod LocationLemmas
 mod Paths
+mod Reached
 mod SeekerLemmas
+mod StrictLemmas

@@ -6,3 +6,4 @@ pub mod Plays
 pub mod Reach
 pub mod Why
 pub mod Witness
+pub mod Strict

@@ -10,6 +10,7 @@ mod outcome;
 mod play;
 mod reasoning;
 mod seeker;
+mod strict;
 mod teller;
 mod witnessing;
 

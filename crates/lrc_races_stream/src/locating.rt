@@ -10,6 +10,7 @@ ghost use Rattle.lrc_races_stream.specs.Locations.{IsLocationsPlayed, IsReported
 
 use crate::answer::{Answer, Stop, conclude};
 use crate::seeker::Seeker;
+use crate::strict::seek;
 use lrc_races_locations::located::Located;
 use lrc_races_text::asked::{Layout, Sought};
 use lrc_races_text::fault::Fault;
@@ -22,26 +23,27 @@ use std::io::Write;
 
 /// Reports the pairs of locations that race of the trace in a file, in this form, when it has ended, and returns the exit
 /// status. The path `-` is standard input. The report goes to `out`. A fault goes to `err`, and then nothing goes to
-/// `out`.
+/// `out`. If `strict`, an event that no program would give is a fault.
 pub fn play_locations<F: Sources, W: Write, E: Write>(
     alloc: Global,
     path: &str,
     form: Form,
+    strict: bool,
     sought: Sought,
     layout: Layout,
     sources: &F,
     out: &mut W,
     err: &mut E,
 ) -> u8
-    ensures { IsLocationsPlayed (F.known sources.now) path.now form sought layout
+    ensures { IsLocationsPlayed (F.known sources.now) path.now form strict sought layout
         (W.contents out.old) (W.contents out.new) (E.contents err.old) (E.contents err.new) result }
 {
     if path == "-" {
         let trace = sources.open_input();
-        return tell_locations(alloc, form, sought, layout, trace, out, err);
+        return tell_locations(alloc, form, strict, sought, layout, trace, out, err);
     }
     match sources.open(path) {
-        Ok(trace) => tell_locations(alloc, form, sought, layout, trace, out, err),
+        Ok(trace) => tell_locations(alloc, form, strict, sought, layout, trace, out, err),
         Err(error) => refuse_file(&error, err),
     }
 }
@@ -50,18 +52,19 @@ pub fn play_locations<F: Sources, W: Write, E: Write>(
 fn tell_locations<B: Blocks + Drop, W: Write, E: Write>(
     alloc: Global,
     form: Form,
+    strict: bool,
     sought: Sought,
     layout: Layout,
     trace: B,
     out: &mut W,
     err: &mut E,
 ) -> u8
-    ensures { (answer : AnyAnswer) × Reports sought form layout (B.left trace) answer
+    ensures { (answer : AnyAnswer) × Reports strict sought form layout (B.left trace) answer
         × IsAnswerTold answer (W.contents out.old) (W.contents out.new)
         (E.contents err.old) (E.contents err.new) result }
 {
     let mut trace = trace;
-    let answer = report(alloc, form, sought, layout, &mut trace);
+    let answer = report(alloc, form, strict, sought, layout, &mut trace);
     conclude(alloc, answer, out, err)
 }
 
@@ -69,14 +72,15 @@ fn tell_locations<B: Blocks + Drop, W: Write, E: Write>(
 fn report<B: Blocks>(
     alloc: Global,
     form: Form,
+    strict: bool,
     sought: Sought,
     layout: Layout,
     trace: &mut B,
 ) -> Answer
-    ensures { Reports sought form layout (B.left trace.old) result }
+    ensures { Reports strict sought form layout (B.left trace.old) result }
 {
     match Seeker::new(alloc, form, u64::MAX, Located::new(alloc, sought)) {
-        Ok(seeker) => report_by(alloc, form, layout, seeker, trace),
+        Ok(seeker) => report_by(alloc, form, strict, layout, seeker, trace),
         Err(_error) => Answer::Stopped(Stop::Faulted(Fault::NoMemory)),
     }
 }
@@ -85,33 +89,36 @@ fn report<B: Blocks>(
 fn report_by<B: Blocks>(
     alloc: Global,
     form: Form,
+    strict: bool,
     layout: Layout,
     seeker: Seeker<Located>,
     trace: &mut B,
 ) -> Answer
     ensures { (sought : AnySought) (held : Held)
         → IsSeeking (IsLocated sought) form most_lines held (B.left trace.old) seeker.front
-        → Reports sought form layout held result }
+        → Reports strict sought form layout held result }
 {
     let mut seeker = seeker;
-    seek_report(alloc, form, layout, &mut seeker, trace)
+    seek_report(alloc, form, strict, layout, &mut seeker, trace)
 }
 
 fn seek_report<B: Blocks>(
     alloc: Global,
     form: Form,
+    strict: bool,
     layout: Layout,
     seeker: &mut Seeker<Located>,
     trace: &mut B,
 ) -> Answer
     ensures { (sought : AnySought) (held : Held)
         → IsSeeking (IsLocated sought) form most_lines held (B.left trace.old) seeker.old.front
-        → Reports sought form layout held result }
+        → Reports strict sought form layout held result }
 {
-    match seeker.seek(trace) {
+    match seek(alloc, strict, seeker, trace) {
         Ok(()) => Answer::Stopped(Stop::Faulted(Fault::NoMemory)),
         Err(Stop::Past(_lines)) => reported(alloc, form, layout, &seeker.front.kept),
         Err(Stop::Faulted(fault)) => Answer::Stopped(Stop::Faulted(fault)),
+        Err(Stop::IllFormed(ill)) => Answer::Stopped(Stop::IllFormed(ill)),
         Err(Stop::Unread(kind)) => Answer::Stopped(Stop::Unread(kind)),
     }
 }

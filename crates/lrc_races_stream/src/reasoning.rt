@@ -12,6 +12,7 @@ ghost use Rattle.lrc_races_stream.specs.Why.{IsExplained, IsStopAnswered, IsWhyP
 
 use crate::answer::{Answer, Stop, conclude};
 use crate::seeker::Seeker;
+use crate::strict::seek;
 use lrc_races_front::kept::Kept;
 use lrc_races_text::fault::Fault;
 use lrc_races_text::form::Form;
@@ -25,11 +26,12 @@ use std::io::Write;
 
 /// Says why the events on two lines of the trace in a file, in this form, are ordered, or that they race, or that
 /// neither is so, and returns the exit status. The path `-` is standard input. The answer goes to `out`. A fault goes to
-/// `err`, and then nothing goes to `out`.
+/// `err`, and then nothing goes to `out`. If `strict`, an event that no program would give is a fault.
 pub fn play_why<F: Sources, W: Write, E: Write>(
     alloc: Global,
     path: &str,
     form: Form,
+    strict: bool,
     first: u64,
     second: u64,
     sources: &F,
@@ -37,15 +39,15 @@ pub fn play_why<F: Sources, W: Write, E: Write>(
     err: &mut E,
 ) -> u8
     requires { first < second }
-    ensures { IsWhyPlayed (F.known sources.now) path.now form first second
+    ensures { IsWhyPlayed (F.known sources.now) path.now form strict first second
         (W.contents out.old) (W.contents out.new) (E.contents err.old) (E.contents err.new) result }
 {
     if path == "-" {
         let trace = sources.open_input();
-        return tell_why(alloc, form, first, second, trace, out, err);
+        return tell_why(alloc, form, strict, first, second, trace, out, err);
     }
     match sources.open(path) {
-        Ok(trace) => tell_why(alloc, form, first, second, trace, out, err),
+        Ok(trace) => tell_why(alloc, form, strict, first, second, trace, out, err),
         Err(error) => refuse_file(&error, err),
     }
 }
@@ -54,6 +56,7 @@ pub fn play_why<F: Sources, W: Write, E: Write>(
 fn tell_why<B: Blocks + Drop, W: Write, E: Write>(
     alloc: Global,
     form: Form,
+    strict: bool,
     first: u64,
     second: u64,
     trace: B,
@@ -61,22 +64,29 @@ fn tell_why<B: Blocks + Drop, W: Write, E: Write>(
     err: &mut E,
 ) -> u8
     requires { first < second }
-    ensures { (answer : AnyAnswer) × Reasons form (B.left trace) first second answer
+    ensures { (answer : AnyAnswer) × Reasons strict form (B.left trace) first second answer
         × IsAnswerTold answer (W.contents out.old) (W.contents out.new)
         (E.contents err.old) (E.contents err.new) result }
 {
     let mut trace = trace;
-    let answer = reason(alloc, form, first, second, &mut trace);
+    let answer = reason(alloc, form, strict, first, second, &mut trace);
     conclude(alloc, answer, out, err)
 }
 
 // Reads a trace in this form up to the later of two lines, and no further, and says why the events on them are ordered.
-fn reason<B: Blocks>(alloc: Global, form: Form, first: u64, second: u64, trace: &mut B) -> Answer
+fn reason<B: Blocks>(
+    alloc: Global,
+    form: Form,
+    strict: bool,
+    first: u64,
+    second: u64,
+    trace: &mut B,
+) -> Answer
     requires { first < second }
-    ensures { Reasons form (B.left trace.old) first second result }
+    ensures { Reasons strict form (B.left trace.old) first second result }
 {
     match Seeker::new(alloc, form, second, Kept::new(alloc)) {
-        Ok(seeker) => reason_by(alloc, form, first, second, seeker, trace),
+        Ok(seeker) => reason_by(alloc, form, strict, first, second, seeker, trace),
         Err(_error) => Answer::Stopped(Stop::Faulted(Fault::NoMemory)),
     }
 }
@@ -85,6 +95,7 @@ fn reason<B: Blocks>(alloc: Global, form: Form, first: u64, second: u64, trace: 
 fn reason_by<B: Blocks>(
     alloc: Global,
     form: Form,
+    strict: bool,
     first: u64,
     second: u64,
     seeker: Seeker<Kept>,
@@ -93,15 +104,16 @@ fn reason_by<B: Blocks>(
     requires ascending { first < second }
     requires begun { IsBegun second (B.left trace.old) seeker.front }
     ensures { (held : Held) → IsSeeking HasKept form second held (B.left trace.old) seeker.front
-        → Reasons form held first second result }
+        → Reasons strict form held first second result }
 {
     let mut seeker = seeker;
-    seek_reason(alloc, form, first, second, &mut seeker, trace)
+    seek_reason(alloc, form, strict, first, second, &mut seeker, trace)
 }
 
 fn seek_reason<B: Blocks>(
     alloc: Global,
     form: Form,
+    strict: bool,
     first: u64,
     second: u64,
     seeker: &mut Seeker<Kept>,
@@ -111,9 +123,9 @@ fn seek_reason<B: Blocks>(
     requires begun { IsBegun second (B.left trace.old) seeker.old.front }
     ensures { (held : Held)
         → IsSeeking HasKept form second held (B.left trace.old) seeker.old.front
-        → Reasons form held first second result }
+        → Reasons strict form held first second result }
 {
-    match seeker.seek(trace) {
+    match seek(alloc, strict, seeker, trace) {
         Ok(()) => explain(alloc, form, &seeker.front.kept, first, second),
         Err(stop) => stopped(&seeker.front.kept, first, stop),
     }

@@ -10,6 +10,7 @@ ghost use Rattle.lrc_races_stream.specs.Witness.{IsAnswered, IsWitnessPlayed, Wi
 
 use crate::answer::{Answer, Stop, conclude};
 use crate::seeker::Seeker;
+use crate::strict::seek;
 use lrc_races_front::kept::Kept;
 use lrc_races_text::fault::Fault;
 use lrc_races_text::form::Form;
@@ -22,11 +23,12 @@ use std::io::Write;
 
 /// Says whether the accesses on two lines of the trace in a file, in this form, are a sure race, and returns the exit
 /// status. If they are, the events that show it go to `out`, else the reason. A fault goes to `err`, and then nothing
-/// goes to `out`.
+/// goes to `out`. If `strict`, an event that no program would give is a fault.
 pub fn play_witness<F: Sources, W: Write, E: Write>(
     alloc: Global,
     path: &str,
     form: Form,
+    strict: bool,
     first: u64,
     second: u64,
     sources: &F,
@@ -34,13 +36,13 @@ pub fn play_witness<F: Sources, W: Write, E: Write>(
     err: &mut E,
 ) -> u8
     requires { first < second }
-    ensures { IsWitnessPlayed (F.known sources.now) path.now form first second
+    ensures { IsWitnessPlayed (F.known sources.now) path.now form strict first second
         (W.contents out.old) (W.contents out.new) (E.contents err.old) (E.contents err.new) result }
 {
     match sources.open(path) {
         Ok(trace) => {
             let mut trace = trace;
-            let outcome = witness(alloc, form, first, second, &mut trace);
+            let outcome = witness(alloc, form, strict, first, second, &mut trace);
             conclude(alloc, outcome, out, err)
         }
         Err(error) => refuse_file(&error, err),
@@ -49,12 +51,19 @@ pub fn play_witness<F: Sources, W: Write, E: Write>(
 
 // Reads a trace in this form up to the later of two lines, and no further, and says whether the accesses on them are a
 // sure race.
-fn witness<B: Blocks>(alloc: Global, form: Form, first: u64, second: u64, trace: &mut B) -> Answer
+fn witness<B: Blocks>(
+    alloc: Global,
+    form: Form,
+    strict: bool,
+    first: u64,
+    second: u64,
+    trace: &mut B,
+) -> Answer
     requires { first < second }
-    ensures { Witnesses form (B.left trace.old) first second result }
+    ensures { Witnesses strict form (B.left trace.old) first second result }
 {
     match Seeker::new(alloc, form, second, Kept::new(alloc)) {
-        Ok(seeker) => witness_by(alloc, first, second, seeker, trace),
+        Ok(seeker) => witness_by(alloc, strict, first, second, seeker, trace),
         Err(_error) => Answer::Stopped(Stop::Faulted(Fault::NoMemory)),
     }
 }
@@ -62,6 +71,7 @@ fn witness<B: Blocks>(alloc: Global, form: Form, first: u64, second: u64, trace:
 // Says so by what is read.
 fn witness_by<B: Blocks>(
     alloc: Global,
+    strict: bool,
     first: u64,
     second: u64,
     seeker: Seeker<Kept>,
@@ -71,14 +81,15 @@ fn witness_by<B: Blocks>(
     requires begun { IsBegun second (B.left trace.old) seeker.front }
     ensures { (form : AnyForm) (held : Held)
         → IsSeeking HasKept form second held (B.left trace.old) seeker.front
-        → Witnesses form held first second result }
+        → Witnesses strict form held first second result }
 {
     let mut seeker = seeker;
-    seek_witness(alloc, first, second, &mut seeker, trace)
+    seek_witness(alloc, strict, first, second, &mut seeker, trace)
 }
 
 fn seek_witness<B: Blocks>(
     alloc: Global,
+    strict: bool,
     first: u64,
     second: u64,
     seeker: &mut Seeker<Kept>,
@@ -88,9 +99,9 @@ fn seek_witness<B: Blocks>(
     requires begun { IsBegun second (B.left trace.old) seeker.old.front }
     ensures { (form : AnyForm) (held : Held)
         → IsSeeking HasKept form second held (B.left trace.old) seeker.old.front
-        → Witnesses form held first second result }
+        → Witnesses strict form held first second result }
 {
-    match seeker.seek(trace) {
+    match seek(alloc, strict, seeker, trace) {
         Ok(()) => answer(alloc, &seeker.front.kept, first, second),
         Err(stop) => Answer::Stopped(stop),
     }

@@ -116,7 +116,12 @@ is_grouped Locations = false
 
 -- what they ask of the trace
 abbrev pub asked_of : Racing → Asked
-asked_of racing = record { sought = sought_of racing.sure; group = is_grouped racing.grouping; layout = layout_of racing.json }
+asked_of racing = record {
+  sought = sought_of racing.sure;
+  group = is_grouped racing.grouping;
+  layout = layout_of racing.json;
+  strict = racing.strict;
+}
 
 -- What comes of a trace whose races are asked for: they are told as it is read, or its pairs of locations when it has ended.
 abbrev pub IsRacingTold : Known → Racing → Grouping → Option (List ℕ) → Option (List ℕ) → Option (List ℕ) → Option (List ℕ) → ℕ → Type 0
@@ -125,7 +130,7 @@ IsRacingTold known racing Each out out' err err' status =
 IsRacingTold known racing Groups out out' err err' status =
     IsRacesPlayed known racing.file.now (form_of racing.form) (asked_of racing) out out' err err' status
 IsRacingTold known racing Locations out out' err err' status =
-    IsLocationsPlayed known racing.file.now (form_of racing.form) (sought_of racing.sure) (layout_of racing.json) out out' err err' status
+    IsLocationsPlayed known racing.file.now (form_of racing.form) racing.strict (sought_of racing.sure) (layout_of racing.json) out out' err err' status
 
 -- What comes of the words: they ask for nothing, and nothing is printed, or what comes of the topic, the trace or the choice that they
 -- ask for.
@@ -136,11 +141,11 @@ pub data Plays (known : Known) (words : List Text) (out out' err err' : Option (
   raced : (racing : Racing) → Chooses words (Ok (Races racing))
       → IsRacingTold known racing racing.grouping out out' err err' status → Plays known words out out' err err' status
   witnessed : (witnessing : Witnessing) → Chooses words (Ok (Witness witnessing))
-      → IsWitnessPlayed known witnessing.file.now (form_of witnessing.form) witnessing.lines.first witnessing.lines.second out out' err err' status
-      → Plays known words out out' err err' status
+      → IsWitnessPlayed known witnessing.file.now (form_of witnessing.form) witnessing.strict witnessing.lines.first witnessing.lines.second
+      out out' err err' status → Plays known words out out' err err' status
   reasoned : (reasoning : Reasoning) → Chooses words (Ok (Reasons reasoning))
-      → IsWhyPlayed known reasoning.file.now (form_of reasoning.form) reasoning.lines.first reasoning.lines.second out out' err err' status
-      → Plays known words out out' err err' status
+      → IsWhyPlayed known reasoning.file.now (form_of reasoning.form) reasoning.strict reasoning.lines.first reasoning.lines.second
+      out out' err err' status → Plays known words out out' err err' status
   played : (choice : Choice) → Chooses words (Ok (Answer choice)) → IsPlayed known choice out out' err err' status
       → Plays known words out out' err err' status
 

@@ -1,12 +1,12 @@
 -- Nothing is read yet.
 use Rattle.lrc_races_locations.specs.Lines.{IsLocated}
 use Rattle.lrc_races_stream.specs.Locations.{most_lines, stopped}
-use Rattle.lrc_races_stream.specs.Reach.{exhausted}
+use Rattle.lrc_races_stream.specs.Reach.{out_of_memory}
 use Rattle.lrc_races_stream.proofs.SeekerLemmas.{seeking_first}
 use Rattle.lrc_races_stream.proofs.locating.report.Goals as goal
 
 pub returns-in-Err : goal.returns-in-Err
-returns-in-Err g c = stopped c.new.result exhausted tt
+returns-in-Err g c = stopped c.new.result out_of_memory tt
 
 pub returns-in-Ok : goal.returns-in-Ok
 returns-in-Ok g c =

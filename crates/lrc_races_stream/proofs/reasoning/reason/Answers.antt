@@ -1,13 +1,13 @@
 -- Nothing is read yet.
 use Rattle.lrc_races_text.specs.declared.asked.Sought.TheVariants.{AllRaces}
 use Rattle.lrc_races_front.specs.Kept.{HasKept}
-use Rattle.lrc_races_stream.specs.Reach.{exhausted}
+use Rattle.lrc_races_stream.specs.Reach.{out_of_memory}
 use Rattle.lrc_races_stream.specs.Why.{stopped}
 use Rattle.lrc_races_stream.proofs.SeekerLemmas.{seeking_first}
 use Rattle.lrc_races_stream.proofs.reasoning.reason.Goals as goal
 
 pub returns-in-Err : goal.returns-in-Err
-returns-in-Err g c = stopped c.new.result exhausted (λ never. absurd never)
+returns-in-Err g c = stopped c.new.result out_of_memory (λ never. absurd never)
 
 pub reason_by-requires-clause-begun : goal.reason_by-requires-clause-begun
 reason_by-requires-clause-begun g c =

@@ -7,7 +7,7 @@ use Rattle.lrc_races_stream.proofs.witnessing.play_witness.Goals as goal
 
 pub returns-in-Ok : goal.returns-in-Ok
 returns-in-Ok g c =
-    played c.witness-outcome.result (subst (λ (held : Held). Witnesses c.args.form held c.args.first c.args.second c.witness-outcome.result)
+    played c.witness-outcome.result (subst (λ (held : Held). Witnesses c.args.strict c.args.form held c.args.first c.args.second c.witness-outcome.result)
     c.in-Ok.ensures.ok c.witness-outcome.ensures) c.conclude.ensures
 
 pub returns-in-Err : goal.returns-in-Err

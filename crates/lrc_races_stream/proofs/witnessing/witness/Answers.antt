@@ -1,13 +1,13 @@
 -- Nothing is read yet.
 use Rattle.lrc_races_text.specs.declared.asked.Sought.TheVariants.{AllRaces}
 use Rattle.lrc_races_front.specs.Kept.{HasKept}
-use Rattle.lrc_races_stream.specs.Reach.{exhausted}
+use Rattle.lrc_races_stream.specs.Reach.{out_of_memory}
 use Rattle.lrc_races_stream.specs.Witness.{stopped}
 use Rattle.lrc_races_stream.proofs.SeekerLemmas.{seeking_first}
 use Rattle.lrc_races_stream.proofs.witnessing.witness.Goals as goal
 
 pub returns-in-Err : goal.returns-in-Err
-returns-in-Err g c = stopped c.new.result exhausted
+returns-in-Err g c = stopped c.new.result out_of_memory
 
 pub witness_by-requires-clause-begun : goal.witness_by-requires-clause-begun
 witness_by-requires-clause-begun g c =
