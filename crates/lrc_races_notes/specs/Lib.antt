@@ -1,0 +1,3 @@
+pub mod Noter
+pub mod Notes
+pub mod Signs
