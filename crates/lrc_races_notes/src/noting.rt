@@ -1,8 +1,8 @@
 // What is kept of the lines of a trace, and what is to be noted of them.
-ghost use Rattle.std.specs.Prelude.{ℕ, List, [], ◌×◌};
+ghost use Rattle.std.specs.Prelude.{[]};
 ghost use Rattle.lrc_races_text.specs.declared.asked.Sought.{Sought as AnySought};
 ghost use Rattle.lrc_races_text.specs.declared.form.Form.{Form as AnyForm};
-ghost use Rattle.lrc_races_notes.specs.Noter.{HasNoted};
+ghost use Rattle.lrc_races_notes.specs.Noting.{HasBoth};
 
 use crate::noter::Noter;
 use lrc_races_front::keeping::Keep;
@@ -20,7 +20,7 @@ impl<K: Keep> Noting<K> {
     /// Notes nothing yet, where `kept` is kept of no line.
     pub fn new(kept: K) -> Noting<K>
         ensures { (sought : AnySought) (form : AnyForm) → K.has_kept sought form [] kept
-            → K.has_kept sought form [] result.kept × HasNoted form [] result.noter }
+            → HasBoth K.has_kept sought form [] result }
     {
         Noting {
             kept,
@@ -30,7 +30,7 @@ impl<K: Keep> Noting<K> {
 }
 
 impl<K: Keep> Keep for Noting<K> {
-    ghost has_kept = { λ sought form lines noting. K.has_kept sought form lines noting.kept × HasNoted form lines noting.noter };
+    ghost has_kept = { HasBoth K.has_kept };
 
     fn take(&mut self, form: Form, line: &[u8], number: u64) -> Result<(), Fault> {
         match self.kept.take(form, line, number) {

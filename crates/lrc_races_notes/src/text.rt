@@ -21,11 +21,7 @@ fn push_mark(text: &mut Vec<u8>, told: bool, marked: bool) -> Result<(), AllocEr
     Ok(())
 }
 
-fn push_blank(
-    text: &mut Vec<u8>,
-    told: Option<u64>,
-    blank: Option<u64>,
-) -> Result<(), AllocError>
+fn push_blank(text: &mut Vec<u8>, told: Option<u64>, blank: Option<u64>) -> Result<(), AllocError>
     ensures { OnOk result (text.new.items ≡ text.old.items ++ more_blank told blank) }
 {
     match (told, blank) {

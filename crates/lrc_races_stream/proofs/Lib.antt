@@ -6,3 +6,5 @@ mod Paths
 mod Reached
 mod SeekerLemmas
 mod StrictLemmas
+mod KnownLemmas
+mod NotedLemmas

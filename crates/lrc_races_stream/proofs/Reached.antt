@@ -84,7 +84,7 @@ module _ {K : Type 0} (Has : Keeping K) (form : Form) (held left : Held) (last :
   of_end (BadEvent number why) has b = of_last number why b.lines b.rest b.cut b.few b.bad
   of_end NoMemory has b = absurd (has tt)
 
-  of_unread : (lines : List (List ℕ)) (rest : List ℕ) → IsCut bytes lines rest → AreFirst held lines
+  pub of_unread : (lines : List (List ℕ)) (rest : List ℕ) → IsCut bytes lines rest → AreFirst held lines
   of_unread lines rest is_cut = some bytes left [] rest read (subst (λ ls. IsCut bytes ls rest) (sym (append-nil lines)) is_cut)
 
 pub reached : {K : Type 0} (Has : Keeping K) (form : Form) (last : ℕ) (held : Held) (kept : K) (stop : Stop) → IsStop Has form last held kept stop

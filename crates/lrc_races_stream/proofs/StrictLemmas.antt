@@ -84,6 +84,18 @@ located_tells located fault (Ok ill) finds any sought form lines h =
     tells form lines h.said (naming_of located.names) k.events ill h.says (record { names = k.naming; numbered = k.are })
     (fault, finds k.events (length k.events) looked, any)
 
+-- ---- where strictness is asked for, or is not
+
+pub lenient : {K : Type 0} (strict : Bool) (Has : Sought → Keeping K) (kept : K) → strict ≡ false → HasNone strict Has kept
+lenient strict Has kept not sought form lines has is = let never : ⊥ = cc in absurd never
+
+pub found_none : {K : Type 0} (strict : Bool) (Has : Sought → Keeping K) (kept : K) → TellsIll Has kept None → HasNone strict Has kept
+found_none strict Has kept told sought form lines has is = told sought form lines has
+
+pub found_ill : {K : Type 0} (strict : Bool) (Has : Sought → Keeping K) (kept : K) (ill : Ill) → strict ≡ true → TellsIll Has kept (Some ill)
+    → IsIllFound strict Has kept (IllFormed ill)
+found_ill strict Has kept ill is told = (is, told)
+
 -- ---- where no more is read
 
 module _ {K : Type 0} (strict : Bool) (Has : Sought → Keeping K) (sought : Sought) (form : Form) (last : ℕ) (held : Held) (kept : K) where

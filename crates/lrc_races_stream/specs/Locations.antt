@@ -12,6 +12,7 @@ use Rattle.lrc_races_locations.specs.declared.located.Located.{Located}
 use Rattle.lrc_shell_sources.specs.Known.{Held, IsCause, Known}
 use Rattle.lrc_shell_sources.specs.Lines.{IsTold as IsSaid, read_line}
 use Rattle.lrc_races_stream.specs.Answer.{IsAnswerTold}
+use Rattle.lrc_races_stream.specs.Noted.{Notes}
 use Rattle.lrc_races_stream.specs.Plays.{IsNamed}
 use Rattle.lrc_races_stream.specs.Reach.{AreAll, ArePermitted, IsHalt}
 use Rattle.lrc_races_stream.specs.declared.answer.Answer.{Answer}
@@ -51,5 +52,6 @@ pub data IsLocationsPlayed (known : Known) (path : List ℕ) (form : Form) (stri
     (out out' err err' : Option (List ℕ)) (status : ℕ) : Type 0 where
   unopened : (kind : ErrorKind) → path ≢ codes "-" → IsCause (known.files path) kind → IsSaid err err' (read_line kind) → Keeps out out'
       → status ≡ 1 → IsLocationsPlayed known path form strict sought layout out out' err err' status
-  played : (held : Held) (answer : Answer) → IsNamed known path held → Reports strict sought form layout held answer
-      → IsAnswerTold answer out out' err err' status → IsLocationsPlayed known path form strict sought layout out out' err err' status
+  played : (held : Held) (answer : Answer) (mid : Option (List ℕ)) → IsNamed known path held → Reports strict sought form layout held answer
+      → Notes form held most_lines answer err mid → IsAnswerTold answer out out' mid err' status
+      → IsLocationsPlayed known path form strict sought layout out out' err err' status

@@ -12,6 +12,8 @@ use Rattle.lrc_races_front.specs.Kept.{HasKept}
 use Rattle.lrc_races_front.specs.declared.kept.Kept.{Kept}
 use Rattle.lrc_races_front.specs.Steps.{Fails, Stops}
 use Rattle.lrc_races_front.specs.declared.front.Front.{Front}
+use Rattle.lrc_races_notes.specs.Noting.{KeepsBoth}
+use Rattle.lrc_races_notes.specs.declared.noting.Noting.{Noting}
 use Rattle.lrc_shell_sources.specs.Known.{Held, IsAtEnd, IsCause, IsReadOff}
 use Rattle.lrc_races_stream.specs.declared.answer.Stop.{Stop}
 use Rattle.lrc_races_stream.specs.declared.answer.Stop.TheVariants.{Past, Faulted, IllFormed, Unread}
@@ -102,5 +104,5 @@ abbrev pub HasComeWell : {K : Type 0} → Bool → Keeping K → Form → ℕ �
 HasComeWell strict Has form last held kept = (come : HasCome Has form last held kept) × ArePermitted strict form come.lines
 
 -- in some form, the first bytes of what some file holds are read
-abbrev pub IsBegun : ℕ → Held → Front Kept → Type 0
-IsBegun last left front = (form : Form) × (held : Held) × IsSeeking HasKept form last held left front
+abbrev pub IsBegun : ℕ → Held → Front (Noting Kept) → Type 0
+IsBegun last left front = (form : Form) × (held : Held) × IsSeeking (KeepsBoth HasKept) form last held left front

@@ -16,6 +16,7 @@ use Rattle.lrc_races_why.specs.declared.answer.Outcome.TheVariants as outcomes
 use Rattle.lrc_shell_sources.specs.Known.{Held, IsCause, Known}
 use Rattle.lrc_shell_sources.specs.Lines.{IsTold, read_line}
 use Rattle.lrc_races_stream.specs.Answer.{IsAnswerTold}
+use Rattle.lrc_races_stream.specs.Noted.{Notes}
 use Rattle.lrc_races_stream.specs.Plays.{IsNamed}
 use Rattle.lrc_races_stream.specs.Reach.{AreFirst, ArePermitted, ArePermittedTo, IsBehind, IsHalt}
 use Rattle.lrc_races_stream.specs.declared.answer.Answer.{Answer}
@@ -78,5 +79,6 @@ pub data IsWhyPlayed (known : Known) (path : List ℕ) (form : Form) (strict : B
     (status : ℕ) : Type 0 where
   unopened : (kind : ErrorKind) → path ≢ codes "-" → IsCause (known.files path) kind → IsTold err err' (read_line kind) → Keeps out out'
       → status ≡ 1 → IsWhyPlayed known path form strict first second out out' err err' status
-  played : (held : Held) (answer : Answer) → IsNamed known path held → Reasons strict form held first second answer
-      → IsAnswerTold answer out out' err err' status → IsWhyPlayed known path form strict first second out out' err err' status
+  played : (held : Held) (answer : Answer) (mid : Option (List ℕ)) → IsNamed known path held → Reasons strict form held first second answer
+      → Notes form held second answer err mid → IsAnswerTold answer out out' mid err' status
+      → IsWhyPlayed known path form strict first second out out' err err' status

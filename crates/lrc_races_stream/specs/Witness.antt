@@ -15,6 +15,7 @@ use Rattle.lrc_races_witness.specs.Answer.{IsAnswered as IsAnsweredOf}
 use Rattle.lrc_shell_sources.specs.Known.{Held, IsCause, Known}
 use Rattle.lrc_shell_sources.specs.Lines.{IsTold, read_line}
 use Rattle.lrc_races_stream.specs.Answer.{IsAnswerTold}
+use Rattle.lrc_races_stream.specs.Noted.{Notes}
 use Rattle.lrc_races_stream.specs.Reach.{AreFirst, ArePermitted, IsHalt}
 use Rattle.lrc_races_stream.specs.declared.answer.Answer.{Answer}
 use Rattle.lrc_races_stream.specs.declared.answer.Answer.TheVariants.{Answered, Stopped}
@@ -50,5 +51,6 @@ pub data IsWitnessPlayed (known : Known) (path : List ℕ) (form : Form) (strict
     (status : ℕ) : Type 0 where
   unopened : (kind : ErrorKind) → IsCause (known.files path) kind → IsTold err err' (read_line kind) → Keeps out out' → status ≡ 1
       → IsWitnessPlayed known path form strict first second out out' err err' status
-  played : (answer : Answer) → Witnesses strict form (known.files path) first second answer → IsAnswerTold answer out out' err err' status
+  played : (answer : Answer) (mid : Option (List ℕ)) → Witnesses strict form (known.files path) first second answer
+      → Notes form (known.files path) second answer err mid → IsAnswerTold answer out out' mid err' status
       → IsWitnessPlayed known path form strict first second out out' err err' status

@@ -6,6 +6,7 @@
 mod answer;
 mod lines;
 mod locating;
+mod noted;
 mod outcome;
 mod play;
 mod reasoning;

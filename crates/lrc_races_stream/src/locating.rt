@@ -3,15 +3,20 @@
 ghost use Rattle.lrc_races_text.specs.declared.asked.Sought.{Sought as AnySought};
 ghost use Rattle.lrc_races_locations.specs.Lines.{IsLocated};
 ghost use Rattle.lrc_shell_sources.specs.Known.{Held};
+ghost use Rattle.std.specs.Prelude.{ℕ, List, Option};
+ghost use Rattle.lrc_races_notes.specs.Noting.{KeepsBoth};
+ghost use Rattle.lrc_races_stream.specs.Noted.{IsKnown, Notes};
 ghost use Rattle.lrc_races_stream.specs.Reach.{IsSeeking};
 ghost use Rattle.lrc_races_stream.specs.Answer.{IsAnswerTold};
 ghost use Rattle.lrc_races_stream.specs.declared.answer.Answer.{Answer as AnyAnswer};
 ghost use Rattle.lrc_races_stream.specs.Locations.{IsLocationsPlayed, IsReported, Reports, most_lines};
 
 use crate::answer::{Answer, Stop, conclude};
+use crate::noted::note;
 use crate::seeker::Seeker;
 use crate::strict::seek;
 use lrc_races_locations::located::Located;
+use lrc_races_notes::noting::Noting;
 use lrc_races_text::asked::{Layout, Sought};
 use lrc_races_text::fault::Fault;
 use lrc_races_text::form::Form;
@@ -60,46 +65,58 @@ fn tell_locations<B: Blocks + Drop, W: Write, E: Write>(
     err: &mut E,
 ) -> u8
     ensures { (answer : AnyAnswer) × Reports strict sought form layout (B.left trace) answer
+        × ((mid : Option (List ℕ)) × Notes form (B.left trace) most_lines answer (E.contents err.old) mid
         × IsAnswerTold answer (W.contents out.old) (W.contents out.new)
-        (E.contents err.old) (E.contents err.new) result }
+        mid (E.contents err.new) result) }
 {
     let mut trace = trace;
-    let answer = report(alloc, form, strict, sought, layout, &mut trace);
+    let answer = report(alloc, form, strict, sought, layout, &mut trace, err);
     conclude(alloc, answer, out, err)
 }
 
 // Reads a trace in this form to its end, and reports its pairs of locations.
-fn report<B: Blocks>(
+fn report<B: Blocks, E: Write>(
     alloc: Global,
     form: Form,
     strict: bool,
     sought: Sought,
     layout: Layout,
     trace: &mut B,
+    err: &mut E,
 ) -> Answer
-    ensures { Reports strict sought form layout (B.left trace.old) result }
+    ensures answer { Reports strict sought form layout (B.left trace.old) result }
+    ensures notes { Notes form (B.left trace.old) most_lines result
+        (E.contents err.old) (E.contents err.new) }
 {
-    match Seeker::new(alloc, form, u64::MAX, Located::new(alloc, sought)) {
-        Ok(seeker) => report_by(alloc, form, strict, layout, seeker, trace),
+    match Seeker::new(
+        alloc,
+        form,
+        u64::MAX,
+        Noting::new(Located::new(alloc, sought)),
+    ) {
+        Ok(seeker) => report_by(alloc, form, strict, layout, seeker, trace, err),
         Err(_error) => Answer::Stopped(Stop::Faulted(Fault::NoMemory)),
     }
 }
 
 // Reports them by what is read.
-fn report_by<B: Blocks>(
+fn report_by<B: Blocks, E: Write>(
     alloc: Global,
     form: Form,
     strict: bool,
     layout: Layout,
-    seeker: Seeker<Located>,
+    seeker: Seeker<Noting<Located>>,
     trace: &mut B,
+    err: &mut E,
 ) -> Answer
     ensures { (sought : AnySought) (held : Held)
-        → IsSeeking (IsLocated sought) form most_lines held (B.left trace.old) seeker.front
-        → Reports strict sought form layout held result }
+        → IsSeeking (KeepsBoth (IsLocated sought)) form most_lines held (B.left trace.old) seeker.front
+        → Reports strict sought form layout held result
+        × Notes form held most_lines result (E.contents err.old) (E.contents err.new) }
 {
     let mut seeker = seeker;
-    seek_report(alloc, form, strict, layout, &mut seeker, trace)
+    let answer = seek_report(alloc, form, strict, layout, &mut seeker, trace);
+    note(alloc, answer, seeker.front.kept.noter, err)
 }
 
 fn seek_report<B: Blocks>(
@@ -107,16 +124,17 @@ fn seek_report<B: Blocks>(
     form: Form,
     strict: bool,
     layout: Layout,
-    seeker: &mut Seeker<Located>,
+    seeker: &mut Seeker<Noting<Located>>,
     trace: &mut B,
 ) -> Answer
     ensures { (sought : AnySought) (held : Held)
-        → IsSeeking (IsLocated sought) form most_lines held (B.left trace.old) seeker.old.front
-        → Reports strict sought form layout held result }
+        → IsSeeking (KeepsBoth (IsLocated sought)) form most_lines held (B.left trace.old) seeker.old.front
+        → Reports strict sought form layout held result
+        × IsKnown form held most_lines seeker.new.front.kept.noter result }
 {
     match seek(alloc, strict, seeker, trace) {
         Ok(()) => Answer::Stopped(Stop::Faulted(Fault::NoMemory)),
-        Err(Stop::Past(_lines)) => reported(alloc, form, layout, &seeker.front.kept),
+        Err(Stop::Past(_lines)) => reported(alloc, form, layout, &seeker.front.kept.kept),
         Err(Stop::Faulted(fault)) => Answer::Stopped(Stop::Faulted(fault)),
         Err(Stop::IllFormed(ill)) => Answer::Stopped(Stop::IllFormed(ill)),
         Err(Stop::Unread(kind)) => Answer::Stopped(Stop::Unread(kind)),

@@ -5,15 +5,19 @@ ghost use Rattle.lrc_races_why.specs.Answers.{HasEvent};
 ghost use Rattle.lrc_races_witness.specs.Relations.{AreByLine};
 ghost use Rattle.lrc_races_front.specs.Kept.{HasKept};
 ghost use Rattle.lrc_shell_sources.specs.Known.{Held};
+ghost use Rattle.lrc_races_notes.specs.Noting.{KeepsBoth};
+ghost use Rattle.lrc_races_stream.specs.Noted.{IsKnown, Notes};
 ghost use Rattle.lrc_races_stream.specs.Reach.{IsBegun, IsSeeking};
 ghost use Rattle.lrc_races_stream.specs.Answer.{IsAnswerTold};
 ghost use Rattle.lrc_races_stream.specs.declared.answer.Answer.{Answer as AnyAnswer};
 ghost use Rattle.lrc_races_stream.specs.Why.{IsExplained, IsStopAnswered, IsWhyPlayed, Reasons};
 
 use crate::answer::{Answer, Stop, conclude};
+use crate::noted::note;
 use crate::seeker::Seeker;
 use crate::strict::seek;
 use lrc_races_front::kept::Kept;
+use lrc_races_notes::noting::Noting;
 use lrc_races_text::fault::Fault;
 use lrc_races_text::form::Form;
 use lrc_races_trace::event::Event;
@@ -65,49 +69,57 @@ fn tell_why<B: Blocks + Drop, W: Write, E: Write>(
 ) -> u8
     requires { first < second }
     ensures { (answer : AnyAnswer) × Reasons strict form (B.left trace) first second answer
+        × ((mid : Option (List ℕ)) × Notes form (B.left trace) second answer (E.contents err.old) mid
         × IsAnswerTold answer (W.contents out.old) (W.contents out.new)
-        (E.contents err.old) (E.contents err.new) result }
+        mid (E.contents err.new) result) }
 {
     let mut trace = trace;
-    let answer = reason(alloc, form, strict, first, second, &mut trace);
+    let answer = reason(alloc, form, strict, first, second, &mut trace, err);
     conclude(alloc, answer, out, err)
 }
 
 // Reads a trace in this form up to the later of two lines, and no further, and says why the events on them are ordered.
-fn reason<B: Blocks>(
+fn reason<B: Blocks, E: Write>(
     alloc: Global,
     form: Form,
     strict: bool,
     first: u64,
     second: u64,
     trace: &mut B,
+    err: &mut E,
 ) -> Answer
     requires { first < second }
-    ensures { Reasons strict form (B.left trace.old) first second result }
+    ensures answer { Reasons strict form (B.left trace.old) first second result }
+    ensures notes { Notes form (B.left trace.old) second result
+        (E.contents err.old) (E.contents err.new) }
 {
-    match Seeker::new(alloc, form, second, Kept::new(alloc)) {
-        Ok(seeker) => reason_by(alloc, form, strict, first, second, seeker, trace),
+    match Seeker::new(alloc, form, second, Noting::new(Kept::new(alloc))) {
+        Ok(seeker) => reason_by(alloc, form, strict, first, second, seeker, trace, err),
         Err(_error) => Answer::Stopped(Stop::Faulted(Fault::NoMemory)),
     }
 }
 
 // Says so by what is read.
-fn reason_by<B: Blocks>(
+fn reason_by<B: Blocks, E: Write>(
     alloc: Global,
     form: Form,
     strict: bool,
     first: u64,
     second: u64,
-    seeker: Seeker<Kept>,
+    seeker: Seeker<Noting<Kept>>,
     trace: &mut B,
+    err: &mut E,
 ) -> Answer
     requires ascending { first < second }
     requires begun { IsBegun second (B.left trace.old) seeker.front }
-    ensures { (held : Held) → IsSeeking HasKept form second held (B.left trace.old) seeker.front
-        → Reasons strict form held first second result }
+    ensures { (held : Held)
+        → IsSeeking (KeepsBoth HasKept) form second held (B.left trace.old) seeker.front
+        → Reasons strict form held first second result
+        × Notes form held second result (E.contents err.old) (E.contents err.new) }
 {
     let mut seeker = seeker;
-    seek_reason(alloc, form, strict, first, second, &mut seeker, trace)
+    let answer = seek_reason(alloc, form, strict, first, second, &mut seeker, trace);
+    note(alloc, answer, seeker.front.kept.noter, err)
 }
 
 fn seek_reason<B: Blocks>(
@@ -116,18 +128,19 @@ fn seek_reason<B: Blocks>(
     strict: bool,
     first: u64,
     second: u64,
-    seeker: &mut Seeker<Kept>,
+    seeker: &mut Seeker<Noting<Kept>>,
     trace: &mut B,
 ) -> Answer
     requires ascending { first < second }
     requires begun { IsBegun second (B.left trace.old) seeker.old.front }
     ensures { (held : Held)
-        → IsSeeking HasKept form second held (B.left trace.old) seeker.old.front
-        → Reasons strict form held first second result }
+        → IsSeeking (KeepsBoth HasKept) form second held (B.left trace.old) seeker.old.front
+        → Reasons strict form held first second result
+        × IsKnown form held second seeker.new.front.kept.noter result }
 {
     match seek(alloc, strict, seeker, trace) {
-        Ok(()) => explain(alloc, form, &seeker.front.kept, first, second),
-        Err(stop) => stopped(&seeker.front.kept, first, stop),
+        Ok(()) => explain(alloc, form, &seeker.front.kept.kept, first, second),
+        Err(stop) => stopped(&seeker.front.kept.kept, first, stop),
     }
 }
 

@@ -1,9 +1,12 @@
 // The first lines of a trace of which, where strictness is asked for, an event that no program would give is a fault.
 
-ghost use Rattle.std.specs.Prelude.{ℕ, IfErr, IfOk, OnOk};
+ghost use Rattle.std.specs.Prelude.{◌≡◌, ℕ, IfErr, IfOk, OnOk, length};
 ghost use Rattle.lrc_races_text.specs.declared.asked.Sought.{Sought as AnySought};
 ghost use Rattle.lrc_races_text.specs.declared.form.Form.{Form as AnyForm};
 ghost use Rattle.lrc_shell_sources.specs.Known.{Held};
+ghost use Rattle.lrc_races_notes.specs.Noter.{HasNoted};
+ghost use Rattle.lrc_races_notes.specs.Noting.{HasBoth};
+ghost use Rattle.lrc_races_stream.specs.Noted.{IsKnownAt, IsOf};
 ghost use Rattle.lrc_races_stream.specs.Reach.{HasComeWell, IsHalt, IsSeeking, IsStop};
 ghost use Rattle.lrc_races_stream.specs.Strict.{HasNone, IsIllFound, TellsIll};
 
@@ -12,6 +15,7 @@ use crate::seeker::Seeker;
 use lrc_races_front::keeping::Keep;
 use lrc_races_front::kept::Kept;
 use lrc_races_locations::located::Located;
+use lrc_races_notes::noting::Noting;
 use lrc_races_text::fault::Fault;
 use lrc_races_text::ill::{Ill, first_ill, ill_if_any};
 use lrc_shell_sources::blocks::Blocks;
@@ -52,15 +56,18 @@ fn heed<K: Vet>(alloc: Global, strict: bool, kept: &K) -> Result<(), Stop>
 }
 
 // Finds it where no more lines are read for this. It comes before the reason for that.
-fn heed_stop<K: Vet>(alloc: Global, strict: bool, kept: &K, stop: Stop) -> Stop
-    ensures { (sought : AnySought) (form : AnyForm) (last : ℕ) (held : Held)
-        → IsStop (K.has_kept sought) form last held kept.now stop
-        → IsHalt strict (K.has_kept sought) form last held kept.now result }
+fn heed_stop<K: Vet>(alloc: Global, strict: bool, noting: &Noting<K>, stop: Stop) -> Stop
+    ensures halt { (sought : AnySought) (form : AnyForm) (last : ℕ) (held : Held)
+        → IsStop (HasBoth K.has_kept sought) form last held noting.now stop
+        → IsHalt strict (K.has_kept sought) form last held noting.now.kept result }
+    ensures known { (sought : AnySought) (form : AnyForm) (last : ℕ) (held : Held)
+        → IsStop (HasBoth K.has_kept sought) form last held noting.now stop
+        → IsKnownAt form held noting.now.noter result }
 {
     if stop.lacks_memory() {
         return stop;
     }
-    match heed(alloc, strict, kept) {
+    match heed(alloc, strict, &noting.kept) {
         Ok(()) => stop,
         Err(other) => other,
     }
@@ -71,18 +78,24 @@ fn heed_stop<K: Vet>(alloc: Global, strict: bool, kept: &K, stop: Stop) -> Stop
 pub(crate) fn seek<K: Vet + Drop, B: Blocks>(
     alloc: Global,
     strict: bool,
-    seeker: &mut Seeker<K>,
+    seeker: &mut Seeker<Noting<K>>,
     trace: &mut B,
 ) -> Result<(), Stop>
     ensures come { OnOk result ((sought : AnySought) (form : AnyForm) (last : ℕ) (held : Held)
-        → IsSeeking (K.has_kept sought) form last held (B.left trace.old) seeker.old.front
-        → HasComeWell strict (K.has_kept sought) form last held seeker.new.front.kept) }
+        → IsSeeking (HasBoth K.has_kept sought) form last held (B.left trace.old) seeker.old.front
+        → HasComeWell strict (K.has_kept sought) form last held seeker.new.front.kept.kept) }
+    ensures known { OnOk result ((sought : AnySought) (form : AnyForm) (last : ℕ) (held : Held)
+        → IsSeeking (HasBoth K.has_kept sought) form last held (B.left trace.old) seeker.old.front
+        → IsOf held (λ lines. length lines ≡ last) (λ lines. HasNoted form lines seeker.new.front.kept.noter)) }
     ensures halt { IfErr result (λ stop. (sought : AnySought) (form : AnyForm) (last : ℕ) (held : Held)
-        → IsSeeking (K.has_kept sought) form last held (B.left trace.old) seeker.old.front
-        → IsHalt strict (K.has_kept sought) form last held seeker.new.front.kept stop) }
+        → IsSeeking (HasBoth K.has_kept sought) form last held (B.left trace.old) seeker.old.front
+        → IsHalt strict (K.has_kept sought) form last held seeker.new.front.kept.kept stop) }
+    ensures known_halt { IfErr result (λ stop. (sought : AnySought) (form : AnyForm) (last : ℕ) (held : Held)
+        → IsSeeking (HasBoth K.has_kept sought) form last held (B.left trace.old) seeker.old.front
+        → IsKnownAt form held seeker.new.front.kept.noter stop) }
 {
     match seeker.seek(trace) {
-        Ok(()) => heed(alloc, strict, &seeker.front.kept),
+        Ok(()) => heed(alloc, strict, &seeker.front.kept.kept),
         Err(stop) => Err(heed_stop(alloc, strict, &seeker.front.kept, stop)),
     }
 }
