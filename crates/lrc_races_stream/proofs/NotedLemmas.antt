@@ -161,13 +161,13 @@ part_of form held last noter part (Stopped stop) is k = part_at form held last n
 pub new_notes : (noter : Noter) → noter ≡ record { marked = false; blank = None } → notes_of noter ≡ []
 new_notes noter is = ap notes_of is
 
-kept_appends : {err err' : Option (List ℕ)} → Keeps err err' → Appends err err' []
-kept_appends {None} keeps = tt
-kept_appends {Some bytes} {None} keeps = keeps
-kept_appends {Some bytes} {Some more} keeps = keeps ∙ sym (append-nil bytes)
+kept_appends : (err err' : Option (List ℕ)) → Keeps err err' → Appends err err' []
+kept_appends None err' keeps = tt
+kept_appends (Some bytes) None keeps = keeps
+kept_appends (Some bytes) (Some more) keeps = keeps ∙ sym (append-nil bytes)
 
 pub noted_so : {noter : Noter} {answer result : Answer} {err err' : Option (List ℕ)} (P : Answer → Type 0) (form : Form) (held : Held) (last : ℕ)
     → P (Stopped (Faulted faults.NoMemory)) → IsNotedBefore noter answer err err' result → P answer → IsKnown form held last noter answer
     → P result × Notes form held last result err err'
 noted_so P form held last lack (noted text so told) p known = (p, text, so form held last known, told)
-noted_so P form held last lack (lacking keeps) p known = (lack, [], refl, inl (kept_appends keeps))
+noted_so {err = err} {err' = err'} P form held last lack (lacking keeps) p known = (lack, [], refl, inl (kept_appends err err' keeps))
