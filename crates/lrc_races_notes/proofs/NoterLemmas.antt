@@ -1,10 +1,11 @@
 -- What is known of lines, line after line, and of the first of them.
 use Rattle.std.proofs.Common.{◌≡◌, ℕ, zero, suc, ◌+◌, ◌<◌, ◌≤◌, Bool, true, false, List, [], ◌∷◌, ◌++◌, length, take, sym, subst, refl, ◌∙◌, ap, arith, append_assoc, append-nil}
+use Rattle.std.specs.Bool.{OnTrue}
 use Rattle.std.specs.Prelude.{◌≢◌, ◌↔◌, IsTrue, Option, None, Some}
 use Rattle.lrc_races_text.specs.declared.form.Form.{Form}
 use Rattle.lrc_races_notes.specs.Signs.{IsBlankIn, IsMarkedIn}
-use Rattle.lrc_races_notes.specs.Notes.{AreNotes, HasNoBlank, IsBlankNote, IsFirstBlank, IsMarkNote, IsMarkedFirst, blank, marked, no_blank, unmarked}
-use Rattle.lrc_races_notes.specs.Noter.{HasNoted, IsBlankOf, IsMarkOf, blank_part, mark_part, more_blank, more_mark, more_notes, notes_of}
+use Rattle.lrc_races_notes.specs.Notes.{AreNotes, HasNoBlank, IsBlankNote, IsFirstBlank, IsMarkNote, IsMarkedFirst, first_blank, first_marked, none_blank, not_marked}
+use Rattle.lrc_races_notes.specs.Noter.{HasNoted, IsBlankOf, IsMarkOf, TellsBlank, TellsMark, blank_part, mark_part, more_blank, more_mark, more_notes, notes_of}
 use Rattle.lrc_races_notes.specs.declared.noter.Noter.{Noter}
 
 -- ---- one line more
@@ -95,12 +96,12 @@ none_take form (suc n) (l ∷ ls) none = (none.0, none_take form n ls none.1)
 -- ---- the text
 
 mark_is : (form : Form) (lines : List (List ℕ)) (is : Bool) → IsMarkOf form lines is → IsMarkNote form lines (mark_part is)
-mark_is form lines true h = marked (h.0 refl)
-mark_is form lines false h = unmarked (λ m. let e = h.1 m in let never : ⊥ = cc in never)
+mark_is form lines true h = first_marked (h.0 refl)
+mark_is form lines false h = not_marked (λ m. let e = h.1 m in let never : ⊥ = cc in never)
 
 blank_is : (form : Form) (lines : List (List ℕ)) (is : Option ℕ) → IsBlankOf form lines is → IsBlankNote form lines (blank_part is)
-blank_is form lines None h = no_blank h
-blank_is form lines (Some number) h = blank h
+blank_is form lines None h = none_blank h
+blank_is form lines (Some number) h = first_blank h
 
 pub notes_are : (form : Form) (lines : List (List ℕ)) (noter : Noter) → HasNoted form lines noter → AreNotes form lines (notes_of noter)
 notes_are form lines noter h = record {
@@ -112,54 +113,6 @@ notes_are form lines noter h = record {
 }
 
 -- ---- the text of what is known more
-
-mark_stays : (form : Form) (lines more : List (List ℕ)) → IsMarkedFirst form lines → IsMarkedFirst form (lines ++ more)
-mark_stays form [] more m = absurd m
-mark_stays form (l ∷ ls) more m = m
-
-no_first : (form : Form) (before : List (List ℕ)) (line : List ℕ) (after : List (List ℕ)) → HasNoBlank form (before ++ line ∷ after)
-    → IsBlankIn form line → ⊥
-no_first form [] line after none is = none.0 is
-no_first form (b ∷ bs) line after none is = no_first form bs line after none.1 is
-
-one_first : (form : Form) (before befores : List (List ℕ)) (line other : List ℕ) (after afters : List (List ℕ))
-    → before ++ line ∷ after ≡ befores ++ other ∷ afters → HasNoBlank form before → HasNoBlank form befores → IsBlankIn form line → IsBlankIn form other
-    → length before ≡ length befores
-one_first form [] [] line other after afters e n m is so = refl
-one_first form [] (b ∷ bs) line other after afters e n m is so =
-    let same : line ≡ b = cc in
-    absurd (m.0 (subst (IsBlankIn form) same is))
-one_first form (b ∷ bs) [] line other after afters e n m is so =
-    let same : other ≡ b = cc in
-    absurd (n.0 (subst (IsBlankIn form) same so))
-one_first form (b ∷ bs) (c ∷ cs) line other after afters e n m is so =
-    let rest : bs ++ line ∷ after ≡ cs ++ other ∷ afters = cc in
-    ap suc (one_first form bs cs line other after afters rest n.1 m.1 is so)
-
-blank_stays : (form : Form) (lines more : List (List ℕ)) (number : ℕ) (is : Option ℕ) → IsFirstBlank form lines number
-    → IsBlankOf form (lines ++ more) is → is ≡ Some number
-blank_stays form lines more number None h none =
-    let whole : lines ++ more ≡ h.before ++ h.line ∷ (h.after ++ more)
-    = ap (λ ls. ls ++ more) h.whole ∙ append_assoc h.before (h.line ∷ h.after) more in
-    absurd (no_first form h.before h.line (h.after ++ more) (subst (HasNoBlank form) whole none) h.blank)
-blank_stays form lines more number (Some other) h k =
-    let whole : lines ++ more ≡ h.before ++ h.line ∷ (h.after ++ more)
-    = ap (λ ls. ls ++ more) h.whole ∙ append_assoc h.before (h.line ∷ h.after) more in
-    let long = one_first form h.before k.before h.line k.line (h.after ++ more) k.after (sym whole ∙ k.whole) h.none k.none h.blank k.blank in
-    let one = h.counted in
-    let two = k.counted in
-    let same : other ≡ number = omega arith in
-    ap (λ (n : ℕ). Some n) same
-
-nothing_is : (before : List (List ℕ)) (line : List ℕ) (after : List (List ℕ)) → [] ≡ before ++ line ∷ after → ⊥
-nothing_is [] line after e = cc
-nothing_is (b ∷ bs) line after e = cc
-
-no_lines : (form : Form) (lines more : List (List ℕ)) (is : Option ℕ) → (IsMarkedFirst form lines → ⊥) → IsMarkedFirst form (lines ++ more)
-    → IsBlankOf form lines is → is ≡ None
-no_lines form [] more None not m h = refl
-no_lines form [] more (Some number) not m h = absurd (nothing_is h.before h.line h.after h.whole)
-no_lines form (l ∷ ls) more is not m h = absurd (not m)
 
 spelled_more : (m n : Bool) (b c : Option ℕ) → (m ≡ true → n ≡ true) → ((number : ℕ) → b ≡ Some number → c ≡ Some number)
     → (m ≡ false → n ≡ true → b ≡ None)
@@ -174,9 +127,17 @@ spelled_more false false None c stays kept first = refl
 spelled_more false false (Some number) c stays kept first =
     ap (λ (o : Option ℕ). blank_part o) (kept number refl) ∙ sym (append-nil (blank_part (Some number)))
 
-pub notes_more : (form : Form) (lines more : List (List ℕ)) (told noter : Noter) → HasNoted form lines told → HasNoted form (lines ++ more) noter
+pub told_more : (told noter : Noter) → TellsMark told noter.marked → TellsBlank told.blank noter.blank
     → notes_of noter ≡ notes_of told ++ more_notes told noter
-notes_more form lines more told noter h k =
-    spelled_more told.marked noter.marked told.blank noter.blank (λ is. k.mark.1 (mark_stays form lines more (h.mark.0 is)))
-    (λ number is. blank_stays form lines more number noter.blank (subst (IsBlankOf form lines) is h.blank) k.blank)
-    (λ not is. no_lines form lines more told.blank (λ m. let e = h.mark.1 m in let never : ⊥ = cc in never) (k.mark.0 is) h.blank)
+told_more told noter mark blank_is = spelled_more told.marked noter.marked told.blank noter.blank mark.0 blank_is mark.1
+
+pub mark_told : (told : Noter) (marked : Bool) → told.marked ≡ true → OnTrue marked (TellsMark told marked)
+mark_told told true was = ((λ _. refl), (λ not. let never : ⊥ = cc in absurd never))
+mark_told told false was = tt
+
+pub mark_untold : (told : Noter) (marked none : Bool) → told.marked ≡ false → (IsTrue none → told.blank ≡ None) → OnTrue none (TellsMark told marked)
+mark_untold told marked true was is = ((λ e. let never : ⊥ = cc in absurd never), (λ _ _. is refl))
+mark_untold told marked false was is = tt
+
+pub mark_none_told : (told : Noter) (marked : Bool) → told.marked ≡ false → marked ≡ false → TellsMark told marked
+mark_none_told told marked was not = ((λ e. let never : ⊥ = cc in absurd never), (λ _ e. let never : ⊥ = cc in absurd never))

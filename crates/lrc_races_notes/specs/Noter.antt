@@ -62,3 +62,11 @@ more_blank (Some number) blank = []
 
 abbrev pub more_notes : Noter → Noter → List ℕ
 more_notes told noter = more_mark told.marked noter.marked ++ more_blank told.blank noter.blank
+
+-- a mark that was told is to be told, and one that was not is told before nothing else
+abbrev pub TellsMark : Noter → Bool → Type 0
+TellsMark told marked = (told.marked ≡ true → marked ≡ true) × (told.marked ≡ false → marked ≡ true → told.blank ≡ None)
+
+-- a blank that was told is the one that is to be told
+abbrev pub TellsBlank : Option ℕ → Option ℕ → Type 0
+TellsBlank told blank = (number : ℕ) → told ≡ Some number → blank ≡ Some number

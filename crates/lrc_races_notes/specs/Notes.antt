@@ -33,13 +33,13 @@ blank_note number = codes "treadmarks: trace line " ++ decimal number ++ codes "
 
 -- what is noted of a byte order mark
 pub data IsMarkNote (form : Form) (lines : List (List ℕ)) : List ℕ → Type 0 where
-  marked : IsMarkedFirst form lines → IsMarkNote form lines mark_note
-  unmarked : ¬ IsMarkedFirst form lines → IsMarkNote form lines []
+  first_marked : IsMarkedFirst form lines → IsMarkNote form lines mark_note
+  not_marked : ¬ IsMarkedFirst form lines → IsMarkNote form lines []
 
 -- what is noted of a blank, once
 pub data IsBlankNote (form : Form) (lines : List (List ℕ)) : List ℕ → Type 0 where
-  blank : {number : ℕ} → IsFirstBlank form lines number → IsBlankNote form lines (blank_note number)
-  no_blank : HasNoBlank form lines → IsBlankNote form lines []
+  first_blank : {number : ℕ} → IsFirstBlank form lines number → IsBlankNote form lines (blank_note number)
+  none_blank : HasNoBlank form lines → IsBlankNote form lines []
 
 -- This is noted of the lines.
 pub record AreNotes (form : Form) (lines : List (List ℕ)) (text : List ℕ) : Type 0 where

@@ -1,7 +1,8 @@
 // What is known of the lines of a trace of which something is to be noted.
-ghost use Rattle.std.specs.Prelude.{◌≡◌, ℕ, List, [], None, false};
+ghost use Rattle.std.specs.Prelude.{◌≡◌, ◌++◌, ℕ, List, [], None, false};
+ghost use Rattle.std.specs.Bool.{OnTrue};
 ghost use Rattle.lrc_races_text.specs.declared.form.Form.{Form as AnyForm};
-ghost use Rattle.lrc_races_notes.specs.Noter.{BlanksMore, BlanksUpTo, HasNoted, MarksMore, MarksUpTo, NotesMore, NotesUpTo};
+ghost use Rattle.lrc_races_notes.specs.Noter.{BlanksMore, BlanksUpTo, HasNoted, MarksMore, MarksUpTo, NotesMore, NotesUpTo, TellsBlank, TellsMark, more_notes, notes_of};
 
 use crate::signs::{is_blank_in, is_marked_in};
 use lrc_races_front::keeping::Keep;
@@ -93,6 +94,37 @@ impl Noter {
             marked: mark_up_to(self.marked, count),
             blank: blank_up_to(self.blank, count),
         }
+    }
+
+    /// Returns whether the text of this begins with that of another, so that the rest can be told behind it.
+    pub fn is_more(&self, told: Noter) -> bool
+        ensures { OnTrue result (notes_of self.now ≡ notes_of told ++ more_notes told self.now) }
+    {
+        mark_is_more(told, self.marked) && blank_is_more(told.blank, self.blank)
+    }
+}
+
+// Whether a mark was told, if it is to be told before what was.
+fn mark_is_more(told: Noter, marked: bool) -> bool
+    ensures { OnTrue result (TellsMark told marked) }
+{
+    if told.marked {
+        return marked;
+    }
+    if marked {
+        return told.blank.is_none();
+    }
+    true
+}
+
+// Whether the blank that was told is the one that is to be.
+fn blank_is_more(told: Option<u64>, blank: Option<u64>) -> bool
+    ensures { OnTrue result (TellsBlank told blank) }
+{
+    match (told, blank) {
+        (None, _) => true,
+        (Some(one), Some(other)) => one == other,
+        _ => false,
     }
 }
 
