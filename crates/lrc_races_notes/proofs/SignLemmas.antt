@@ -55,33 +55,29 @@ operation_ends front (with_text {idle = idle} inner is text) = enclosed_ends fro
 
 -- ---- so the blank is the location's
 
-last_placed : (thread operation : List ℕ) (l : ℕ) (ls : List ℕ) → last_of (thread ++ 124 ∷ (operation ++ 124 ∷ (l ∷ ls))) ≡ last_of (l ∷ ls)
-last_placed thread operation l ls =
-    last_append thread 124 (operation ++ 124 ∷ (l ∷ ls)) ∙ last_append (124 ∷ operation) 124 (l ∷ ls) ∙ last_cons 124 l ls
+last_placed : (front : List ℕ) (l : ℕ) (ls : List ℕ) → last_of (front ++ 124 ∷ (l ∷ ls)) ≡ last_of (l ∷ ls)
+last_placed front l ls = last_append front 124 (l ∷ ls) ∙ last_cons 124 l ls
 
-location_ends : (thread operation location : List ℕ) → EndsBlank (thread ++ 124 ∷ (operation ++ 124 ∷ location)) → EndsBlank location
-location_ends thread operation [] is =
-    absurd (unblank (thread ++ 124 ∷ (operation ++ 124 ∷ [])) 124
-    (last_append thread 124 (operation ++ 124 ∷ []) ∙ last_append (124 ∷ operation) 124 []) (λ e. omega arith) (λ e. omega arith) is)
-location_ends thread operation (l ∷ ls) is =
-    subst (λ (o : Option ℕ). (o ≡ Some 32) ⊎ (o ≡ Some 9)) (last_placed thread operation l ls) is
+location_ends : (front location : List ℕ) → EndsBlank (front ++ 124 ∷ location) → EndsBlank location
+location_ends front [] is =
+    absurd (unblank (front ++ 124 ∷ []) 124 (last_append front 124 []) (λ e. omega arith) (λ e. omega arith) is)
+location_ends front (l ∷ ls) is = subst (λ (o : Option ℕ). (o ≡ Some 32) ⊎ (o ≡ Some 9)) (last_placed front l ls) is
 
 nothing_ends : EndsBlank [] → ⊥
 nothing_ends (inl e) = let never : ⊥ = cc in never
 nothing_ends (inr e) = let never : ⊥ = cc in never
 
-body_ends : (thread operation location : List ℕ) → EndsBlank location → EndsBlank (thread ++ 124 ∷ (operation ++ 124 ∷ location))
-body_ends thread operation [] is = absurd (nothing_ends is)
-body_ends thread operation (l ∷ ls) is =
-    subst (λ (o : Option ℕ). (o ≡ Some 32) ⊎ (o ≡ Some 9)) (sym (last_placed thread operation l ls)) is
+body_ends : (front location : List ℕ) → EndsBlank location → EndsBlank (front ++ 124 ∷ location)
+body_ends front [] is = absurd (nothing_ends is)
+body_ends front (l ∷ ls) is = subst (λ (o : Option ℕ). (o ≡ Some 32) ⊎ (o ≡ Some 9)) (sym (last_placed front l ls)) is
 
 spelled_blank : {thread target location body : List ℕ} {kind : Kind} → SpellsEvent thread kind target location body → EndsBlank body → EndsBlank location
 spelled_blank (unplaced {thread = thread} name spells) is = absurd (operation_ends thread spells is)
-spelled_blank (placed {thread = thread} {operation = operation} {location = location} name spells text) is = location_ends thread operation location is
+spelled_blank (placed {thread = thread} {operation = operation} {location = location} name spells text) is = location_ends (thread ++ 124 ∷ operation) location is
 
 blank_spelled : {thread target location body : List ℕ} {kind : Kind} → SpellsEvent thread kind target location body → EndsBlank location → EndsBlank body
 blank_spelled (unplaced name spells) is = absurd (nothing_ends is)
-blank_spelled (placed {thread = thread} {operation = operation} {location = location} name spells text) is = body_ends thread operation location is
+blank_spelled (placed {thread = thread} {operation = operation} {location = location} name spells text) is = body_ends (thread ++ 124 ∷ operation) location is
 
 -- ---- lines
 

@@ -32,13 +32,15 @@ fn mark_with(marked: bool, form: Form, line: &[u8], number: u64) -> bool
 fn blank_with(blank: Option<u64>, form: Form, line: &[u8], number: u64) -> Option<u64>
     ensures { BlanksMore form line.now number blank result }
 {
-    if let Some(first) = blank {
-        return Some(first);
+    match blank {
+        Some(first) => Some(first),
+        None => {
+            if is_blank_in(form, line) {
+                return Some(number);
+            }
+            None
+        }
     }
-    if is_blank_in(form, line) {
-        return Some(number);
-    }
-    None
 }
 
 // Whether the first line is marked, if it is one of so many.

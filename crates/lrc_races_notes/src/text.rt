@@ -34,7 +34,8 @@ fn push_blank_note(text: &mut Vec<u8>, line: u64) -> Result<(), AllocError>
     ensures { OnOk result (text.new.items ≡ text.old.items ++ blank_note line) }
 {
     push_number(text, b"treadmarks: trace line ", line)?;
-    text.extend_from_slice(b": a blank at the end of a line is part of a location\n")
+    text.extend_from_slice(b": a blank at the end of a line is part of a location\n")?;
+    Ok(())
 }
 
 /// Adds the lines on what is to be noted, and was not when `told` was. It fails if memory runs out.

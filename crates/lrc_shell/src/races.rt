@@ -133,7 +133,7 @@ pub(crate) fn tell_reasons<F: Sources, W: Write, E: Write>(
     )
 }
 
-fn form_of(form: TraceForm) -> Form
+pub(crate) fn form_of(form: TraceForm) -> Form
     ensures { result ≡ form_of form }
 {
     match form {
@@ -168,7 +168,7 @@ fn layout_of(json: bool) -> Layout
     if json { Layout::Objects } else { Layout::Words }
 }
 
-fn sought_of(sure: bool) -> Sought
+pub(crate) fn sought_of(sure: bool) -> Sought
     ensures { result ≡ sought_of sure }
 {
     if sure {
