@@ -69,16 +69,18 @@ module _ {K : Type 0} (Has : Sought → Keeping K) (sought : Sought) (form : For
 
   -- ---- where no more is read
 
-  known_fault : {held : Held} (number : ℕ) (why : _) → IsStop (HasBoth Has sought) form last held noting (Faulted (faults.BadEvent number why))
-      → IsKnownAt form held noting.noter (Faulted (faults.BadEvent number why))
-  known_fault {held} number why is =
+  known_fault : {held : Held} (fault : Fault) → IsStop (HasBoth Has sought) form last held noting (Faulted fault)
+      → IsKnownAt form held noting.noter (Faulted fault)
+  known_fault {held} (faults.BadEvent number why) is =
       let r = reached (HasBoth Has sought) form last held noting (Faulted (faults.BadEvent number why)) is (λ lacks. lacks) in
       record { lines = r.lines; first = r.first; meant = r.up_to; so = r.has_kept.1 }
+  known_fault faults.NoMemory is = tt
 
   pub known_stop : {held : Held} (stop : Stop) → IsStop (HasBoth Has sought) form last held noting stop → IsKnownAt form held noting.noter stop
-  known_stop (Faulted (faults.BadEvent number why)) is = known_fault number why is
-  known_stop (Faulted faults.NoMemory) is = tt
   known_stop _ (past lines are has counted few) = record { lines = lines; first = all are; meant = (are, counted); so = has.1 }
+  known_stop _ (bad bytes left {fault = fault} read stops) = known_fault fault (bad bytes left read stops)
+  known_stop _ (cut bytes left {fault = fault} read end fails) = known_fault fault (cut bytes left read end fails)
+  known_stop _ exhausted = tt
   known_stop {held} _ (unread bytes left lines rest read is_cut few has cause) =
       record {
         lines = lines;

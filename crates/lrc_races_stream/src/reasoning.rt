@@ -1,6 +1,6 @@
 // From a path and two lines to the status: why the events there are ordered, or that they race.
 
-ghost use Rattle.std.specs.Prelude.{◌<◌, ◌↔◌, IsTrue};
+ghost use Rattle.std.specs.Prelude.{◌<◌, ◌↔◌, ℕ, IsTrue, List, Option};
 ghost use Rattle.lrc_races_why.specs.Answers.{HasEvent};
 ghost use Rattle.lrc_races_witness.specs.Relations.{AreByLine};
 ghost use Rattle.lrc_races_front.specs.Kept.{HasKept};
