@@ -1,5 +1,5 @@
 -- What is told of the texts that are printed of a run.
-use Rattle.std.specs.Prelude.{◌≡◌, ℕ, ◌+◌, Bool, List, None, Some, decimal, slice_get, slice_index}
+use Rattle.std.specs.Prelude.{◌≡◌, ℕ, ◌+◌, Bool, false, List, None, Some, decimal, slice_get, slice_index}
 use Rattle.lrc_lang.specs.declared.program.Program.{Program}
 use Rattle.lrc_trace.specs.declared.act.Act.{Act}
 use Rattle.lrc_races_trace.specs.declared.event.Event.{Event}
@@ -19,7 +19,7 @@ use Rattle.lrc_races_text.specs.Says.{Said}
 
 -- all races are asked for, by groups or not, in this layout
 abbrev pub all_races : Bool → Layout → Asked
-all_races group layout = record { sought = AllRaces; group = group; layout = layout }
+all_races group layout = record { sought = AllRaces; group = group; layout = layout; strict = false }
 
 -- Each event is on the line of its step's place, and its location is the line of the program's text that the step's act is of.
 abbrev pub ArePlacedSteps : List ℕ → List RapidStep → Naming → List Event → Type 0

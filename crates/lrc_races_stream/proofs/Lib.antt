@@ -3,4 +3,8 @@ mod AnswerLemmas
 mod ByLine
 mod LocationLemmas
 mod Paths
+mod Reached
 mod SeekerLemmas
+mod StrictLemmas
+mod KnownLemmas
+mod NotedLemmas

@@ -67,8 +67,11 @@ module _ {K : Type 0} (Has : Sought → Keeping K) (sought : Sought) (form : For
   end_bad kept fault end fails = cut u.bytes left u.read end (fails sought form last u.bytes u.has_read)
 
   -- no more can be read
-  pub no_more : (kept : K) (kind : ErrorKind) → IsCause left kind → IsStop (Has sought) form last held kept (Unread kind)
-  no_more kept kind cause = unread u.bytes left u.read cause
+  pub no_more : (kind : ErrorKind) → IsCause left kind → IsStop (Has sought) form last held before.kept (Unread kind)
+  no_more kind cause =
+      let h = u.has_read in
+      let at = h.at in
+      unread u.bytes left h.lines h.rest u.read h.cut h.few at.kept cause
 
 -- what is read of a block, or of the end, is read of the trace
 module _ {K : Type 0} (Has : Sought → Keeping K) (left after : Held) (before front : Front K) (result : Result Bool Stop) where

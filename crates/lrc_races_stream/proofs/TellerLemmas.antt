@@ -5,15 +5,16 @@ use Rattle.std.proofs.lemmas.List.{append_assoc, append-nil, take-append-le}
 use Rattle.std.specs.Io.KnownBytes.{Appends, Keeps}
 use Rattle.std.specs.declared.io.ErrorKind.{ErrorKind}
 use Rattle.lrc_races_text.specs.Session.{HasEnded, HasFailed, HasGoneOn, HasRead, IsStoppedAt, Text}
-use Rattle.lrc_races_text.specs.declared.fault.Fault.{Fault}
-use Rattle.lrc_races_text.specs.declared.fault.Fault.TheVariants as faults
+use Rattle.lrc_races_text.specs.declared.halt.Halt.{Halt}
+use Rattle.lrc_races_text.specs.declared.halt.Halt.TheVariants as halts
+use Rattle.lrc_races_text.specs.declared.ill.Ill.{Ill}
 use Rattle.lrc_races_text.specs.declared.asked.Asked.{Asked}
 use Rattle.lrc_races_text.specs.declared.form.Form.{Form}
 use Rattle.lrc_races_text.specs.declared.session.Session.{Session}
 use Rattle.lrc_report.specs.Output.{AppendsFront}
 use Rattle.lrc_shell_sources.specs.Known.{Held, IsAtEnd, IsCause, IsReadOff, holds, unknown, unreadable}
-use Rattle.lrc_races_stream.specs.Comes.{Comes, IsUnderWay, broken, cut, ended, exhausted, failed, so_far, stopped, unread, unwritten, whole}
-use Rattle.lrc_races_stream.specs.declared.outcome.Outcome.TheVariants.{Ended, BadEvent, NoMemory, Unread, Unwritten}
+use Rattle.lrc_races_stream.specs.Comes.{Comes, IsUnderWay, broken, cut, ended, exhausted, failed, ill_broken, ill_cut, ill_failed, ill_stopped, so_far, stopped, unread, unwritten, whole}
+use Rattle.lrc_races_stream.specs.declared.outcome.Outcome.TheVariants.{Ended, BadEvent, IllFormed, NoMemory, Unread, Unwritten}
 
 -- before any byte is read, all is left
 pub nothing_read : (held : Held) → IsReadOff held [] held
@@ -78,21 +79,39 @@ module _ (form : Form) (asked : Asked) (held left : Held) (start out : Option (L
       (front_on start out now u.told g.0 u.written (subst (AppendsFront out now) new_is wrote))
 
   -- a line of the block is bad
-  pub broken_at : (after : Held) (now : Option (List ℕ)) (line : ℕ) (why : Text) (fault : Fault) (block old new text : List ℕ) → IsReadOff left block after → old ≡ []
-      → fault ≡ faults.BadEvent line why → IsStoppedAt session block old new fault → text ≡ new → Appends out now text
+  pub broken_at : (after : Held) (now : Option (List ℕ)) (line : ℕ) (why : Text) (halt : Halt) (block old new text : List ℕ) → IsReadOff left block after → old ≡ []
+      → halt ≡ halts.BadEvent line why → IsStoppedAt session block old new halt → text ≡ new → Appends out now text
       → Comes form asked held start now (BadEvent line why)
-  broken_at after now line why fault block old new text off empty fault_is gone text_is wrote =
-      let g = subst (IsStoppedAt session block old new) fault_is gone form asked u.bytes u.told u.said in
+  broken_at after now line why halt block old new text off empty halt_is gone text_is wrote =
+      let g = subst (IsStoppedAt session block old new) halt_is gone form asked u.bytes u.told u.said in
       let new_is = text_is ∙ added old new g.0 empty g.1 in
       stopped (u.bytes ++ block) (u.told ++ g.0) after (read_on held left after u.bytes block u.read off) g.2
       (write_on start out now u.told g.0 u.written (subst (Appends out now) new_is wrote))
 
-  pub broken_unwritten : (after : Held) (now : Option (List ℕ)) (line : ℕ) (why : Text) (fault : Fault) (block old new text : List ℕ) → IsReadOff left block after → old ≡ []
-      → fault ≡ faults.BadEvent line why → IsStoppedAt session block old new fault → text ≡ new → AppendsFront out now text → Comes form asked held start now Unwritten
-  broken_unwritten after now line why fault block old new text off empty fault_is gone text_is wrote =
-      let g = subst (IsStoppedAt session block old new) fault_is gone form asked u.bytes u.told u.said in
+  pub broken_unwritten : (after : Held) (now : Option (List ℕ)) (line : ℕ) (why : Text) (halt : Halt) (block old new text : List ℕ) → IsReadOff left block after → old ≡ []
+      → halt ≡ halts.BadEvent line why → IsStoppedAt session block old new halt → text ≡ new → AppendsFront out now text → Comes form asked held start now Unwritten
+  broken_unwritten after now line why halt block old new text off empty halt_is gone text_is wrote =
+      let g = subst (IsStoppedAt session block old new) halt_is gone form asked u.bytes u.told u.said in
       let new_is = text_is ∙ added old new g.0 empty g.1 in
       unwritten (u.bytes ++ block) (u.told ++ g.0) after (read_on held left after u.bytes block u.read off) (broken why g.2)
+      (front_on start out now u.told g.0 u.written (subst (AppendsFront out now) new_is wrote))
+
+  -- or says an event that no program would give
+  pub ill_at : (after : Held) (now : Option (List ℕ)) (ill : Ill) (halt : Halt) (block old new text : List ℕ) → IsReadOff left block after → old ≡ []
+      → halt ≡ halts.IllFormed ill → IsStoppedAt session block old new halt → text ≡ new → Appends out now text
+      → Comes form asked held start now (IllFormed ill)
+  ill_at after now ill halt block old new text off empty halt_is gone text_is wrote =
+      let g = subst (IsStoppedAt session block old new) halt_is gone form asked u.bytes u.told u.said in
+      let new_is = text_is ∙ added old new g.0 empty g.1 in
+      ill_stopped (u.bytes ++ block) (u.told ++ g.0) after (read_on held left after u.bytes block u.read off) g.2
+      (write_on start out now u.told g.0 u.written (subst (Appends out now) new_is wrote))
+
+  pub ill_unwritten : (after : Held) (now : Option (List ℕ)) (ill : Ill) (halt : Halt) (block old new text : List ℕ) → IsReadOff left block after → old ≡ []
+      → halt ≡ halts.IllFormed ill → IsStoppedAt session block old new halt → text ≡ new → AppendsFront out now text → Comes form asked held start now Unwritten
+  ill_unwritten after now ill halt block old new text off empty halt_is gone text_is wrote =
+      let g = subst (IsStoppedAt session block old new) halt_is gone form asked u.bytes u.told u.said in
+      let new_is = text_is ∙ added old new g.0 empty g.1 in
+      unwritten (u.bytes ++ block) (u.told ++ g.0) after (read_on held left after u.bytes block u.read off) (ill_broken ill g.2)
       (front_on start out now u.told g.0 u.written (subst (AppendsFront out now) new_is wrote))
 
   -- the trace has ended
@@ -111,19 +130,34 @@ module _ (form : Form) (asked : Asked) (held left : Held) (start out : Option (L
       unwritten u.bytes (u.told ++ g.0) left u.read (whole g.2) (front_on start out now u.told g.0 u.written (subst (AppendsFront out now) new_is wrote))
 
   -- its last line is bad
-  pub cut_at : (now : Option (List ℕ)) (line : ℕ) (why : Text) (fault : Fault) (old new text : List ℕ) → IsAtEnd left → old ≡ []
-      → fault ≡ faults.BadEvent line why → HasFailed session old new fault → text ≡ new → Appends out now text → Comes form asked held start now (BadEvent line why)
-  cut_at now line why fault old new text end empty fault_is gone text_is wrote =
-      let g = subst (HasFailed session old new) fault_is gone form asked u.bytes u.told u.said in
+  pub cut_at : (now : Option (List ℕ)) (line : ℕ) (why : Text) (halt : Halt) (old new text : List ℕ) → IsAtEnd left → old ≡ []
+      → halt ≡ halts.BadEvent line why → HasFailed session old new halt → text ≡ new → Appends out now text → Comes form asked held start now (BadEvent line why)
+  cut_at now line why halt old new text end empty halt_is gone text_is wrote =
+      let g = subst (HasFailed session old new) halt_is gone form asked u.bytes u.told u.said in
       let new_is = text_is ∙ added old new g.0 empty g.1 in
       cut u.bytes (u.told ++ g.0) left u.read end g.2 (write_on start out now u.told g.0 u.written (subst (Appends out now) new_is wrote))
 
-  pub cut_unwritten : (now : Option (List ℕ)) (line : ℕ) (why : Text) (fault : Fault) (old new text : List ℕ) → IsAtEnd left → old ≡ []
-      → fault ≡ faults.BadEvent line why → HasFailed session old new fault → text ≡ new → AppendsFront out now text → Comes form asked held start now Unwritten
-  cut_unwritten now line why fault old new text end empty fault_is gone text_is wrote =
-      let g = subst (HasFailed session old new) fault_is gone form asked u.bytes u.told u.said in
+  pub cut_unwritten : (now : Option (List ℕ)) (line : ℕ) (why : Text) (halt : Halt) (old new text : List ℕ) → IsAtEnd left → old ≡ []
+      → halt ≡ halts.BadEvent line why → HasFailed session old new halt → text ≡ new → AppendsFront out now text → Comes form asked held start now Unwritten
+  cut_unwritten now line why halt old new text end empty halt_is gone text_is wrote =
+      let g = subst (HasFailed session old new) halt_is gone form asked u.bytes u.told u.said in
       let new_is = text_is ∙ added old new g.0 empty g.1 in
       unwritten u.bytes (u.told ++ g.0) left u.read (failed why g.2) (front_on start out now u.told g.0 u.written (subst (AppendsFront out now) new_is wrote))
+
+  -- or says an event that no program would give
+  pub ill_end : (now : Option (List ℕ)) (ill : Ill) (halt : Halt) (old new text : List ℕ) → IsAtEnd left → old ≡ []
+      → halt ≡ halts.IllFormed ill → HasFailed session old new halt → text ≡ new → Appends out now text → Comes form asked held start now (IllFormed ill)
+  ill_end now ill halt old new text end empty halt_is gone text_is wrote =
+      let g = subst (HasFailed session old new) halt_is gone form asked u.bytes u.told u.said in
+      let new_is = text_is ∙ added old new g.0 empty g.1 in
+      ill_cut u.bytes (u.told ++ g.0) left u.read end g.2 (write_on start out now u.told g.0 u.written (subst (Appends out now) new_is wrote))
+
+  pub ill_end_unwritten : (now : Option (List ℕ)) (ill : Ill) (halt : Halt) (old new text : List ℕ) → IsAtEnd left → old ≡ []
+      → halt ≡ halts.IllFormed ill → HasFailed session old new halt → text ≡ new → AppendsFront out now text → Comes form asked held start now Unwritten
+  ill_end_unwritten now ill halt old new text end empty halt_is gone text_is wrote =
+      let g = subst (HasFailed session old new) halt_is gone form asked u.bytes u.told u.said in
+      let new_is = text_is ∙ added old new g.0 empty g.1 in
+      unwritten u.bytes (u.told ++ g.0) left u.read (ill_failed ill g.2) (front_on start out now u.told g.0 u.written (subst (AppendsFront out now) new_is wrote))
 
   -- memory ran out, and nothing more is written
   pub out_of_memory : Comes form asked held start out NoMemory

@@ -5,11 +5,11 @@ use Rattle.lrc_races_text.specs.declared.fault.Fault.{Fault}
 use Rattle.lrc_races_text.specs.declared.fault.Fault.TheVariants as faults
 use Rattle.lrc_report.specs.Output.{AppendsFront}
 use Rattle.lrc_shell_sources.specs.Lines.{IsTold, memory_line, read_line}
-use Rattle.lrc_races_stream.specs.Lines.{IsToldOrLacks, bad_line, no_event_line, past_line}
+use Rattle.lrc_races_stream.specs.Lines.{IsToldOrLacks, bad_line, ill_line, no_event_line, past_line}
 use Rattle.lrc_races_stream.specs.declared.answer.Answer.{Answer}
 use Rattle.lrc_races_stream.specs.declared.answer.Answer.TheVariants.{Answered, NoEvent, Stopped}
 use Rattle.lrc_races_stream.specs.declared.answer.Stop.{Stop}
-use Rattle.lrc_races_stream.specs.declared.answer.Stop.TheVariants.{Past, Faulted, Unread}
+use Rattle.lrc_races_stream.specs.declared.answer.Stop.TheVariants.{Past, Faulted, IllFormed, Unread}
 
 -- what is said of a bad line, or of want of memory, and the status
 abbrev pub IsFaultTold : Fault → Option (List ℕ) → Option (List ℕ) → ℕ → Type 0
@@ -20,6 +20,7 @@ IsFaultTold faults.NoMemory err err' status = IsTold err err' memory_line × (st
 abbrev pub IsStopTold : Stop → Option (List ℕ) → Option (List ℕ) → ℕ → Type 0
 IsStopTold (Past line) err err' status = IsToldOrLacks err err' (past_line line) × (status ≡ 1)
 IsStopTold (Faulted fault) err err' status = IsFaultTold fault err err' status
+IsStopTold (IllFormed ill) err err' status = IsToldOrLacks err err' (ill_line ill.line ill.why.items) × (status ≡ 1)
 IsStopTold (Unread kind) err err' status = IsTold err err' (read_line kind) × (status ≡ 1)
 
 -- What is printed where it came to this, and the status. A fault stands in place of all else.

@@ -2,7 +2,9 @@ pub mod Answer
 pub mod Comes
 pub mod Lines
 pub mod Locations
+pub mod Noted
 pub mod Plays
 pub mod Reach
+pub mod Strict
 pub mod Why
 pub mod Witness

@@ -10,6 +10,10 @@ IsToldOrLacks err err' line = IsTold err err' line ⊎ IsTold err err' memory_li
 abbrev pub bad_line : ℕ → List ℕ → List ℕ
 bad_line line why = codes "treadmarks: trace line " ++ decimal line ++ codes ": bad event: " ++ why ++ codes "\n"
 
+-- the line on the first event of a trace that no program would give, and why
+abbrev pub ill_line : ℕ → List ℕ → List ℕ
+ill_line line why = codes "treadmarks: trace line " ++ decimal line ++ codes ": not well formed: " ++ why ++ codes "\n"
+
 -- the line on a line without an event
 abbrev pub no_event_line : ℕ → List ℕ
 no_event_line line = codes "treadmarks: trace line " ++ decimal line ++ codes ": no event\n"

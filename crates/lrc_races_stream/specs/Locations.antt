@@ -1,5 +1,5 @@
 -- What comes of the pairs of locations of a file that race.
-use Rattle.std.specs.Prelude.{◌≡◌, ◌≢◌, ℕ, List, [], Option, codes}
+use Rattle.std.specs.Prelude.{◌≡◌, ◌≢◌, ℕ, Bool, List, [], Option, codes}
 use Rattle.std.specs.Io.KnownBytes.{Keeps}
 use Rattle.std.specs.declared.io.ErrorKind.{ErrorKind}
 use Rattle.lrc_races_text.specs.Session.{Text}
@@ -12,31 +12,33 @@ use Rattle.lrc_races_locations.specs.declared.located.Located.{Located}
 use Rattle.lrc_shell_sources.specs.Known.{Held, IsCause, Known}
 use Rattle.lrc_shell_sources.specs.Lines.{IsTold as IsSaid, read_line}
 use Rattle.lrc_races_stream.specs.Answer.{IsAnswerTold}
+use Rattle.lrc_races_stream.specs.Noted.{Notes}
 use Rattle.lrc_races_stream.specs.Plays.{IsNamed}
-use Rattle.lrc_races_stream.specs.Reach.{AreAll, IsStop}
+use Rattle.lrc_races_stream.specs.Reach.{AreAll, ArePermitted, IsHalt}
 use Rattle.lrc_races_stream.specs.declared.answer.Answer.{Answer}
 use Rattle.lrc_races_stream.specs.declared.answer.Answer.TheVariants.{Answered, Stopped}
 use Rattle.lrc_races_stream.specs.declared.answer.Stop.{Stop}
-use Rattle.lrc_races_stream.specs.declared.answer.Stop.TheVariants.{Faulted, Past, Unread}
+use Rattle.lrc_races_stream.specs.declared.answer.Stop.TheVariants.{Faulted, IllFormed, Past, Unread}
 
 -- more lines than a trace may have
 abbrev pub most_lines : ℕ
 most_lines = 18446744073709551615
 
--- a line is bad, or memory ran out, or the trace can be read no further
+-- a line is bad, or says an event that no program would give, or memory ran out, or the trace can be read no further
 abbrev pub IsFault : Stop → Type 0
 IsFault (Past line) = ⊥
 IsFault (Faulted fault) = Unit {0}
+IsFault (IllFormed ill) = Unit {0}
 IsFault (Unread kind) = Unit {0}
 
--- What comes of the report, where a trace is held so.
-pub data Reports (sought : Sought) (form : Form) (layout : Layout) (held : Held) : Answer → Type 0 where
+-- What comes of the report, where a trace is held so, strictly or not.
+pub data Reports (strict : Bool) (sought : Sought) (form : Form) (layout : Layout) (held : Held) : Answer → Type 0 where
   -- All its lines are good, and all is told of them,
-  told : (lines : List (List ℕ)) {printed : Text} {status : ℕ} → AreAll held lines → IsTold sought form layout lines status printed.items
-      → Reports sought form layout held (Answered printed status)
+  told : (lines : List (List ℕ)) {printed : Text} {status : ℕ} → AreAll held lines → ArePermitted strict form lines
+      → IsTold sought form layout lines status printed.items → Reports strict sought form layout held (Answered printed status)
   -- or it was not read to its end, for this.
-  stopped : (kept : Located) {stop : Stop} → IsStop (IsLocated sought) form most_lines held kept stop → IsFault stop
-      → Reports sought form layout held (Stopped stop)
+  stopped : (kept : Located) {stop : Stop} → IsHalt strict (IsLocated sought) form most_lines held kept stop → IsFault stop
+      → Reports strict sought form layout held (Stopped stop)
 
 -- what is kept of all lines is told, or memory ran out
 pub data IsReported (form : Form) (layout : Layout) (located : Located) : Answer → Type 0 where
@@ -46,9 +48,10 @@ pub data IsReported (form : Form) (layout : Layout) (located : Located) : Answer
 
 -- What comes of the pairs of locations of a file, by what `out` and `err` have before and after: it cannot be opened, or they are told
 -- when it has ended.
-pub data IsLocationsPlayed (known : Known) (path : List ℕ) (form : Form) (sought : Sought) (layout : Layout) (out out' err err' : Option (List ℕ))
-    (status : ℕ) : Type 0 where
+pub data IsLocationsPlayed (known : Known) (path : List ℕ) (form : Form) (strict : Bool) (sought : Sought) (layout : Layout)
+    (out out' err err' : Option (List ℕ)) (status : ℕ) : Type 0 where
   unopened : (kind : ErrorKind) → path ≢ codes "-" → IsCause (known.files path) kind → IsSaid err err' (read_line kind) → Keeps out out'
-      → status ≡ 1 → IsLocationsPlayed known path form sought layout out out' err err' status
-  played : (held : Held) (answer : Answer) → IsNamed known path held → Reports sought form layout held answer
-      → IsAnswerTold answer out out' err err' status → IsLocationsPlayed known path form sought layout out out' err err' status
+      → status ≡ 1 → IsLocationsPlayed known path form strict sought layout out out' err err' status
+  played : (held : Held) (answer : Answer) (mid : Option (List ℕ)) → IsNamed known path held → Reports strict sought form layout held answer
+      → Notes form held most_lines answer err mid → IsAnswerTold answer out out' mid err' status
+      → IsLocationsPlayed known path form strict sought layout out out' err err' status

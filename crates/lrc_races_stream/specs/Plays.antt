@@ -7,14 +7,15 @@ use Rattle.lrc_races_text.specs.declared.form.Form.{Form}
 use Rattle.lrc_shell_sources.specs.Known.{Held, IsCause, Known}
 use Rattle.lrc_shell_sources.specs.Lines.{IsTold, memory_line, read_line}
 use Rattle.lrc_races_stream.specs.Comes.{Comes}
-use Rattle.lrc_races_stream.specs.Lines.{IsToldOrLacks, bad_line}
+use Rattle.lrc_races_stream.specs.Lines.{IsToldOrLacks, bad_line, ill_line}
 use Rattle.lrc_races_stream.specs.declared.outcome.Outcome.{Outcome}
-use Rattle.lrc_races_stream.specs.declared.outcome.Outcome.TheVariants.{Ended, BadEvent, NoMemory, Unread, Unwritten}
+use Rattle.lrc_races_stream.specs.declared.outcome.Outcome.TheVariants.{Ended, BadEvent, IllFormed, NoMemory, Unread, Unwritten}
 
--- What is said on standard error where a trace came to this, and the status. The line on a bad line may lack memory.
+-- What is said on standard error where a trace came to this, and the status. There may be no memory for a line on a line of the trace.
 abbrev pub IsConcluded : Outcome → Option (List ℕ) → Option (List ℕ) → ℕ → Type 0
 IsConcluded (Ended ended) err err' status = Keeps err err' × (status ≡ ended)
 IsConcluded (BadEvent line why) err err' status = IsToldOrLacks err err' (bad_line line why.items) × (status ≡ 1)
+IsConcluded (IllFormed ill) err err' status = IsToldOrLacks err err' (ill_line ill.line ill.why.items) × (status ≡ 1)
 IsConcluded NoMemory err err' status = IsTold err err' memory_line × (status ≡ 1)
 IsConcluded (Unread kind) err err' status = IsTold err err' (read_line kind) × (status ≡ 1)
 IsConcluded Unwritten err err' status = Keeps err err' × (status ≡ 1)

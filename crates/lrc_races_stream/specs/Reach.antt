@@ -1,8 +1,10 @@
 -- What comes of reading a trace up to a line.
-use Rattle.std.specs.Prelude.{◌≡◌, ◌++◌, ℕ, ◌<◌, ◌≤◌, Bool, true, false, List, length}
+use Rattle.std.specs.Prelude.{◌≡◌, ◌⊎◌, ◌++◌, ℕ, ◌+◌, ◌<◌, ◌≤◌, Bool, true, false, List, length}
 use Rattle.std.specs.declared.io.ErrorKind.{ErrorKind}
+use Rattle.lrc_races_text.specs.Ill.{AreWellIn, IsFirstIllIn}
 use Rattle.lrc_races_text.specs.Told.{IsCut}
 use Rattle.lrc_races_text.specs.declared.form.Form.{Form}
+use Rattle.lrc_races_text.specs.declared.ill.Ill.{Ill}
 use Rattle.lrc_races_text.specs.declared.fault.Fault.{Fault}
 use Rattle.lrc_races_text.specs.declared.fault.Fault.TheVariants as faults
 use Rattle.lrc_races_front.specs.Front.{HasRead, Keeping, all_lines}
@@ -10,9 +12,11 @@ use Rattle.lrc_races_front.specs.Kept.{HasKept}
 use Rattle.lrc_races_front.specs.declared.kept.Kept.{Kept}
 use Rattle.lrc_races_front.specs.Steps.{Fails, Stops}
 use Rattle.lrc_races_front.specs.declared.front.Front.{Front}
+use Rattle.lrc_races_notes.specs.Noting.{KeepsBoth}
+use Rattle.lrc_races_notes.specs.declared.noting.Noting.{Noting}
 use Rattle.lrc_shell_sources.specs.Known.{Held, IsAtEnd, IsCause, IsReadOff}
 use Rattle.lrc_races_stream.specs.declared.answer.Stop.{Stop}
-use Rattle.lrc_races_stream.specs.declared.answer.Stop.TheVariants.{Past, Faulted, Unread}
+use Rattle.lrc_races_stream.specs.declared.answer.Stop.TheVariants.{Past, Faulted, IllFormed, Unread}
 
 -- these are all lines of what is held: what stands behind its last line feed is one too, if it is not empty
 pub record AreAll (held : Held) (lines : List (List ℕ)) : Type 0 where
@@ -51,15 +55,37 @@ pub data IsStop {K : Type 0} (Has : Keeping K) (form : Form) (last : ℕ) (held 
       → IsStop Has form last held kept (Faulted fault)
   -- or memory ran out,
   exhausted : IsStop Has form last held kept (Faulted faults.NoMemory)
-  -- or the trace can be read no further, for this.
-  unread : (bytes : List ℕ) (left : Held) {kind : ErrorKind} → IsReadOff held bytes left → IsCause left kind
-      → IsStop Has form last held kept (Unread kind)
+  -- or the trace can be read no further, for this, and what is kept is kept of the lines that came before.
+  unread : (bytes : List ℕ) (left : Held) (lines : List (List ℕ)) (rest : List ℕ) {kind : ErrorKind} → IsReadOff held bytes left
+      → IsCut bytes lines rest → length lines < last → Has form lines kept → IsCause left kind → IsStop Has form last held kept (Unread kind)
+
+-- where strictness is asked for, each event of these lines is one that a program would give
+abbrev pub ArePermitted : Bool → Form → List (List ℕ) → Type 0
+ArePermitted strict form lines = strict ≡ true → AreWellIn form lines
+
+-- or one that no program would give is on a line behind this one
+abbrev pub ArePermittedTo : Bool → Form → List (List ℕ) → ℕ → Type 0
+ArePermittedTo strict form lines line =
+    strict ≡ true → AreWellIn form lines ⊎ ((number : ℕ) × (text : List ℕ) × IsFirstIllIn form lines number text × (line < number))
+
+-- Why the last line that is wanted has not come, strictly or not. What is read are first bytes of what is held.
+pub data IsHalt {K : Type 0} (strict : Bool) (Has : Keeping K) (form : Form) (last : ℕ) (held : Held) (kept : K) : Stop → Type 0 where
+  -- Strictness is asked for, and of first lines of the trace, none of them behind the last that is wanted, this is the first event that no
+  -- program would give,
+  ill_formed : (lines : List (List ℕ)) {ill : Ill} → strict ≡ true → AreFirst held lines → length lines ≤ last → Has form lines kept
+      → IsFirstIllIn form lines ill.line ill.why.items → IsHalt strict Has form last held kept (IllFormed ill)
+  -- or there is none in the lines that are kept, and no more are read, for this,
+  halted : {stop : Stop} → IsStop Has form last held kept stop → ((lines : List (List ℕ)) → Has form lines kept → ArePermitted strict form lines)
+      → IsHalt strict Has form last held kept stop
+  -- or memory ran out.
+  out_of_memory : IsHalt strict Has form last held kept (Faulted faults.NoMemory)
 
 -- where a trace is read no further for this, the line was read, and is good
 abbrev pub IsBehind : ℕ → Stop → Type 0
 IsBehind line (Past end) = line ≤ end
 IsBehind line (Faulted (faults.BadEvent number why)) = line < number
 IsBehind line (Faulted faults.NoMemory) = ⊥
+IsBehind line (IllFormed ill) = line < ill.line
 IsBehind line (Unread kind) = ⊥
 
 -- the first bytes of what was held are read, and the last line that is wanted is not among them
@@ -73,6 +99,10 @@ abbrev pub GoesOn : {K : Type 0} → Keeping K → Form → ℕ → Held → Hel
 GoesOn Has form last held left front true = HasCome Has form last held front.kept
 GoesOn Has form last held left front false = IsSeeking Has form last held left front
 
+-- the last line that is wanted has come, and the lines up to it may be so
+abbrev pub HasComeWell : {K : Type 0} → Bool → Keeping K → Form → ℕ → Held → K → Type 0
+HasComeWell strict Has form last held kept = (come : HasCome Has form last held kept) × ArePermitted strict form come.lines
+
 -- in some form, the first bytes of what some file holds are read
-abbrev pub IsBegun : ℕ → Held → Front Kept → Type 0
-IsBegun last left front = (form : Form) × (held : Held) × IsSeeking HasKept form last held left front
+abbrev pub IsBegun : ℕ → Held → Front (Noting Kept) → Type 0
+IsBegun last left front = (form : Form) × (held : Held) × IsSeeking (KeepsBoth HasKept) form last held left front

@@ -1,5 +1,5 @@
 -- What comes of the question whether the accesses on two lines of a trace are a sure race.
-use Rattle.std.specs.Prelude.{◌≡◌, ℕ, List, [], Option, Vec, length, map}
+use Rattle.std.specs.Prelude.{◌≡◌, ℕ, Bool, List, [], Option, Vec, length, map}
 use Rattle.std.specs.declared.alloc.Global.{Global}
 use Rattle.std.specs.Io.KnownBytes.{Keeps}
 use Rattle.std.specs.declared.io.ErrorKind.{ErrorKind}
@@ -15,7 +15,8 @@ use Rattle.lrc_races_witness.specs.Answer.{IsAnswered as IsAnsweredOf}
 use Rattle.lrc_shell_sources.specs.Known.{Held, IsCause, Known}
 use Rattle.lrc_shell_sources.specs.Lines.{IsTold, read_line}
 use Rattle.lrc_races_stream.specs.Answer.{IsAnswerTold}
-use Rattle.lrc_races_stream.specs.Reach.{AreFirst, IsStop}
+use Rattle.lrc_races_stream.specs.Noted.{Notes}
+use Rattle.lrc_races_stream.specs.Reach.{AreFirst, ArePermitted, IsHalt}
 use Rattle.lrc_races_stream.specs.declared.answer.Answer.{Answer}
 use Rattle.lrc_races_stream.specs.declared.answer.Answer.TheVariants.{Answered, Stopped}
 use Rattle.lrc_races_stream.specs.declared.answer.Stop.{Stop}
@@ -29,13 +30,13 @@ pub record IsAnswer (form : Form) (lines : List (List ℕ)) (first second : ℕ)
   pub front : IsFront form lines naming events (map (λ text. text.items) texts)
   pub answered : IsAnsweredOf naming.threads events texts first second [] printed status
 
--- What comes of the question, where a trace is held so.
-pub data Witnesses (form : Form) (held : Held) (first second : ℕ) : Answer → Type 0 where
+-- What comes of the question, where a trace is held so, strictly or not.
+pub data Witnesses (strict : Bool) (form : Form) (held : Held) (first second : ℕ) : Answer → Type 0 where
   -- The second line has come, and by the lines up to it is answered,
-  told : (lines : List (List ℕ)) {printed : Text} {status : ℕ} → AreFirst held lines → length lines ≡ second
-      → IsAnswer form lines first second printed.items status → Witnesses form held first second (Answered printed status)
+  told : (lines : List (List ℕ)) {printed : Text} {status : ℕ} → AreFirst held lines → length lines ≡ second → ArePermitted strict form lines
+      → IsAnswer form lines first second printed.items status → Witnesses strict form held first second (Answered printed status)
   -- or it has not, for this.
-  stopped : (kept : Kept) {stop : Stop} → IsStop HasKept form second held kept stop → Witnesses form held first second (Stopped stop)
+  stopped : (kept : Kept) {stop : Stop} → IsHalt strict HasKept form second held kept stop → Witnesses strict form held first second (Stopped stop)
 
 -- what is kept of the lines answers, or memory ran out
 pub data IsAnswered (kept : Kept) (first second : ℕ) : Answer → Type 0 where
@@ -46,9 +47,10 @@ pub data IsAnswered (kept : Kept) (first second : ℕ) : Answer → Type 0 where
 
 -- What comes of the question about two lines of a file, by what `out` and `err` have before and after: it cannot be opened, or it is
 -- answered.
-pub data IsWitnessPlayed (known : Known) (path : List ℕ) (form : Form) (first second : ℕ) (out out' err err' : Option (List ℕ)) (status : ℕ)
-    : Type 0 where
+pub data IsWitnessPlayed (known : Known) (path : List ℕ) (form : Form) (strict : Bool) (first second : ℕ) (out out' err err' : Option (List ℕ))
+    (status : ℕ) : Type 0 where
   unopened : (kind : ErrorKind) → IsCause (known.files path) kind → IsTold err err' (read_line kind) → Keeps out out' → status ≡ 1
-      → IsWitnessPlayed known path form first second out out' err err' status
-  played : (answer : Answer) → Witnesses form (known.files path) first second answer → IsAnswerTold answer out out' err err' status
-      → IsWitnessPlayed known path form first second out out' err err' status
+      → IsWitnessPlayed known path form strict first second out out' err err' status
+  played : (answer : Answer) (mid : Option (List ℕ)) → Witnesses strict form (known.files path) first second answer
+      → Notes form (known.files path) second answer err mid → IsAnswerTold answer out out' mid err' status
+      → IsWitnessPlayed known path form strict first second out out' err err' status

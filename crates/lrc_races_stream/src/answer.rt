@@ -5,10 +5,12 @@ ghost use Rattle.std.specs.Io.KnownBytes.{Appends};
 ghost use Rattle.lrc_report.specs.Output.{AppendsFront};
 ghost use Rattle.lrc_races_stream.specs.Answer.{IsAnswerTold, IsFaultTold, IsStopTold};
 ghost use Rattle.lrc_races_stream.specs.Reach.{IsBehind};
+ghost use Rattle.lrc_races_stream.specs.Strict.{LacksMemory};
 
-use crate::lines::{refuse_line, refuse_no_event, refuse_past};
+use crate::lines::{refuse_ill, refuse_line, refuse_no_event, refuse_past};
 use crate::teller::write;
 use lrc_races_text::fault::Fault;
+use lrc_races_text::ill::Ill;
 use lrc_shell_sources::refusal::{FAULT, refuse_memory, refuse_read};
 use std::alloc::Global;
 use std::io::{ErrorKind, Write};
@@ -20,6 +22,8 @@ pub enum Stop {
     Past(u64),
     /// A line does not have the trace's form, or memory ran out.
     Faulted(Fault),
+    /// No program would give this event, and strictness is asked for.
+    IllFormed(Ill),
     /// The trace can be read no further.
     Unread(ErrorKind),
 }
@@ -43,6 +47,17 @@ impl Stop {
         match self {
             Stop::Past(last) => line <= *last,
             Stop::Faulted(Fault::BadEvent(bad, _why)) => line < *bad,
+            Stop::IllFormed(ill) => line < ill.line,
+            _ => false,
+        }
+    }
+
+    /// Returns whether memory ran out.
+    pub fn lacks_memory(&self) -> bool
+        ensures { IsTrue result ↔ LacksMemory self.now }
+    {
+        match self {
+            Stop::Faulted(Fault::NoMemory) => true,
             _ => false,
         }
     }
@@ -72,6 +87,7 @@ fn refuse_stop<E: Write>(alloc: Global, stop: Stop, err: &mut E) -> u8
     match stop {
         Stop::Past(line) => refuse_past(alloc, line, err),
         Stop::Faulted(fault) => refuse_fault(alloc, fault, err),
+        Stop::IllFormed(ill) => refuse_ill(alloc, ill.line, &ill.why, err),
         Stop::Unread(kind) => refuse_read(kind, err),
     }
 }

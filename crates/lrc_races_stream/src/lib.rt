@@ -6,10 +6,12 @@
 mod answer;
 mod lines;
 mod locating;
+mod noted;
 mod outcome;
 mod play;
 mod reasoning;
 mod seeker;
+mod strict;
 mod teller;
 mod witnessing;
 

@@ -1,7 +1,7 @@
 // The lines that say why a trace is judged no further.
 
 ghost use Rattle.std.specs.Prelude.{◌≡◌, ℕ, IfOk, List};
-ghost use Rattle.lrc_races_stream.specs.Lines.{IsToldOrLacks, bad_line, no_event_line, past_line};
+ghost use Rattle.lrc_races_stream.specs.Lines.{IsToldOrLacks, bad_line, ill_line, no_event_line, past_line};
 
 use lrc_shell_sources::refusal::{FAULT, refuse_memory, tell_line};
 use lrc_text::push_number;
@@ -38,6 +38,26 @@ fn bad_line(alloc: Global, line: u64, why: &[u8]) -> Result<Vec<u8>, AllocError>
     let mut text = Vec::new(alloc);
     push_number(&mut text, b"treadmarks: trace line ", line)?;
     text.extend_from_slice(b": bad event: ")?;
+    text.extend_from_slice(why)?;
+    text.extend_from_slice(b"\n")?;
+    Ok(text)
+}
+
+/// Says on which line of a trace an event stands that no program would give, and why, or, if there is no memory for that,
+/// that there is none. Returns the exit status.
+pub(crate) fn refuse_ill<E: Write>(alloc: Global, line: u64, why: &[u8], err: &mut E) -> u8
+    ensures told { IsToldOrLacks (E.contents err.old) (E.contents err.new) (ill_line line why.now) }
+    ensures status { result ≡ 1 }
+{
+    tell_made(ill_line(alloc, line, why), err)
+}
+
+fn ill_line(alloc: Global, line: u64, why: &[u8]) -> Result<Vec<u8>, AllocError>
+    ensures { IfOk result (λ text. text.items ≡ ill_line line why.now) }
+{
+    let mut text = Vec::new(alloc);
+    push_number(&mut text, b"treadmarks: trace line ", line)?;
+    text.extend_from_slice(b": not well formed: ")?;
     text.extend_from_slice(why)?;
     text.extend_from_slice(b"\n")?;
     Ok(text)

@@ -1,5 +1,6 @@
 // What has come of a trace.
 
+use lrc_races_text::ill::Ill;
 use std::io::ErrorKind;
 
 /// The outcome of reporting a trace while it is read.
@@ -9,6 +10,8 @@ pub enum Outcome {
     Ended(u8),
     /// The line with this number, counted from 1, does not have the trace's form, and this says why.
     BadEvent(u64, Vec<u8>),
+    /// No program would give this event, and strictness is asked for.
+    IllFormed(Ill),
     /// Memory ran out.
     NoMemory,
     /// The trace can be read no further.

@@ -4,7 +4,7 @@ ghost use Rattle.lrc_races_stream.specs.Comes.{Comes};
 ghost use Rattle.lrc_races_stream.specs.Plays.{IsConcluded, IsRacesPlayed};
 ghost use Rattle.lrc_races_stream.specs.declared.outcome.Outcome.{Outcome as AnyOutcome};
 
-use crate::lines::refuse_line;
+use crate::lines::{refuse_ill, refuse_line};
 use crate::outcome::Outcome;
 use crate::teller::tell_races;
 use lrc_races_text::asked::Asked;
@@ -63,6 +63,7 @@ fn conclude<E: Write>(alloc: Global, outcome: Outcome, err: &mut E) -> u8
     match outcome {
         Outcome::Ended(status) => status,
         Outcome::BadEvent(line, why) => refuse_line(alloc, line, &why, err),
+        Outcome::IllFormed(ill) => refuse_ill(alloc, ill.line, &ill.why, err),
         Outcome::NoMemory => refuse_memory(err),
         Outcome::Unread(kind) => refuse_read(kind, err),
         Outcome::Unwritten => FAULT,

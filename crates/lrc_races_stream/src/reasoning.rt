@@ -1,18 +1,23 @@
 // From a path and two lines to the status: why the events there are ordered, or that they race.
 
-ghost use Rattle.std.specs.Prelude.{◌<◌, ◌↔◌, IsTrue};
+ghost use Rattle.std.specs.Prelude.{◌<◌, ◌↔◌, ℕ, IsTrue, List, Option};
 ghost use Rattle.lrc_races_why.specs.Answers.{HasEvent};
 ghost use Rattle.lrc_races_witness.specs.Relations.{AreByLine};
 ghost use Rattle.lrc_races_front.specs.Kept.{HasKept};
 ghost use Rattle.lrc_shell_sources.specs.Known.{Held};
+ghost use Rattle.lrc_races_notes.specs.Noting.{KeepsBoth};
+ghost use Rattle.lrc_races_stream.specs.Noted.{IsKnown, Notes};
 ghost use Rattle.lrc_races_stream.specs.Reach.{IsBegun, IsSeeking};
 ghost use Rattle.lrc_races_stream.specs.Answer.{IsAnswerTold};
 ghost use Rattle.lrc_races_stream.specs.declared.answer.Answer.{Answer as AnyAnswer};
 ghost use Rattle.lrc_races_stream.specs.Why.{IsExplained, IsStopAnswered, IsWhyPlayed, Reasons};
 
 use crate::answer::{Answer, Stop, conclude};
+use crate::noted::note;
 use crate::seeker::Seeker;
+use crate::strict::seek;
 use lrc_races_front::kept::Kept;
+use lrc_races_notes::noting::Noting;
 use lrc_races_text::fault::Fault;
 use lrc_races_text::form::Form;
 use lrc_races_trace::event::Event;
@@ -25,11 +30,12 @@ use std::io::Write;
 
 /// Says why the events on two lines of the trace in a file, in this form, are ordered, or that they race, or that
 /// neither is so, and returns the exit status. The path `-` is standard input. The answer goes to `out`. A fault goes to
-/// `err`, and then nothing goes to `out`.
+/// `err`, and then nothing goes to `out`. If `strict`, an event that no program would give is a fault.
 pub fn play_why<F: Sources, W: Write, E: Write>(
     alloc: Global,
     path: &str,
     form: Form,
+    strict: bool,
     first: u64,
     second: u64,
     sources: &F,
@@ -37,15 +43,15 @@ pub fn play_why<F: Sources, W: Write, E: Write>(
     err: &mut E,
 ) -> u8
     requires { first < second }
-    ensures { IsWhyPlayed (F.known sources.now) path.now form first second
+    ensures { IsWhyPlayed (F.known sources.now) path.now form strict first second
         (W.contents out.old) (W.contents out.new) (E.contents err.old) (E.contents err.new) result }
 {
     if path == "-" {
         let trace = sources.open_input();
-        return tell_why(alloc, form, first, second, trace, out, err);
+        return tell_why(alloc, form, strict, first, second, trace, out, err);
     }
     match sources.open(path) {
-        Ok(trace) => tell_why(alloc, form, first, second, trace, out, err),
+        Ok(trace) => tell_why(alloc, form, strict, first, second, trace, out, err),
         Err(error) => refuse_file(&error, err),
     }
 }
@@ -54,6 +60,7 @@ pub fn play_why<F: Sources, W: Write, E: Write>(
 fn tell_why<B: Blocks + Drop, W: Write, E: Write>(
     alloc: Global,
     form: Form,
+    strict: bool,
     first: u64,
     second: u64,
     trace: B,
@@ -61,61 +68,79 @@ fn tell_why<B: Blocks + Drop, W: Write, E: Write>(
     err: &mut E,
 ) -> u8
     requires { first < second }
-    ensures { (answer : AnyAnswer) × Reasons form (B.left trace) first second answer
+    ensures { (answer : AnyAnswer) × Reasons strict form (B.left trace) first second answer
+        × ((mid : Option (List ℕ)) × Notes form (B.left trace) second answer (E.contents err.old) mid
         × IsAnswerTold answer (W.contents out.old) (W.contents out.new)
-        (E.contents err.old) (E.contents err.new) result }
+        mid (E.contents err.new) result) }
 {
     let mut trace = trace;
-    let answer = reason(alloc, form, first, second, &mut trace);
+    let answer = reason(alloc, form, strict, first, second, &mut trace, err);
     conclude(alloc, answer, out, err)
 }
 
 // Reads a trace in this form up to the later of two lines, and no further, and says why the events on them are ordered.
-fn reason<B: Blocks>(alloc: Global, form: Form, first: u64, second: u64, trace: &mut B) -> Answer
+fn reason<B: Blocks, E: Write>(
+    alloc: Global,
+    form: Form,
+    strict: bool,
+    first: u64,
+    second: u64,
+    trace: &mut B,
+    err: &mut E,
+) -> Answer
     requires { first < second }
-    ensures { Reasons form (B.left trace.old) first second result }
+    ensures answer { Reasons strict form (B.left trace.old) first second result }
+    ensures notes { Notes form (B.left trace.old) second result
+        (E.contents err.old) (E.contents err.new) }
 {
-    match Seeker::new(alloc, form, second, Kept::new(alloc)) {
-        Ok(seeker) => reason_by(alloc, form, first, second, seeker, trace),
+    match Seeker::new(alloc, form, second, Noting::new(Kept::new(alloc))) {
+        Ok(seeker) => reason_by(alloc, form, strict, first, second, seeker, trace, err),
         Err(_error) => Answer::Stopped(Stop::Faulted(Fault::NoMemory)),
     }
 }
 
 // Says so by what is read.
-fn reason_by<B: Blocks>(
+fn reason_by<B: Blocks, E: Write>(
     alloc: Global,
     form: Form,
+    strict: bool,
     first: u64,
     second: u64,
-    seeker: Seeker<Kept>,
+    seeker: Seeker<Noting<Kept>>,
     trace: &mut B,
+    err: &mut E,
 ) -> Answer
     requires ascending { first < second }
     requires begun { IsBegun second (B.left trace.old) seeker.front }
-    ensures { (held : Held) → IsSeeking HasKept form second held (B.left trace.old) seeker.front
-        → Reasons form held first second result }
+    ensures { (held : Held)
+        → IsSeeking (KeepsBoth HasKept) form second held (B.left trace.old) seeker.front
+        → Reasons strict form held first second result
+        × Notes form held second result (E.contents err.old) (E.contents err.new) }
 {
     let mut seeker = seeker;
-    seek_reason(alloc, form, first, second, &mut seeker, trace)
+    let answer = seek_reason(alloc, form, strict, first, second, &mut seeker, trace);
+    note(alloc, answer, seeker.front.kept.noter, err)
 }
 
 fn seek_reason<B: Blocks>(
     alloc: Global,
     form: Form,
+    strict: bool,
     first: u64,
     second: u64,
-    seeker: &mut Seeker<Kept>,
+    seeker: &mut Seeker<Noting<Kept>>,
     trace: &mut B,
 ) -> Answer
     requires ascending { first < second }
     requires begun { IsBegun second (B.left trace.old) seeker.old.front }
     ensures { (held : Held)
-        → IsSeeking HasKept form second held (B.left trace.old) seeker.old.front
-        → Reasons form held first second result }
+        → IsSeeking (KeepsBoth HasKept) form second held (B.left trace.old) seeker.old.front
+        → Reasons strict form held first second result
+        × IsKnown form held second seeker.new.front.kept.noter result }
 {
-    match seeker.seek(trace) {
-        Ok(()) => explain(alloc, form, &seeker.front.kept, first, second),
-        Err(stop) => stopped(&seeker.front.kept, first, stop),
+    match seek(alloc, strict, seeker, trace) {
+        Ok(()) => explain(alloc, form, &seeker.front.kept.kept, first, second),
+        Err(stop) => stopped(&seeker.front.kept.kept, first, stop),
     }
 }
 

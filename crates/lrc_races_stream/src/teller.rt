@@ -10,8 +10,8 @@ ghost use Rattle.lrc_races_stream.specs.Comes.{Comes, IsUnderWay};
 
 use crate::outcome::Outcome;
 use lrc_races_text::asked::Asked;
-use lrc_races_text::fault::Fault;
 use lrc_races_text::form::Form;
+use lrc_races_text::halt::Halt;
 use lrc_races_text::session::Session;
 use lrc_report::output::{Output, put};
 use lrc_shell_sources::blocks::Blocks;
@@ -111,11 +111,15 @@ impl Teller {
                 Ok(()) => None,
                 Err(_error) => Some(Outcome::Unwritten),
             },
-            Err(Fault::BadEvent(line, why)) => match write(&self.told, out) {
+            Err(Halt::BadEvent(line, why)) => match write(&self.told, out) {
                 Ok(()) => Some(Outcome::BadEvent(line, why)),
                 Err(_error) => Some(Outcome::Unwritten),
             },
-            Err(Fault::NoMemory) => Some(Outcome::NoMemory),
+            Err(Halt::IllFormed(ill)) => match write(&self.told, out) {
+                Ok(()) => Some(Outcome::IllFormed(ill)),
+                Err(_error) => Some(Outcome::Unwritten),
+            },
+            Err(Halt::NoMemory) => Some(Outcome::NoMemory),
         }
     }
 
@@ -132,11 +136,15 @@ impl Teller {
                 Ok(()) => Outcome::Ended(status),
                 Err(_error) => Outcome::Unwritten,
             },
-            Err(Fault::BadEvent(line, why)) => match write(&self.told, out) {
+            Err(Halt::BadEvent(line, why)) => match write(&self.told, out) {
                 Ok(()) => Outcome::BadEvent(line, why),
                 Err(_error) => Outcome::Unwritten,
             },
-            Err(Fault::NoMemory) => Outcome::NoMemory,
+            Err(Halt::IllFormed(ill)) => match write(&self.told, out) {
+                Ok(()) => Outcome::IllFormed(ill),
+                Err(_error) => Outcome::Unwritten,
+            },
+            Err(Halt::NoMemory) => Outcome::NoMemory,
         }
     }
 }

@@ -2,7 +2,7 @@
 use Rattle.std.proofs.Common.{◌≡◌, ℕ, zero, suc, ◌+◌, ◌^◌, ◌<◌, ◌⊎◌, ◌==◌, Bool, true, false, List, [], ◌∷◌, ◌++◌, length, inl, inr, sym, subst, refl, ◌∙◌, ap, arith, append_assoc, append-nil, length-append}
 use Rattle.std.specs.Prelude.{Option, Some, None, Contains, slice_get, unwrap_or, codes, if◌then◌else◌}
 use Rattle.std.proofs.lemmas.List.Concat.{flat_map-append}
-use Rattle.std.proofs.lemmas.Bool.{eqb-true, eq-eqb}
+use Rattle.std.proofs.lemmas.Bool.{cases_lt, eqb-true, eq-eqb}
 use Rattle.lrc_json.specs.Spelling.{quoted}
 use Rattle.lrc_races_trace.specs.declared.event.Event.{Event}
 use Rattle.lrc_races_trace.specs.declared.event.Pair.{Pair}
@@ -15,6 +15,7 @@ use Rattle.lrc_races_trace.specs.Races.{IsTold}
 use Rattle.lrc_races_trace.specs.Formed.{IsFirstFault}
 use Rattle.lrc_races_trace.specs.Groups.{AreGroups}
 use Rattle.lrc_races_trace.proofs.Positions.{At-one}
+use Rattle.lrc_races_detector.specs.declared.fault_finder.FaultFinder.{FaultFinder}
 use Rattle.lrc_races_detector.specs.declared.groups.Groups.{Groups}
 use Rattle.lrc_races_detector.specs.Finding.{HasLooked}
 use Rattle.lrc_races_detector.specs.Grouping.{AreGrouped}
@@ -25,6 +26,7 @@ use Rattle.lrc_races_text.specs.declared.asked.Layout.TheVariants.{Words, Object
 use Rattle.lrc_races_text.specs.declared.asked.Sought.{Sought}
 use Rattle.lrc_races_text.specs.declared.asked.Sought.TheVariants.{AllRaces, SureRaces}
 use Rattle.lrc_races_text.specs.declared.form.Form.{Form}
+use Rattle.lrc_races_text.specs.declared.halt.Halt.{Halt}
 use Rattle.lrc_races_text.specs.declared.judged.Judged.{Judged}
 use Rattle.lrc_races_text.specs.declared.race_detector.RaceDetector.{RaceDetector}
 use Rattle.lrc_races_text.specs.declared.race_detector.RaceDetector.TheVariants.{All, Sure}
@@ -38,7 +40,7 @@ use Rattle.lrc_races_text.specs.Spelled.{name_at, variable_of, place_name, toget
 use Rattle.lrc_races_text.specs.Objects.{access_object, place_value, race_object, race_objects}
 use Rattle.lrc_races_text.specs.Layouts.{end_lines, pair_lines}
 use Rattle.lrc_races_text.specs.Told.{IsToldOf}
-use Rattle.lrc_races_text.specs.Judged.{HasJudged, HasJudgedOne, HasToldAll, IsTelling}
+use Rattle.lrc_races_text.specs.Judged.{FindsIll, FindsNone, HasHaltedOne, HasJudged, HasJudgedOne, HasToldAll, IsTelling}
 use Rattle.lrc_races_text.proofs.SoughtLemmas.{sought-push, sought-nothing, sought-told}
 use Rattle.lrc_races_text.proofs.NamingLemmas.{Keeps, KeepsAll, keeps_names, keeps_events, events_push, naming_more, nothing_named, slice_get-next}
 
@@ -186,6 +188,7 @@ module _ {form : Form} {asked : Asked} (before after : Judged) (one : Said) (eve
     (detects : (sought : Sought) (events : List Event) (n : ℕ) → At events n event → HasTaken sought events n before.detector
     → HasTaken sought events (n + 1) after.detector × AreSoughtAt sought events n after.told.items)
     (looks : (events : List Event) (n : ℕ) → n + 1 < 2 ^ 64 → At events n event → HasLooked events n before.finder → HasLooked events (n + 1) after.finder)
+    (permits : asked.strict ≡ true → FindsNone after.finder)
     (races : after.races ≡ before.races + length after.told.items)
     (tells : IsTelling form asked (naming_of after.names) after.told.items before.groups after.groups old new) where
   pub judged_one : HasJudgedOne form asked one before old after new
@@ -199,6 +202,10 @@ module _ {form : Form} {asked : Asked} (before after : Judged) (one : Said) (eve
       let both = λ (more : List Event). detects asked.sought (events ++ event ∷ more) (length events) (at more) (h.taken (event ∷ more)) in
       let small_here : length events + 1 < 2 ^ 64 = omega (arith, position, small) in
       let longer_by : length events + 1 ≡ length next = omega (arith, long) in
+      let looked : (more : List Event) → HasLooked (next ++ more) (length next) after.finder
+      = λ more. subst (λ n. HasLooked (next ++ more) n after.finder) longer_by
+      (subst (λ es. HasLooked es (length events + 1) after.finder) (sym (append_assoc events (event ∷ []) more))
+      (looks (events ++ event ∷ more) (length events) small_here (at more) (h.looked (event ∷ more)))) in
       let are_told = sought-push asked.sought events event h.pairs after.told.items h.are_told (both []).1 in (
         (if asked.group then [] else pair_lines asked.layout form (naming_of after.names) after.told.items),
         tells.text,
@@ -208,9 +215,8 @@ module _ {form : Form} {asked : Asked} (before after : Judged) (one : Said) (eve
           are = events_push (keeps_events k h.are) is;
           taken = λ more. subst (λ n. HasTaken asked.sought (next ++ more) n after.detector) longer_by
               (subst (λ es. HasTaken asked.sought es (length events + 1) after.detector) (sym (append_assoc events (event ∷ []) more)) (both more).0);
-          looked = λ more. subst (λ n. HasLooked (next ++ more) n after.finder) longer_by
-              (subst (λ es. HasLooked es (length events + 1) after.finder) (sym (append_assoc events (event ∷ []) more))
-              (looks (events ++ event ∷ more) (length events) small_here (at more) (h.looked (event ∷ more))));
+          looked = looked;
+          permitted = λ strict. subst (λ es. IsFirstFault es (length next) None) (append-nil next) (permits strict _ _ (looked []));
           pairs = h.pairs ++ after.told.items;
           are_told = are_told;
           counted = races ∙ ap (λ n. n + length after.told.items) h.counted ∙ sym (length-append h.pairs after.told.items);
@@ -220,6 +226,64 @@ module _ {form : Form} {asked : Asked} (before after : Judged) (one : Said) (eve
               ∙ shown-append asked.layout form asked.group (naming_of after.names) h.pairs after.told.items;
         },
       )
+
+-- ---- the first event that no program would give
+
+-- where there is none, none is found
+none_found : (events : List Event) (n : ℕ) (found : Option IllFormed) → IsFirstFault events n None → IsFirstFault events n found → found ≡ None
+none_found events n None none is = refl
+none_found events n (Some fault) none (k, lt, at, ill) = absurd (none k ill.event fault.reason lt ill.at ill.holds)
+
+-- where there is none before the last one, it is that
+fault_last : (events : List Event) (event : Event) (fault : IllFormed) → IsFirstFault (events ++ event ∷ []) (length events) None
+    → IsFirstFault (events ++ event ∷ []) (length (events ++ event ∷ [])) (Some fault) → fault.event ≡ event
+fault_last events event fault none (k, lt, at, ill) =
+    elim (cases_lt k (length events)) [
+      | inl before ↦ absurd (none k ill.event fault.reason before ill.at ill.holds)
+      | inr behind ↦
+          let long = length-append events (event ∷ []) in
+          let here : k ≡ length events = omega arith in
+          let last : At (events ++ event ∷ []) (length events) event = record { is = slice_get-next events event [] } in
+          At-one (subst (λ i. At (events ++ event ∷ []) i fault.event) here at) last
+    ]
+
+pub judged_ill : {form : Form} {asked : Asked} (before : Judged) (after : Naming) (finder : FaultFinder) (one : Said) (event : Event) (halt : Halt)
+    → MentionsAll one.saying (naming_of before.names) after → IsEvent after one event → position_of before.detector + 1 < 2 ^ 64
+    → ((events : List Event) (n : ℕ) → n + 1 < 2 ^ 64 → At events n event → HasLooked events n before.finder → HasLooked events (n + 1) finder)
+    → FindsIll asked after finder halt → HasHaltedOne form asked one before halt
+judged_ill {form} {asked} before after finder one event halt mentioned is small looks found said told h ill e =
+    let (strict, here) = subst (λ x. FindsIll asked after finder x) e found in
+    let (fault, finds, is_ill) = here in
+    let (on_line, why) = is_ill in
+    let events = h.events in
+    let next = events ++ event ∷ [] in
+    let position = taken-position asked.sought _ _ before.detector (h.taken []) in
+    let small_here : length events + 1 < 2 ^ 64 = omega (arith, position, small) in
+    let at : At next (length events) event = record { is = slice_get-next events event [] } in
+    let looked = looks next (length events) small_here at (h.looked (event ∷ [])) in
+    let long = length-append events (event ∷ []) in
+    let longer_by : length events + 1 ≡ length next = omega (arith, long) in
+    let first : IsFirstFault next (length next) (Some fault)
+    = subst (λ n. IsFirstFault next n (Some fault)) longer_by (finds next (length events + 1) looked) in
+    let so_far : IsFirstFault events (length events) before.finder.found
+    = subst (λ es. IsFirstFault es (length events) before.finder.found) (append-nil events) (h.looked []).found in
+    let none = none_found events (length events) before.finder.found (h.permitted strict) so_far in
+    let none_here : IsFirstFault next (length events) None
+    = subst (λ f. IsFirstFault next (length events) f) none (h.looked (event ∷ [])).found in
+    let same = fault_last events event fault none_here first in
+    record {
+      strict = strict;
+      on_line = on_line ∙ ap (λ (x : Event). x.line) same ∙ is.line;
+      first = record {
+        naming = after;
+        events = next;
+        fault = fault;
+        trace = record { names = naming_more one h.naming mentioned; numbered = events_push (keeps_events (keeps_names mentioned) h.are) is };
+        first = first;
+        on_line = on_line;
+        why = why;
+      };
+    }
 
 -- ---- all is told
 
@@ -252,6 +316,7 @@ told_all form asked judged groups fault count old new status count_is is lists f
         are_told = h.are_told;
         are_groups = lists _ (few asked.group h.pairs small_pairs) h.grouped;
         first_fault = subst (λ es. IsFirstFault es (length h.events) fault) all (finds _ _ (h.looked []));
+        permitted = h.permitted;
         text = ap (λ t. t ++ more) h.text
             ∙ ap (λ n. front ++ end_lines asked.layout form naming groups fault n count) h.counted
             ∙ ap (λ n. front ++ end_lines asked.layout form naming groups fault (length h.pairs) n) position;
@@ -267,6 +332,7 @@ told_of {judged = judged} h = record {
   events = h.events;
   pairs = h.pairs;
   trace = record { names = h.naming; numbered = h.are };
+  permitted = h.permitted;
   are_told = h.are_told;
   text = h.text;
 }
@@ -288,6 +354,7 @@ judged_none form asked judged names taken looked grouped races = record {
   are = no_events;
   taken = taken;
   looked = looked;
+  permitted = λ strict k a reason lt at. absurd (omega arith);
   pairs = [];
   are_told = sought-nothing asked.sought;
   counted = races;

@@ -9,13 +9,18 @@ use Rattle.lrc_races_text.specs.declared.asked.Asked.{Asked}
 use Rattle.lrc_races_text.specs.declared.form.Form.{Form}
 use Rattle.lrc_races_text.specs.declared.form.Form.TheVariants.{Std, Acts}
 use Rattle.lrc_races_text.specs.declared.fault.Fault.{Fault}
-use Rattle.lrc_races_text.specs.declared.fault.Fault.TheVariants.{BadEvent, NoMemory}
+use Rattle.lrc_races_text.specs.declared.fault.Fault.TheVariants as faults
+use Rattle.lrc_races_text.specs.declared.halt.Halt.{Halt}
+use Rattle.lrc_races_text.specs.declared.halt.Halt.TheVariants.{BadEvent, IllFormed, NoMemory}
+use Rattle.lrc_races_text.specs.declared.ill.Ill.{Ill}
 use Rattle.lrc_races_text.specs.declared.judged.Judged.{Judged}
 use Rattle.lrc_races_text.specs.declared.session.Session.{Session}
+use Rattle.lrc_races_text.specs.Ill.{IsFirstIll}
 use Rattle.lrc_races_text.specs.Says.{Said, Say, no_line, blank_line, event_line, Says, SaysNothing, IsBad, IsCauseIn, IsWhyText}
-use Rattle.lrc_races_text.specs.Judged.{HasJudged, HasJudgedOne, HasToldAll}
-use Rattle.lrc_races_text.specs.Told.{IsCut, IsOneLine, AreLines, ended, Stops, IsWholeOf, IsToldOf}
-use Rattle.lrc_races_text.specs.Session.{Text, FailsLine, LineSays, says_none, says_one, HasTakenLine, IsAt, HasCompleted, IsBadLine, HasKept, IsTooLong, HasLines, HasRead}
+use Rattle.lrc_races_text.specs.Halt.{halt_of}
+use Rattle.lrc_races_text.specs.Judged.{HasHaltedOne, HasJudged, HasJudgedOne, HasToldAll, IsIllOne, NeverBad}
+use Rattle.lrc_races_text.specs.Told.{IsCut, IsIllEvent, IsOneLine, AreLines, ended, Stops, IsWholeOf, IsToldOf}
+use Rattle.lrc_races_text.specs.Session.{Text, FailsLine, HaltsLine, IsIllLine, IsIllNext, IsIllRest, NeverIll, LineSays, says_none, says_one, HasTakenLine, IsAt, HasCompleted, IsBadLine, HasKept, IsTooLong, HasLines, HasRead}
 use Rattle.lrc_races_text.specs.Session.{HasDone, HasGoneOn, IsStoppedAt, HasEnded, HasFailed}
 use Rattle.lrc_races_text.proofs.NamingLemmas.{flat_map-push}
 use Rattle.lrc_races_text.proofs.JudgedLemmas.{told_of}
@@ -94,18 +99,27 @@ pub if_err : {V E : Type 0} {P Q : E → Type 0} (result : Result V E) → ((e :
 if_err (Ok v) f h = tt
 if_err (Err e) f h = f e h
 
-pub kept_bad : (before mid : Session) (part : List ℕ) (result : Result Unit Fault) → HasKept before part mid
+pub kept_bad : (before mid : Session) (part : List ℕ) (result : Result Unit Halt) → HasKept before part mid
     → IfErr result (IsBadLine mid []) → IfErr result (IsBadLine before part)
 kept_bad before mid part result kept bad =
-    if_err result (λ (fault : Fault) (b : IsBadLine mid [] fault).
+    if_err result (λ (halt : Halt) (b : IsBadLine mid [] halt).
     λ (form : Form) (asked : Asked) (lines : List (List ℕ)) (rest told : List ℕ) (a : IsAt form asked lines rest told before) (line : ℕ)
-    (why : Text) (e : fault ≡ BadEvent line why).
+    (why : Text) (e : halt ≡ BadEvent line why).
     let d = b form asked lines (rest ++ part) told (kept form asked lines rest told a) line why e in (
       d.0,
       subst (λ l. IsBad form l) (append-nil (rest ++ part)) d.1,
       λ one. subst (λ l. IsWhyText form (length lines + 1) l why.items) (append-nil (rest ++ part))
           (d.2 (subst (λ l. IsOneLine l) (sym (append-nil (rest ++ part))) one)),
     )) bad
+
+pub kept_ill : (before mid : Session) (part : List ℕ) (result : Result Unit Halt) → HasKept before part mid
+    → IfErr result (IsIllRest mid []) → IfErr result (IsIllRest before part)
+kept_ill before mid part result kept ill =
+    if_err result (λ (halt : Halt) (b : IsIllRest mid [] halt).
+    λ (form : Form) (asked : Asked) (lines : List (List ℕ)) (rest told : List ℕ) (a : IsAt form asked lines rest told before) (i : Ill)
+    (e : halt ≡ IllFormed i).
+    subst (λ l. IsIllNext form asked lines l told i.line i.why.items) (append-nil (rest ++ part))
+    (b form asked lines (rest ++ part) told (kept form asked lines rest told a) i e)) ill
 
 -- why a line is bad, by its form
 pub cause_std : (form : Form) (line : List ℕ) (number : ℕ) (cause : Why) → form ≡ Std
@@ -121,15 +135,51 @@ cause_acts form line number cause e is =
 -- the fault of a bad line
 pub bad_fault : (form : Form) (line : List ℕ) (number : ℕ) (cause : Why) (fault : Fault) → IsBad form line
     → (IsOneLine line → IsBad form line → IsCauseIn form number line cause)
-    → ((other : ℕ) (why : Text) → fault ≡ BadEvent other why → (other ≡ number) × (why.items ≡ why_text cause)) → FailsLine form line number fault
+    → ((other : ℕ) (why : Text) → fault ≡ faults.BadEvent other why → (other ≡ number) × (why.items ≡ why_text cause)) → FailsLine form line number fault
 bad_fault form line number cause fault bad causes says other why e =
     let d = says other why e in
     (d.0, bad, λ one. (cause, causes one bad, d.1))
 
+-- the halt at a fault
+bad_of : (fault : Fault) (line : ℕ) (why : Text) → halt_of fault ≡ BadEvent line why → fault ≡ faults.BadEvent line why
+bad_of (faults.BadEvent other text) line why e =
+    let same : other ≡ line = cc in
+    let words : text ≡ why = cc in
+    cc
+bad_of faults.NoMemory line why e = let never : ⊥ = cc in absurd never
+
+never_ill : (fault : Fault) → NeverIll (halt_of fault)
+never_ill (faults.BadEvent line why) ill e = let never : ⊥ = cc in absurd never
+never_ill faults.NoMemory ill e = let never : ⊥ = cc in absurd never
+
+pub fault_never_ill : (fault : Fault) (halt : Halt) → halt ≡ halt_of fault → NeverIll halt
+fault_never_ill fault halt is = subst (λ (h : Halt). NeverIll h) (sym is) (never_ill fault)
+
+pub bad_halt : (form : Form) (line : List ℕ) (number : ℕ) (fault : Fault) (halt : Halt) → halt ≡ halt_of fault → FailsLine form line number fault
+    → HaltsLine form line number halt
+bad_halt form line number fault halt is fails other why e = fails other why (bad_of fault other why (sym is ∙ e))
+
+pub bad_never_ill : (form : Form) (asked : Asked) (line : List ℕ) (number : ℕ) (before : Judged) (halt : Halt) → NeverIll halt
+    → IsIllLine form asked line number before halt
+bad_never_ill form asked line number before halt never all told h ill e = absurd (never ill e)
+
+-- a line that says an event is not bad
+pub event_never_bad : (form : Form) (line : List ℕ) (number : ℕ) (result : Result Unit Halt) → IfErr result NeverBad
+    → IfErr result (HaltsLine form line number)
+event_never_bad form line number result never =
+    if_err result (λ (halt : Halt) (n : NeverBad halt). λ (other : ℕ) (why : Text) (e : halt ≡ BadEvent other why). absurd (n other why e)) never
+
+pub event_ill : (form : Form) (asked : Asked) (line : List ℕ) (number : ℕ) (saying : Saying) (before : Judged) (result : Result Unit Halt) → Says form line saying
+    → IfErr result (HasHaltedOne form asked (record { line = number; saying = saying }) before) → IfErr result (IsIllLine form asked line number before)
+event_ill form asked line number saying before result says ill =
+    if_err result (λ (halt : Halt) (o : HasHaltedOne form asked (record { line = number; saying = saying }) before halt).
+    λ (all : List Said) (told : List ℕ) (h : HasJudged form asked all told before) (i : Ill) (e : halt ≡ IllFormed i).
+    (saying, says, o all told h i e)) ill
+
 -- a line that is bad, behind what was kept of it
-pub bad_line : (before : Session) (line part : List ℕ) (number : ℕ) (fault : Fault) → number ≡ before.lines + 1
-    → FailsLine before.form line number fault → before.rest.items ++ part ≡ line → IsBadLine before part fault
-bad_line before line part number fault next fails is form asked lines rest told a found why e =
+pub bad_line : (before : Session) (line part : List ℕ) (number : ℕ) (halt : Halt) → number ≡ before.lines + 1
+    → HaltsLine before.form line number halt → before.rest.items ++ part ≡ line → IsBadLine before part halt
+bad_line before line part number halt next fails is form asked lines rest told a found why e =
     let d = fails found why e in
     let counted = a.counted in
     let line_is : line ≡ rest ++ part = sym is ∙ ap (λ x. x ++ part) a.same_rest in
@@ -141,13 +191,32 @@ bad_line before line part number fault next fails is form asked lines rest told 
           (subst (λ f. IsWhyText f number line why.items) a.same_form (d.2 (subst (λ l. IsOneLine l) (sym line_is) one)))),
     )
 
+-- a line that says an event that no program would give, likewise
+pub ill_line : (before : Session) (line part : List ℕ) (number : ℕ) (halt : Halt) → number ≡ before.lines + 1
+    → IsIllLine before.form before.asked line number before.judged halt → before.rest.items ++ part ≡ line → IsIllRest before part halt
+ill_line before line part number halt next finds is form asked lines rest told a ill e =
+    let finds_here = subst (λ x. IsIllLine x asked line number before.judged halt) a.same_form
+    (subst (λ x. IsIllLine before.form x line number before.judged halt) a.same_asked finds) in
+    let d = finds_here a.said told a.judged ill e in
+    let counted = a.counted in
+    let line_is : line ≡ rest ++ part = sym is ∙ ap (λ x. x ++ part) a.same_rest in
+    let number_is : number ≡ length lines + 1 = omega arith in
+    record {
+      said = a.said;
+      good = a.says;
+      tells = told_of a.judged;
+      saying = d.0;
+      says = subst (λ l. Says form l d.0) line_is d.1;
+      one = subst (λ n. IsIllOne asked a.said (record { line = n; saying = d.0 }) ill.line ill.why.items) number_is d.2;
+    }
+
 -- what is too long is so whatever was kept of it
-pub too_long : (before : Session) (part : List ℕ) (number : ℕ) (fault : Fault) → number ≡ before.lines + 1
+pub too_long : (before : Session) (part : List ℕ) (number : ℕ) (fault : Fault) (halt : Halt) → halt ≡ halt_of fault → number ≡ before.lines + 1
     → 4096 < length before.rest.items + length part
-    → ((line : ℕ) (why : Text) → fault ≡ BadEvent line why → (line ≡ number) × (why.items ≡ why_text line_too_long))
-    → IsTooLong before part fault
-too_long before part number fault next long says form asked lines rest told a found why e =
-    let d = says found why e in
+    → ((line : ℕ) (why : Text) → fault ≡ faults.BadEvent line why → (line ≡ number) × (why.items ≡ why_text line_too_long))
+    → IsTooLong before part halt
+too_long before part number fault halt of next long says form asked lines rest told a found why e =
+    let d = says found why (bad_of fault found why (sym of ∙ e)) in
     let counted = a.counted in
     let number_is : number ≡ length lines + 1 = omega arith in
     let same : length before.rest.items ≡ length rest = ap length a.same_rest in
@@ -162,10 +231,33 @@ pub long_cause : (form : Form) (number : ℕ) (line : List ℕ) → 4096 < lengt
 long_cause Std number line long = line_any (line_long long)
 long_cause Acts number line long = line_any (line_long long)
 
-pub too_long_bad : (before : Session) (part : List ℕ) (fault : Fault) → IsTooLong before part fault → IsBadLine before part fault
-too_long_bad before part fault t form asked lines rest told a line why e =
+pub too_long_bad : (before : Session) (part : List ℕ) (halt : Halt) → IsTooLong before part halt → IsBadLine before part halt
+too_long_bad before part halt t form asked lines rest told a line why e =
     let d = t form asked lines rest told a line why e in
     (d.0, long_bad form (rest ++ part) d.1, λ one. (line_too_long, long_cause form (length lines + 1) (rest ++ part) d.1, d.2))
+
+pub too_long_never : (before : Session) (part : List ℕ) (halt : Halt) → NeverIll halt → IsIllRest before part halt
+too_long_never before part halt never form asked lines rest told a ill e = absurd (never ill e)
+
+-- what is told of the lines before an event that no program would give
+pub ill_event : {form : Form} {asked : Asked} {lines : List (List ℕ)} {line told : List ℕ} {number : ℕ} {text : List ℕ} (behind : List (List ℕ))
+    → IsIllNext form asked lines line told number text → IsIllEvent form asked (lines ++ line ∷ behind) number text told
+ill_event {form} {asked} {lines} {line} {told} {number} {text} behind i =
+    let one = i.one in
+    record {
+      strict = one.strict;
+      before = lines;
+      line = line;
+      after = behind;
+      whole = refl;
+      counted = one.on_line;
+      said = i.said;
+      good = i.good;
+      tells = i.tells;
+      saying = i.saying;
+      says = i.says;
+      first = subst (λ n. IsFirstIll (i.said ++ record { line = n; saying = i.saying } ∷ []) number text) (sym one.on_line) one.first;
+    }
 
 -- ---- bytes and lines
 
@@ -289,10 +381,11 @@ module _ {form : Form} {asked : Asked} {bytes told block left old mid : List ℕ
         }),
       )
 
-  stopped_long : (fault : Fault) → IsOneLine left → IsTooLong session left fault
-      → (more : List ℕ) × (mid ≡ old ++ more) × Stops form asked (bytes ++ block) fault (told ++ more)
-  stopped_long NoMemory one long = (d.more, d.text, tt)
-  stopped_long (BadEvent line why) one long =
+  stopped_long : (halt : Halt) → IsOneLine left → NeverIll halt → IsTooLong session left halt
+      → (more : List ℕ) × (mid ≡ old ++ more) × Stops form asked (bytes ++ block) halt (told ++ more)
+  stopped_long NoMemory one never long = (d.more, d.text, tt)
+  stopped_long (IllFormed ill) one never long = absurd (never ill refl)
+  stopped_long (BadEvent line why) one never long =
       let l = d.has_lines in
       let a = l.at in
       let t = long form asked l.lines l.rest (told ++ d.more) a line why refl in
@@ -323,19 +416,40 @@ module _ {form : Form} {asked : Asked} {bytes told block left old mid : List ℕ
         ),
       )
 
-  stopped_bad : (part behind new : List ℕ) (fault : Fault) → left ≡ part ++ 10 ∷ behind → IsOneLine part → new ≡ mid → IsBadLine session part fault
-      → (more : List ℕ) × (new ≡ old ++ more) × Stops form asked (bytes ++ block) fault (told ++ more)
-  stopped_bad part behind new NoMemory split one same bad = (d.more, same ∙ d.text, tt)
-  stopped_bad part behind new (BadEvent line why) split one same bad =
+  -- the bytes, cut at a line of the block
+  cut_here : (part behind : List ℕ) → left ≡ part ++ 10 ∷ behind → IsOneLine part → (c : AreCut behind)
+      → IsCut (bytes ++ block) ((d.has_lines.lines ++ (d.has_lines.rest ++ part) ∷ []) ++ c.lines) c.rest
+  cut_here part behind split one c =
+      let l = d.has_lines in
+      let whole : (bytes ++ d.done ++ (part ++ 10 ∷ [])) ++ behind ≡ bytes ++ block
+      = append_assoc (bytes ++ d.done) (part ++ 10 ∷ []) behind ∙ ap (λ x. bytes ++ d.done ++ x) (append_assoc part (10 ∷ []) behind)
+      ∙ append_assoc bytes d.done (part ++ 10 ∷ behind) ∙ ap (λ x. bytes ++ (d.done ++ x)) (sym split) ∙ ap (λ x. bytes ++ x) (sym d.whole) in
+      subst (λ b. IsCut b ((l.lines ++ (l.rest ++ part) ∷ []) ++ c.lines) c.rest) whole (cut_both (cut_line part l.cut one) c.cut)
+
+  stopped_bad : (part behind new : List ℕ) (halt : Halt) → left ≡ part ++ 10 ∷ behind → IsOneLine part → new ≡ mid → IsBadLine session part halt
+      → IsIllRest session part halt → (more : List ℕ) × (new ≡ old ++ more) × Stops form asked (bytes ++ block) halt (told ++ more)
+  stopped_bad part behind new NoMemory split one same bad finds = (d.more, same ∙ d.text, tt)
+  stopped_bad part behind new (IllFormed ill) split one same bad finds =
+      let l = d.has_lines in
+      let c = cut_of behind in
+      let lines = (l.lines ++ (l.rest ++ part) ∷ []) ++ c.lines in
+      let next = finds form asked l.lines l.rest (told ++ d.more) l.at ill refl in (
+        d.more,
+        same ∙ d.text,
+        record {
+          lines = lines;
+          rest = c.rest;
+          cut = cut_here part behind split one c;
+          ill = subst (λ ls. IsIllEvent form asked ls ill.line ill.why.items (told ++ d.more)) (sym (append_assoc l.lines ((l.rest ++ part) ∷ []) c.lines))
+              (ill_event c.lines next);
+        },
+      )
+  stopped_bad part behind new (BadEvent line why) split one same bad finds =
       let l = d.has_lines in
       let a = l.at in
       let t = bad form asked l.lines l.rest (told ++ d.more) a line why refl in
       let c = cut_of behind in
-      let whole : (bytes ++ d.done ++ (part ++ 10 ∷ [])) ++ behind ≡ bytes ++ block
-      = append_assoc (bytes ++ d.done) (part ++ 10 ∷ []) behind ∙ ap (λ x. bytes ++ d.done ++ x) (append_assoc part (10 ∷ []) behind)
-      ∙ append_assoc bytes d.done (part ++ 10 ∷ behind) ∙ ap (λ x. bytes ++ (d.done ++ x)) (sym split) ∙ ap (λ x. bytes ++ x) (sym d.whole) in
-      let cut : IsCut (bytes ++ block) ((l.lines ++ (l.rest ++ part) ∷ []) ++ c.lines) c.rest
-      = subst (λ b. IsCut b ((l.lines ++ (l.rest ++ part) ∷ []) ++ c.lines) c.rest) whole (cut_both (cut_line part l.cut one) c.cut) in (
+      let cut = cut_here part behind split one c in (
         d.more,
         same ∙ d.text,
         (
@@ -384,15 +498,16 @@ module _ (before session : Session) (block left old mid : List ℕ) (i : Invaria
       λ (form : Form) (asked : Asked) (bytes told : List ℕ) (h : HasRead form asked bytes told before).
       gone_on (i form asked bytes told h.has_lines) after one kept) ok
 
-  pub ends_bad : (result : Result Unit Fault) → IsOneLine left → IfErr result (IsTooLong session left) → IfErr result (IsStoppedAt before block old mid)
-  ends_bad result one bad = if_err result (λ (fault : Fault) (long : IsTooLong session left fault).
-      λ (form : Form) (asked : Asked) (bytes told : List ℕ) (h : HasRead form asked bytes told before).
-      stopped_long (i form asked bytes told h.has_lines) fault one long) bad
+  pub ends_bad : (result : Result Unit Halt) → IsOneLine left → IfErr result NeverIll → IfErr result (IsTooLong session left)
+      → IfErr result (IsStoppedAt before block old mid)
+  ends_bad (Ok done) one never bad = tt
+  ends_bad (Err halt) one never bad = λ (form : Form) (asked : Asked) (bytes told : List ℕ) (h : HasRead form asked bytes told before).
+      stopped_long (i form asked bytes told h.has_lines) halt one never bad
 
-  pub line_bad : (part behind new : List ℕ) (fault : Fault) → left ≡ part ++ 10 ∷ behind → IsOneLine part → new ≡ mid → IsBadLine session part fault
-      → IsStoppedAt before block old new fault
-  line_bad part behind new fault split one same bad form asked bytes told h =
-      stopped_bad (i form asked bytes told h.has_lines) part behind new fault split one same bad
+  pub line_bad : (part behind new : List ℕ) (halt : Halt) → left ≡ part ++ 10 ∷ behind → IsOneLine part → new ≡ mid → IsBadLine session part halt
+      → IsIllRest session part halt → IsStoppedAt before block old new halt
+  line_bad part behind new halt split one same bad finds form asked bytes told h =
+      stopped_bad (i form asked bytes told h.has_lines) part behind new halt split one same bad finds
 
 -- ---- the end
 
@@ -417,9 +532,23 @@ ended_well before mid old between new status completes all form asked bytes told
       },
     )
 
-pub failed_line : (before : Session) (old new : List ℕ) (fault : Fault) → new ≡ old → IsBadLine before [] fault → HasFailed before old new fault
-failed_line before old new NoMemory same bad form asked bytes told h = ([], same ∙ sym (append-nil old), tt)
-failed_line before old new (BadEvent line why) same bad form asked bytes told h =
+pub failed_line : (before : Session) (old new : List ℕ) (halt : Halt) → new ≡ old → IsBadLine before [] halt → IsIllRest before [] halt
+    → HasFailed before old new halt
+failed_line before old new NoMemory same bad finds form asked bytes told h = ([], same ∙ sym (append-nil old), tt)
+failed_line before old new (IllFormed ill) same bad finds form asked bytes told h =
+    let l = h.has_lines in
+    let next = finds form asked l.lines l.rest told l.at ill refl in
+    let here = subst (λ x. IsIllEvent form asked (l.lines ++ x ∷ []) ill.line ill.why.items told) (append-nil l.rest) (ill_event [] next) in (
+      [],
+      same ∙ sym (append-nil old),
+      record {
+        lines = l.lines;
+        rest = l.rest;
+        cut = l.cut;
+        ill = subst (λ x. IsIllEvent form asked (l.lines ++ l.rest ∷ []) ill.line ill.why.items x) (sym (append-nil told)) here;
+      },
+    )
+failed_line before old new (BadEvent line why) same bad finds form asked bytes told h =
     let l = h.has_lines in
     let a = l.at in
     let t = bad form asked l.lines l.rest told a line why refl in (

@@ -7,8 +7,8 @@ use Rattle.lrc_races_text.specs.declared.asked.Layout.{Layout}
 use Rattle.lrc_races_text.specs.declared.asked.Layout.TheVariants.{Words, Objects}
 use Rattle.lrc_races_text.specs.declared.form.Form.{Form}
 use Rattle.lrc_races_text.specs.Naming.{Naming}
-use Rattle.lrc_races_text.specs.Spelled.{race_line, race_lines, group_lines, fault_line, counts_line}
-use Rattle.lrc_races_text.specs.Objects.{race_object, race_objects, group_objects, fault_object, counts_object}
+use Rattle.lrc_races_text.specs.Spelled.{race_lines, group_lines, fault_line, counts_line}
+use Rattle.lrc_races_text.specs.Objects.{race_objects, group_objects, fault_object, counts_object}
 
 -- the pairs that are told
 abbrev pub pair_lines : Layout → Form → Naming → List Pair → List ℕ

@@ -7,6 +7,8 @@ pub mod Tables
 pub mod Spelled
 pub mod Objects
 pub mod Layouts
+pub mod Ill
+pub mod Halt
 pub mod Told
 pub mod Judged
 pub mod Session

@@ -1,5 +1,5 @@
 -- What a session keeps of the bytes that it has read.
-use Rattle.std.specs.Prelude.{◌≡◌, ℕ, ◌+◌, ◌<◌, ◌≤◌, List, [], ◌∷◌, ◌++◌, length, Vec}
+use Rattle.std.specs.Prelude.{◌≡◌, ◌≢◌, ℕ, ◌+◌, ◌<◌, ◌≤◌, List, [], ◌∷◌, ◌++◌, length, Vec}
 use Rattle.std.specs.declared.alloc.Global.{Global}
 use Rattle.lrc_races_lines.specs.declared.line.Line.{Line}
 use Rattle.lrc_races_lines.specs.declared.line.Line.TheVariants.{Nothing, Event, Bad}
@@ -8,12 +8,15 @@ use Rattle.lrc_races_lines.specs.Line.{longest_line, Saying, saying_of}
 use Rattle.lrc_races_text.specs.declared.asked.Asked.{Asked}
 use Rattle.lrc_races_text.specs.declared.form.Form.{Form}
 use Rattle.lrc_races_text.specs.declared.fault.Fault.{Fault}
-use Rattle.lrc_races_text.specs.declared.fault.Fault.TheVariants.{BadEvent}
+use Rattle.lrc_races_text.specs.declared.fault.Fault.TheVariants as faults
+use Rattle.lrc_races_text.specs.declared.halt.Halt.{Halt}
+use Rattle.lrc_races_text.specs.declared.halt.Halt.TheVariants.{BadEvent, IllFormed}
+use Rattle.lrc_races_text.specs.declared.ill.Ill.{Ill}
 use Rattle.lrc_races_text.specs.declared.judged.Judged.{Judged}
 use Rattle.lrc_races_text.specs.declared.session.Session.{Session}
 use Rattle.lrc_races_text.specs.Says.{Said, Say, Says, SaysNothing, IsBad, IsWhyText}
-use Rattle.lrc_races_text.specs.Judged.{HasJudged}
-use Rattle.lrc_races_text.specs.Told.{IsOneLine, IsCut, Tells, Stops, Ends, Fails}
+use Rattle.lrc_races_text.specs.Judged.{HasJudged, IsIllOne}
+use Rattle.lrc_races_text.specs.Told.{IsOneLine, IsCut, IsToldOf, Tells, Stops, Ends, Fails}
 
 -- a text of the program's own
 abbrev pub Text : Type 0
@@ -52,10 +55,24 @@ HasCompleted before part old new after = (form : Form) (asked : Asked) (lines : 
     → (more : List ℕ) × (new ≡ old ++ more) × IsAt form asked (lines ++ (rest ++ part) ∷ []) [] (told ++ more) after
 
 -- or it is bad
-abbrev pub IsBadLine : Session → List ℕ → Fault → Type 0
-IsBadLine before part fault = (form : Form) (asked : Asked) (lines : List (List ℕ)) (rest told : List ℕ) → IsAt form asked lines rest told before
-    → (line : ℕ) (why : Text) → fault ≡ BadEvent line why → (line ≡ length lines + 1) × IsBad form (rest ++ part)
+abbrev pub IsBadLine : Session → List ℕ → Halt → Type 0
+IsBadLine before part halt = (form : Form) (asked : Asked) (lines : List (List ℕ)) (rest told : List ℕ) → IsAt form asked lines rest told before
+    → (line : ℕ) (why : Text) → halt ≡ BadEvent line why → (line ≡ length lines + 1) × IsBad form (rest ++ part)
     × (IsOneLine (rest ++ part) → IsWhyText form (length lines + 1) (rest ++ part) why.items)
+
+-- Strictness is asked for, and behind these lines, of which this is told, this one says the first event that no program would give.
+pub record IsIllNext (form : Form) (asked : Asked) (lines : List (List ℕ)) (line told : List ℕ) (number : ℕ) (text : List ℕ) : Type 0 where
+  pub said : List Said
+  pub good : Say form 1 lines said
+  pub tells : IsToldOf form asked said told
+  pub saying : Saying
+  pub says : Says form line saying
+  pub one : IsIllOne asked said (record { line = length lines + 1; saying = saying }) number text
+
+-- or it does so
+abbrev pub IsIllRest : Session → List ℕ → Halt → Type 0
+IsIllRest before part halt = (form : Form) (asked : Asked) (lines : List (List ℕ)) (rest told : List ℕ) → IsAt form asked lines rest told before
+    → (ill : Ill) → halt ≡ IllFormed ill → IsIllNext form asked lines (rest ++ part) told ill.line ill.why.items
 
 -- this part more has come of the next line
 abbrev pub HasKept : Session → List ℕ → Session → Type 0
@@ -63,10 +80,14 @@ HasKept before part after = (form : Form) (asked : Asked) (lines : List (List �
     → IsAt form asked lines (rest ++ part) told after
 
 -- or it is too long
-abbrev pub IsTooLong : Session → List ℕ → Fault → Type 0
-IsTooLong before part fault = (form : Form) (asked : Asked) (lines : List (List ℕ)) (rest told : List ℕ) → IsAt form asked lines rest told before
-    → (line : ℕ) (why : Text) → fault ≡ BadEvent line why → (line ≡ length lines + 1) × (longest_line < length (rest ++ part))
+abbrev pub IsTooLong : Session → List ℕ → Halt → Type 0
+IsTooLong before part halt = (form : Form) (asked : Asked) (lines : List (List ℕ)) (rest told : List ℕ) → IsAt form asked lines rest told before
+    → (line : ℕ) (why : Text) → halt ≡ BadEvent line why → (line ≡ length lines + 1) × (longest_line < length (rest ++ part))
     × (why.items ≡ why_text line_too_long)
+
+-- that is no event that no program would give
+abbrev pub NeverIll : Halt → Type 0
+NeverIll halt = (ill : Ill) → halt ≢ IllFormed ill
 
 -- the session has read these bytes
 pub record HasLines (form : Form) (asked : Asked) (bytes told : List ℕ) (session : Session) : Type 0 where
@@ -93,20 +114,20 @@ abbrev pub HasGoneOn : Session → List ℕ → List ℕ → List ℕ → Sessio
 HasGoneOn before block old new after = (form : Form) (asked : Asked) (bytes told : List ℕ) → HasRead form asked bytes told before
     → (more : List ℕ) × (new ≡ old ++ more) × HasRead form asked (bytes ++ block) (told ++ more) after
 
--- It has told what is to be told of the lines before a bad one.
-abbrev pub IsStoppedAt : Session → List ℕ → List ℕ → List ℕ → Fault → Type 0
-IsStoppedAt before block old new fault = (form : Form) (asked : Asked) (bytes told : List ℕ) → HasRead form asked bytes told before
-    → (more : List ℕ) × (new ≡ old ++ more) × Stops form asked (bytes ++ block) fault (told ++ more)
+-- It has told what is to be told of the lines before the one at which it halts.
+abbrev pub IsStoppedAt : Session → List ℕ → List ℕ → List ℕ → Halt → Type 0
+IsStoppedAt before block old new halt = (form : Form) (asked : Asked) (bytes told : List ℕ) → HasRead form asked bytes told before
+    → (more : List ℕ) × (new ≡ old ++ more) × Stops form asked (bytes ++ block) halt (told ++ more)
 
 -- It has told all of a trace.
 abbrev pub HasEnded : Session → List ℕ → List ℕ → ℕ → Type 0
 HasEnded before old new status = (form : Form) (asked : Asked) (bytes told : List ℕ) → HasRead form asked bytes told before
     → (more : List ℕ) × (new ≡ old ++ more) × Ends form asked bytes status (told ++ more)
 
--- The last line is a bad one.
-abbrev pub HasFailed : Session → List ℕ → List ℕ → Fault → Type 0
-HasFailed before old new fault = (form : Form) (asked : Asked) (bytes told : List ℕ) → HasRead form asked bytes told before
-    → (more : List ℕ) × (new ≡ old ++ more) × Fails form asked bytes fault (told ++ more)
+-- It halts at the last line.
+abbrev pub HasFailed : Session → List ℕ → List ℕ → Halt → Type 0
+HasFailed before old new halt = (form : Form) (asked : Asked) (bytes told : List ℕ) → HasRead form asked bytes told before
+    → (more : List ℕ) × (new ≡ old ++ more) × Fails form asked bytes halt (told ++ more)
 
 -- the number of the line that comes next
 abbrev pub IsNext : Session → ℕ → Type 0
@@ -114,5 +135,16 @@ IsNext session number = number ≡ session.lines + 1
 
 -- a fault of this line is that it is bad, or else that memory ran out
 abbrev pub FailsLine : Form → List ℕ → ℕ → Fault → Type 0
-FailsLine form line number fault = (other : ℕ) (why : Text) → fault ≡ BadEvent other why → (other ≡ number) × IsBad form line
+FailsLine form line number fault = (other : ℕ) (why : Text) → fault ≡ faults.BadEvent other why → (other ≡ number) × IsBad form line
     × (IsOneLine line → IsWhyText form number line why.items)
+
+-- likewise a halt,
+abbrev pub HaltsLine : Form → List ℕ → ℕ → Halt → Type 0
+HaltsLine form line number halt = (other : ℕ) (why : Text) → halt ≡ BadEvent other why → (other ≡ number) × IsBad form line
+    × (IsOneLine line → IsWhyText form number line why.items)
+
+-- or that it says the first event that no program would give
+abbrev pub IsIllLine : Form → Asked → List ℕ → ℕ → Judged → Halt → Type 0
+IsIllLine form asked line number before halt = (all : List Said) (told : List ℕ) → HasJudged form asked all told before
+    → (ill : Ill) → halt ≡ IllFormed ill → (saying : Saying) × Says form line saying
+    × IsIllOne asked all (record { line = number; saying = saying }) ill.line ill.why.items

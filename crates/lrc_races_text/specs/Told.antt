@@ -1,18 +1,19 @@
 -- What is told of a trace, from its bytes.
-use Rattle.std.specs.Prelude.{◌≡◌, ℕ, ◌+◌, ◌<◌, ◌≤◌, ◌⊎◌, ◌==◌, if◌then◌else◌, List, [], ◌∷◌, ◌++◌, Option, flat_map, length}
+use Rattle.std.specs.Prelude.{◌≡◌, ℕ, ◌+◌, ◌<◌, ◌≤◌, ◌⊎◌, ◌==◌, if◌then◌else◌, true, List, [], ◌∷◌, ◌++◌, Option, None, flat_map, length}
 use Rattle.lrc_races_trace.specs.declared.event.Event.{Event}
 use Rattle.lrc_races_trace.specs.declared.event.Pair.{Pair}
 use Rattle.lrc_races_trace.specs.declared.fault.Fault.{Fault as IllFormed}
 use Rattle.lrc_races_trace.specs.declared.group.Group.{Group}
 use Rattle.lrc_races_trace.specs.Formed.{IsFirstFault}
 use Rattle.lrc_races_trace.specs.Groups.{AreGroups}
-use Rattle.lrc_races_lines.specs.Line.{line_feed, longest_line}
+use Rattle.lrc_races_lines.specs.Line.{Saying, line_feed, longest_line}
 use Rattle.lrc_races_lines.specs.Lacking.{Lacks}
 use Rattle.lrc_races_text.specs.declared.asked.Asked.{Asked}
 use Rattle.lrc_races_text.specs.declared.form.Form.{Form}
-use Rattle.lrc_races_text.specs.declared.fault.Fault.{Fault}
-use Rattle.lrc_races_text.specs.declared.fault.Fault.TheVariants.{BadEvent, NoMemory}
-use Rattle.lrc_races_text.specs.Says.{Said, Say, IsFirstBad, IsWhyText}
+use Rattle.lrc_races_text.specs.declared.halt.Halt.{Halt}
+use Rattle.lrc_races_text.specs.declared.halt.Halt.TheVariants as halts
+use Rattle.lrc_races_text.specs.Says.{Said, Say, Says, IsFirstBad, IsWhyText}
+use Rattle.lrc_races_text.specs.Ill.{IsFirstIll}
 use Rattle.lrc_races_text.specs.Naming.{Naming, IsTrace}
 use Rattle.lrc_races_text.specs.Sought.{AreSought}
 use Rattle.lrc_races_text.specs.Layouts.{end_lines, pair_lines}
@@ -35,12 +36,17 @@ pub record IsCut (bytes : List ℕ) (lines : List (List ℕ)) (rest : List ℕ) 
   pub each : AreLines lines
   pub last : IsOneLine rest
 
+-- where strictness is asked for, each of these events is one that a program would give
+abbrev pub ArePermitted : Asked → List Event → Type 0
+ArePermitted asked events = asked.strict ≡ true → IsFirstFault events (length events) None
+
 -- The pairs that are told of what is said, and the text of them: a line for each, but no line where they are told in groups.
 pub record IsToldOf (form : Form) (asked : Asked) (said : List Said) (told : List ℕ) : Type 0 where
   pub naming : Naming
   pub events : List Event
   pub pairs : List Pair
   pub trace : IsTrace said naming events
+  pub permitted : ArePermitted asked events
   pub are_told : AreSought asked.sought events pairs
   pub text : told ≡ (if asked.group then [] else pair_lines asked.layout form naming pairs)
 
@@ -76,9 +82,34 @@ pub record IsReason (form : Form) (bytes : List ℕ) (number : ℕ) (text : List
   pub counted : number ≡ length before + 1
   pub why : IsWhyText form number line text
 
-abbrev pub Stops : Form → Asked → List ℕ → Fault → List ℕ → Type 0
-Stops form asked bytes (BadEvent line why) told = IsBadEvent form asked bytes line told × IsReason form bytes line why.items
-Stops form asked bytes NoMemory told = Unit {0}
+-- Strictness is asked for, and of these lines the one with this number says the first event that no program would give, for which this
+-- text says why. What is told is told of the lines before it.
+pub record IsIllEvent (form : Form) (asked : Asked) (lines : List (List ℕ)) (number : ℕ) (text told : List ℕ) : Type 0 where
+  pub strict : asked.strict ≡ true
+  pub before : List (List ℕ)
+  pub line : List ℕ
+  pub after : List (List ℕ)
+  pub whole : lines ≡ before ++ line ∷ after
+  pub counted : number ≡ length before + 1
+  pub said : List Said
+  pub good : Say form 1 before said
+  pub tells : IsToldOf form asked said told
+  pub saying : Saying
+  pub says : Says form line saying
+  pub first : IsFirstIll (said ++ record { line = number; saying = saying } ∷ []) number text
+
+-- that line has come whole
+pub record HasIllEvent (form : Form) (asked : Asked) (bytes : List ℕ) (number : ℕ) (text told : List ℕ) : Type 0 where
+  pub lines : List (List ℕ)
+  pub rest : List ℕ
+  pub cut : IsCut bytes lines rest
+  pub ill : IsIllEvent form asked lines number text told
+
+-- why no more is told of these bytes
+abbrev pub Stops : Form → Asked → List ℕ → Halt → List ℕ → Type 0
+Stops form asked bytes (halts.BadEvent line why) told = IsBadEvent form asked bytes line told × IsReason form bytes line why.items
+Stops form asked bytes (halts.IllFormed ill) told = HasIllEvent form asked bytes ill.line ill.why.items told
+Stops form asked bytes halts.NoMemory told = Unit {0}
 
 -- All that is told of a trace: behind the pairs the groups, where they are asked for, the first event that no program would give,
 -- and how many there are of all; and the status.
@@ -92,6 +123,7 @@ pub record IsWholeOf (form : Form) (asked : Asked) (said : List Said) (status : 
   pub are_told : AreSought asked.sought events pairs
   pub are_groups : AreGroups (if asked.group then pairs else []) groups
   pub first_fault : IsFirstFault events (length events) fault
+  pub permitted : ArePermitted asked events
   pub text : told ≡ (if asked.group then [] else pair_lines asked.layout form naming pairs)
       ++ end_lines asked.layout form naming groups fault (length pairs) (length events)
   pub answer : status ≡ (if length pairs == 0 then 0 else 3)
@@ -113,6 +145,15 @@ pub record IsBadTrace (form : Form) (asked : Asked) (bytes : List ℕ) (line : �
   pub first : IsFirstBad form (lines ++ rest ∷ []) line said
   pub tells : IsToldOf form asked said told
 
-abbrev pub Fails : Form → Asked → List ℕ → Fault → List ℕ → Type 0
-Fails form asked bytes (BadEvent line why) told = IsBadTrace form asked bytes line told × IsReason form bytes line why.items
-Fails form asked bytes NoMemory told = Unit {0}
+-- The bytes are a whole trace, and one of its lines says such an event.
+pub record IsIllTrace (form : Form) (asked : Asked) (bytes : List ℕ) (number : ℕ) (text told : List ℕ) : Type 0 where
+  pub lines : List (List ℕ)
+  pub rest : List ℕ
+  pub cut : IsCut bytes lines rest
+  pub ill : IsIllEvent form asked (lines ++ rest ∷ []) number text told
+
+-- why no more is told of a whole trace
+abbrev pub Fails : Form → Asked → List ℕ → Halt → List ℕ → Type 0
+Fails form asked bytes (halts.BadEvent line why) told = IsBadTrace form asked bytes line told × IsReason form bytes line why.items
+Fails form asked bytes (halts.IllFormed ill) told = IsIllTrace form asked bytes ill.line ill.why.items told
+Fails form asked bytes halts.NoMemory told = Unit {0}

@@ -27,4 +27,6 @@ pub struct Asked {
     pub group: bool,
     /// How the lines of the report are written.
     pub layout: Layout,
+    /// Whether an event that no program would give is a fault of the trace.
+    pub strict: bool,
 }

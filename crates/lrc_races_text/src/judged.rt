@@ -1,22 +1,24 @@
 // A trace as it is judged, one event after another.
-ghost use Rattle.std.specs.Prelude.{◌≡◌, ◌+◌, [], IfErr, IfOk, OnErr, OnOk};
+ghost use Rattle.std.specs.Prelude.{◌≡◌, ◌+◌, [], true, IfErr, IfOk, OnErr, OnOk};
 ghost use Rattle.lrc_races_lines.specs.Line.{saying_of};
-ghost use Rattle.lrc_races_text.specs.declared.fault.Fault.TheVariants.{NoMemory};
+ghost use Rattle.lrc_races_text.specs.declared.halt.Halt.TheVariants.{BadEvent, NoMemory};
 ghost use Rattle.lrc_races_text.specs.declared.asked.Asked.{Asked as AnyAsked};
 ghost use Rattle.lrc_races_text.specs.declared.form.Form.{Form as AnyForm};
 ghost use Rattle.lrc_races_text.specs.Tables.{naming_of};
-ghost use Rattle.lrc_races_text.specs.Judged.{HasJudged, HasJudgedOne, HasToldAll, IsTelling};
+ghost use Rattle.lrc_races_text.specs.Judged.{FindsIll, FindsNone, HasHaltedOne, HasJudged, HasJudgedOne, HasToldAll, IsHaltFor, IsTelling, NeverBad};
 
 use crate::asked::{Asked, Sought};
-use crate::fault::Fault;
 use crate::form::Form;
+use crate::halt::Halt;
+use crate::ill::ill_of;
 use crate::layouts::{push_end_lines, push_pair_lines};
 use crate::naming::Names;
 use crate::race_detector::RaceDetector;
 use lrc_races_detector::fault_finder::FaultFinder;
 use lrc_races_detector::groups::Groups;
 use lrc_races_lines::line::Named;
-use lrc_races_trace::event::{Event, Pair};
+use lrc_races_trace::event::Pair;
+use lrc_races_trace::fault::Fault;
 use std::alloc::{AllocError, Global};
 
 /// The state of the analysis after the events so far.
@@ -59,13 +61,37 @@ fn tell(
 }
 
 // The sum of two numbers.
-fn sum(one: u64, other: u64) -> Result<u64, Fault>
+fn sum(one: u64, other: u64) -> Result<u64, Halt>
     ensures ok { IfOk result (λ both. both ≡ one + other) }
-    ensures err { IfErr result (λ fault. fault ≡ NoMemory) }
+    ensures err { IfErr result (λ halt. halt ≡ NoMemory) }
 {
     match one.checked_add(other) {
         Some(both) => Ok(both),
-        None => Err(Fault::NoMemory),
+        None => Err(Halt::NoMemory),
+    }
+}
+
+// The halt at an event that no program would give, or, if there is no memory for what is said of it, that there is none.
+fn ill_event(alloc: Global, names: &Names, fault: Fault) -> Halt
+    ensures { IsHaltFor (naming_of names.now) fault result }
+{
+    match ill_of(alloc, names, fault) {
+        Ok(ill) => Halt::IllFormed(ill),
+        Err(_error) => Halt::NoMemory,
+    }
+}
+
+// Halts at an event that no program would give, where strictness is asked for.
+fn heed(alloc: Global, asked: Asked, names: &Names, finder: &FaultFinder) -> Result<(), Halt>
+    ensures permitted { OnOk result (asked.strict ≡ true → FindsNone finder.now) }
+    ensures ill { IfErr result (FindsIll asked (naming_of names.now) finder.now) }
+{
+    if !asked.strict {
+        return Ok(());
+    }
+    match finder.fault() {
+        Some(fault) => Err(ill_event(alloc, names, fault)),
+        None => Ok(()),
     }
 }
 
@@ -87,7 +113,8 @@ impl Judged {
     }
 
     /// Takes the event that a line names. It adds the lines of the races reported for the event to `out`, or puts the
-    /// races into their groups. On error `out` does not change.
+    /// races into their groups. If strictness is asked for, it fails at an event that no program would give. On error
+    /// `out` does not change.
     pub fn take(
         &mut self,
         form: Form,
@@ -95,19 +122,23 @@ impl Judged {
         named: Named<'_>,
         line: u64,
         out: &mut Vec<u8>,
-    ) -> Result<(), Fault>
+    ) -> Result<(), Halt>
         ensures ok { OnOk result (HasJudgedOne form asked
             (record { line = line; saying = saying_of named.entry }) self.old out.old.items self.new
             out.new.items) }
         ensures err { OnErr result (out.new.items ≡ out.old.items) }
-        ensures memory { IfErr result (λ fault. fault ≡ NoMemory) }
+        ensures bad { IfErr result NeverBad }
+        ensures ill { IfErr result (HasHaltedOne form asked
+            (record { line = line; saying = saying_of named.entry }) self.old) }
     {
         if self.detector.position() >= u64::MAX - 1 {
-            return Err(Fault::NoMemory);
+            return Err(Halt::NoMemory);
         }
         let event = self.names.event(named, line)?;
         self.detector.take(event, &mut self.told)?;
         self.finder.take(event)?;
+        let alloc = *self.text.allocator();
+        heed(alloc, asked, &self.names, &self.finder)?;
         self.races = sum(self.races, self.told.len() as u64)?;
         tell(
             &mut self.groups,

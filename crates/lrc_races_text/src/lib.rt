@@ -6,6 +6,8 @@ pub mod acts;
 pub mod asked;
 pub mod fault;
 pub mod form;
+pub mod halt;
+pub mod ill;
 pub mod judged;
 pub mod layouts;
 pub mod naming;

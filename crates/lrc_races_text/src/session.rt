@@ -1,13 +1,13 @@
 // A trace as it comes, block by block.
 ghost use Rattle.std.specs.Prelude.{◌≡◌, ◌↔◌, ◌<◌, ◌+◌, [], IfErr, IfOk, IsTrue, OnErr, OnOk, length};
 ghost use Rattle.lrc_races_lines.specs.Line.{longest_line};
-ghost use Rattle.lrc_races_text.specs.declared.fault.Fault.TheVariants.{NoMemory};
+ghost use Rattle.lrc_races_text.specs.declared.halt.Halt.TheVariants.{NoMemory};
 ghost use Rattle.lrc_races_text.specs.Session.{HasTakenLine, HasCompleted, IsBadLine, HasKept, IsTooLong};
-ghost use Rattle.lrc_races_text.specs.Session.{HasRead, HasGoneOn, IsStoppedAt, HasEnded, HasFailed, IsNext, FailsLine};
+ghost use Rattle.lrc_races_text.specs.Session.{HasRead, HasGoneOn, IsStoppedAt, HasEnded, HasFailed, HaltsLine, IsIllLine, IsIllRest, IsNext, NeverIll};
 
 use crate::asked::Asked;
-use crate::fault::Fault;
 use crate::form::Form;
+use crate::halt::{Halt, halt_of};
 use crate::judged::Judged;
 use crate::reading::{LONGEST_LINE, bad_event, cause_in, read};
 use lrc_races_lines::cause::Cause;
@@ -35,18 +35,19 @@ fn take_line(
     line: &[u8],
     number: u64,
     out: &mut Vec<u8>,
-) -> Result<(), Fault>
+) -> Result<(), Halt>
     ensures ok { OnOk result (HasTakenLine form asked line.now number judged.old out.old.items
         judged.new out.new.items) }
     ensures kept { OnErr result (out.new.items ≡ out.old.items) }
-    ensures bad { IfErr result (FailsLine form line.now number) }
+    ensures bad { IfErr result (HaltsLine form line.now number) }
+    ensures ill { IfErr result (IsIllLine form asked line.now number judged.old) }
 {
     match read(form, line) {
         Line::Nothing => Ok(()),
         Line::Event(named) => judged.take(form, asked, named, number, out),
         Line::Bad => {
             let alloc = *judged.text.allocator();
-            Err(bad_event(alloc, number, cause_in(form, number, line)))
+            Err(halt_of(bad_event(alloc, number, cause_in(form, number, line))))
         }
     }
 }
@@ -66,13 +67,13 @@ impl Session {
     }
 
     // The number of the line that comes next.
-    fn next(&self) -> Result<u64, Fault>
+    fn next(&self) -> Result<u64, Halt>
         ensures ok { IfOk result (IsNext self.now) }
-        ensures memory { IfErr result (λ fault. fault ≡ NoMemory) }
+        ensures memory { IfErr result (λ halt. halt ≡ NoMemory) }
     {
         match self.lines.checked_add(1) {
             Some(number) => Ok(number),
-            None => Err(Fault::NoMemory),
+            None => Err(Halt::NoMemory),
         }
     }
 
@@ -87,24 +88,26 @@ impl Session {
     }
 
     // Keeps what has come of a line that is cut.
-    fn keep(&mut self, part: &[u8]) -> Result<(), Fault>
+    fn keep(&mut self, part: &[u8]) -> Result<(), Halt>
         ensures ok { OnOk result (HasKept self.old part.now self.new) }
         ensures bad { IfErr result (IsTooLong self.old part.now) }
+        ensures ill { IfErr result NeverIll }
     {
         let number = self.next()?;
         if self.is_too_long(part) {
             let alloc = *self.rest.allocator();
-            return Err(bad_event(alloc, number, Cause::LineTooLong));
+            return Err(halt_of(bad_event(alloc, number, Cause::LineTooLong)));
         }
         self.rest.extend_from_slice(part)?;
         Ok(())
     }
 
     // Takes the next line, of which all has come.
-    fn take_rest(&mut self, out: &mut Vec<u8>) -> Result<(), Fault>
+    fn take_rest(&mut self, out: &mut Vec<u8>) -> Result<(), Halt>
         ensures ok { OnOk result (HasCompleted self.old [] out.old.items out.new.items self.new) }
         ensures kept { OnErr result (out.new.items ≡ out.old.items) }
         ensures bad { IfErr result (IsBadLine self.old []) }
+        ensures ill { IfErr result (IsIllRest self.old []) }
     {
         let number = self.next()?;
         let line = self.rest.as_slice();
@@ -115,12 +118,13 @@ impl Session {
     }
 
     // Takes the next line, which is this one.
-    fn take_whole(&mut self, line: &[u8], out: &mut Vec<u8>) -> Result<(), Fault>
+    fn take_whole(&mut self, line: &[u8], out: &mut Vec<u8>) -> Result<(), Halt>
         requires { self.old.rest.items ≡ [] }
         ensures ok { OnOk result (HasCompleted self.old line.now out.old.items out.new.items
             self.new) }
         ensures kept { OnErr result (out.new.items ≡ out.old.items) }
         ensures bad { IfErr result (IsBadLine self.old line.now) }
+        ensures ill { IfErr result (IsIllRest self.old line.now) }
     {
         let number = self.next()?;
         take_line(&mut self.judged, self.form, self.asked, line, number, out)?;
@@ -129,25 +133,26 @@ impl Session {
     }
 
     // Takes what the next line has up to its line feed.
-    fn complete(&mut self, part: &[u8], out: &mut Vec<u8>) -> Result<(), Fault>
+    fn complete(&mut self, part: &[u8], out: &mut Vec<u8>) -> Result<(), Halt>
         ensures ok { OnOk result (HasCompleted self.old part.now out.old.items out.new.items
             self.new) }
         ensures kept { OnErr result (out.new.items ≡ out.old.items) }
         ensures bad { IfErr result (IsBadLine self.old part.now) }
+        ensures ill { IfErr result (IsIllRest self.old part.now) }
     {
         if self.rest.is_empty() {
             return self.take_whole(part, out);
         }
         match self.keep(part) {
             Ok(()) => self.take_rest(out),
-            Err(fault) => Err(fault),
+            Err(halt) => Err(halt),
         }
     }
 
     /// Takes the next block of the trace, of any size, and adds to `out` what is reported of the lines that it
-    /// completes. After a fault the session is of no more use; `out` then holds the report of the lines before the bad
-    /// one.
-    pub fn take(&mut self, block: &[u8], out: &mut Vec<u8>) -> Result<(), Fault>
+    /// completes. After a halt the session is of no more use; `out` then holds the report of the lines before the one
+    /// at which it halts.
+    pub fn take(&mut self, block: &[u8], out: &mut Vec<u8>) -> Result<(), Halt>
         ensures ok { OnOk result (HasGoneOn self.old block.now out.old.items out.new.items
             self.new) }
         ensures bad { IfErr result (IsStoppedAt self.old block.now out.old.items out.new.items) }
@@ -156,7 +161,7 @@ impl Session {
         while let Some((part, behind)) = split(left, b'\n') {
             match self.complete(part, out) {
                 Ok(()) => left = behind,
-                Err(fault) => return Err(fault),
+                Err(halt) => return Err(halt),
             }
         }
         self.keep(left)
@@ -164,17 +169,17 @@ impl Session {
 
     /// Ends the trace. It adds the report of a last line without a line feed, the groups, what is not well formed, and
     /// the last line. Returns the exit status: 3 if a race was reported, else 0. It must be called only once.
-    pub fn finish(&mut self, out: &mut Vec<u8>) -> Result<u8, Fault>
+    pub fn finish(&mut self, out: &mut Vec<u8>) -> Result<u8, Halt>
         ensures ok { IfOk result (HasEnded self.old out.old.items out.new.items) }
         ensures bad { IfErr result (HasFailed self.old out.old.items out.new.items) }
     {
         match self.take_rest(out) {
             Ok(()) => {}
-            Err(fault) => return Err(fault),
+            Err(halt) => return Err(halt),
         }
         match self.judged.end(self.form, self.asked, out) {
             Ok(status) => Ok(status),
-            Err(_) => Err(Fault::NoMemory),
+            Err(_) => Err(Halt::NoMemory),
         }
     }
 }

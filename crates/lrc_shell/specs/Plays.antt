@@ -13,7 +13,8 @@ use Rattle.lrc_cli_args.specs.declared.choice.Grouping.{Grouping}
 use Rattle.lrc_cli_args.specs.declared.choice.Grouping.TheVariants.{Each, Groups, Locations}
 use Rattle.lrc_cli_args.specs.declared.choice.Racing.{Racing}
 use Rattle.lrc_cli_args.specs.declared.choice.Reasoning.{Reasoning}
-use Rattle.lrc_cli_args.specs.declared.choice.Request.TheVariants.{About, Races, Reasons, Witness, Answer}
+use Rattle.lrc_cli_args.specs.declared.choice.Request.TheVariants.{About, Races, Reasons, Score, Witness, Answer}
+use Rattle.lrc_cli_args.specs.declared.choice.Scoring.{Scoring}
 use Rattle.lrc_cli_args.specs.declared.choice.Topic.{Topic}
 use Rattle.lrc_cli_args.specs.declared.choice.TraceForm.{TraceForm}
 use Rattle.lrc_cli_args.specs.declared.choice.TraceForm.TheVariants as args
@@ -28,6 +29,7 @@ use Rattle.lrc_races_text.specs.declared.form.Form.{Form}
 use Rattle.lrc_races_text.specs.declared.form.Form.TheVariants as races
 use Rattle.lrc_races_stream.specs.Locations.{IsLocationsPlayed}
 use Rattle.lrc_races_stream.specs.Plays.{IsRacesPlayed}
+use Rattle.lrc_races_stream.specs.Score.{IsScorePlayed}
 use Rattle.lrc_races_stream.specs.Why.{IsWhyPlayed}
 use Rattle.lrc_races_stream.specs.Witness.{IsWitnessPlayed}
 use Rattle.lrc_shell_sources.specs.Known.{IsCause, IsFront, Known}
@@ -116,7 +118,12 @@ is_grouped Locations = false
 
 -- what they ask of the trace
 abbrev pub asked_of : Racing → Asked
-asked_of racing = record { sought = sought_of racing.sure; group = is_grouped racing.grouping; layout = layout_of racing.json }
+asked_of racing = record {
+  sought = sought_of racing.sure;
+  group = is_grouped racing.grouping;
+  layout = layout_of racing.json;
+  strict = racing.strict;
+}
 
 -- What comes of a trace whose races are asked for: they are told as it is read, or its pairs of locations when it has ended.
 abbrev pub IsRacingTold : Known → Racing → Grouping → Option (List ℕ) → Option (List ℕ) → Option (List ℕ) → Option (List ℕ) → ℕ → Type 0
@@ -125,7 +132,7 @@ IsRacingTold known racing Each out out' err err' status =
 IsRacingTold known racing Groups out out' err err' status =
     IsRacesPlayed known racing.file.now (form_of racing.form) (asked_of racing) out out' err err' status
 IsRacingTold known racing Locations out out' err err' status =
-    IsLocationsPlayed known racing.file.now (form_of racing.form) (sought_of racing.sure) (layout_of racing.json) out out' err err' status
+    IsLocationsPlayed known racing.file.now (form_of racing.form) racing.strict (sought_of racing.sure) (layout_of racing.json) out out' err err' status
 
 -- What comes of the words: they ask for nothing, and nothing is printed, or what comes of the topic, the trace or the choice that they
 -- ask for.
@@ -136,11 +143,14 @@ pub data Plays (known : Known) (words : List Text) (out out' err err' : Option (
   raced : (racing : Racing) → Chooses words (Ok (Races racing))
       → IsRacingTold known racing racing.grouping out out' err err' status → Plays known words out out' err err' status
   witnessed : (witnessing : Witnessing) → Chooses words (Ok (Witness witnessing))
-      → IsWitnessPlayed known witnessing.file.now (form_of witnessing.form) witnessing.lines.first witnessing.lines.second out out' err err' status
-      → Plays known words out out' err err' status
+      → IsWitnessPlayed known witnessing.file.now (form_of witnessing.form) witnessing.strict witnessing.lines.first witnessing.lines.second
+      out out' err err' status → Plays known words out out' err err' status
   reasoned : (reasoning : Reasoning) → Chooses words (Ok (Reasons reasoning))
-      → IsWhyPlayed known reasoning.file.now (form_of reasoning.form) reasoning.lines.first reasoning.lines.second out out' err err' status
-      → Plays known words out out' err err' status
+      → IsWhyPlayed known reasoning.file.now (form_of reasoning.form) reasoning.strict reasoning.lines.first reasoning.lines.second
+      out out' err err' status → Plays known words out out' err err' status
+  scored : (scoring : Scoring) → Chooses words (Ok (Score scoring))
+      → IsScorePlayed known scoring.file.now scoring.report.now (form_of scoring.form) scoring.strict (sought_of scoring.sure)
+      out out' err err' status → Plays known words out out' err err' status
   played : (choice : Choice) → Chooses words (Ok (Answer choice)) → IsPlayed known choice out out' err err' status
       → Plays known words out out' err err' status
 

@@ -66,13 +66,15 @@ fn tell_locations<F: Sources, W: Write, E: Write>(
     err: &mut E,
 ) -> u8
     ensures { IsLocationsPlayed (F.known sources.now) racing.now.file.now
-        (form_of racing.now.form) (sought_of racing.now.sure) (layout_of racing.now.json)
+        (form_of racing.now.form) racing.now.strict (sought_of racing.now.sure)
+        (layout_of racing.now.json)
         (W.contents out.old) (W.contents out.new) (E.contents err.old) (E.contents err.new) result }
 {
     play_locations(
         alloc,
         racing.file,
         form_of(racing.form),
+        racing.strict,
         sought_of(racing.sure),
         layout_of(racing.json),
         sources,
@@ -90,13 +92,14 @@ pub(crate) fn tell_witness<F: Sources, W: Write, E: Write>(
     err: &mut E,
 ) -> u8
     ensures { IsWitnessPlayed (F.known sources.now) witnessing.now.file.now
-        (form_of witnessing.now.form) witnessing.now.lines.first witnessing.now.lines.second
+        (form_of witnessing.now.form) witnessing.now.strict witnessing.now.lines.first witnessing.now.lines.second
         (W.contents out.old) (W.contents out.new) (E.contents err.old) (E.contents err.new) result }
 {
     play_witness(
         alloc,
         witnessing.file,
         form_of(witnessing.form),
+        witnessing.strict,
         witnessing.lines.first,
         witnessing.lines.second,
         sources,
@@ -114,13 +117,14 @@ pub(crate) fn tell_reasons<F: Sources, W: Write, E: Write>(
     err: &mut E,
 ) -> u8
     ensures { IsWhyPlayed (F.known sources.now) reasoning.now.file.now
-        (form_of reasoning.now.form) reasoning.now.lines.first reasoning.now.lines.second
+        (form_of reasoning.now.form) reasoning.now.strict reasoning.now.lines.first reasoning.now.lines.second
         (W.contents out.old) (W.contents out.new) (E.contents err.old) (E.contents err.new) result }
 {
     play_why(
         alloc,
         reasoning.file,
         form_of(reasoning.form),
+        reasoning.strict,
         reasoning.lines.first,
         reasoning.lines.second,
         sources,
@@ -129,7 +133,7 @@ pub(crate) fn tell_reasons<F: Sources, W: Write, E: Write>(
     )
 }
 
-fn form_of(form: TraceForm) -> Form
+pub(crate) fn form_of(form: TraceForm) -> Form
     ensures { result ≡ form_of form }
 {
     match form {
@@ -145,6 +149,7 @@ fn asked_of(racing: &Racing<'_>) -> Asked
         sought: sought_of(racing.sure),
         group: is_grouped(racing.grouping),
         layout: layout_of(racing.json),
+        strict: racing.strict,
     }
 }
 
@@ -163,7 +168,7 @@ fn layout_of(json: bool) -> Layout
     if json { Layout::Objects } else { Layout::Words }
 }
 
-fn sought_of(sure: bool) -> Sought
+pub(crate) fn sought_of(sure: bool) -> Sought
     ensures { result ≡ sought_of sure }
 {
     if sure {

@@ -1,8 +1,8 @@
 // What is printed of traces, in blocks of any size.
 
 use lrc_races_text::asked::{Asked, Layout, Sought};
-use lrc_races_text::fault::Fault;
 use lrc_races_text::form::Form;
+use lrc_races_text::halt::Halt;
 use lrc_races_text::session::Session;
 use std::alloc::Global;
 
@@ -10,6 +10,7 @@ const ALL: Asked = Asked {
     sought: Sought::AllRaces,
     group: false,
     layout: Layout::Words,
+    strict: false,
 };
 
 const ALL_BY_GROUP: Asked = Asked { group: true, ..ALL };
@@ -28,6 +29,17 @@ const SURE_OBJECTS_BY_GROUP: Asked = Asked {
     sought: Sought::SureRaces,
     group: true,
     layout: Layout::Objects,
+    strict: false,
+};
+
+const STRICT: Asked = Asked {
+    strict: true,
+    ..ALL
+};
+
+const STRICT_BY_GROUP: Asked = Asked {
+    group: true,
+    ..STRICT
 };
 
 // A trace, how it is read, and what is printed of it, with the status or the fault.
@@ -146,6 +158,46 @@ const ROWS: &[Row] = &[
         end: Ok(3),
     },
     Row {
+        name: "strictly, where no event is wrong",
+        form: Form::Std,
+        asked: STRICT,
+        trace: b"T1|w(x)\nT2|w(x)\n",
+        printed: b"race x: line 1 T1 write, line 2 T2 write\nraces 1, events 2, threads 2, variables 1, locks 0, barriers 0\n",
+        end: Ok(3),
+    },
+    Row {
+        name: "strictly, what is wrong is not reported itself, and nothing behind it",
+        form: Form::Std,
+        asked: STRICT,
+        trace: b"T2|w(x)\nT3|r(x)\nT3|join(T1)\n\nT1|w(x)\nT4|w(x)\nT4|w\n",
+        printed: b"race x: line 1 T2 write, line 2 T3 read\n",
+        end: Err(5),
+    },
+    Row {
+        name: "strictly, a bad line first",
+        form: Form::Std,
+        asked: STRICT,
+        trace: b"T1|w(x)\nT1|w\nT1|rel(l)\n",
+        printed: b"",
+        end: Err(2),
+    },
+    Row {
+        name: "strictly, no groups behind a last line that is wrong",
+        form: Form::Std,
+        asked: STRICT_BY_GROUP,
+        trace: b"T1|w(x)|a\nT2|w(x)|b\nT1|fork(T2)",
+        printed: b"",
+        end: Err(3),
+    },
+    Row {
+        name: "strictly, of acts",
+        form: Form::Acts,
+        asked: STRICT,
+        trace: b"0 release 3\n",
+        printed: b"",
+        end: Err(1),
+    },
+    Row {
         name: "nothing",
         form: Form::Std,
         asked: ALL_BY_GROUP,
@@ -160,7 +212,7 @@ fn take_all(
     trace: &[u8],
     size: usize,
     out: &mut Vec<u8>,
-) -> Result<(), Fault> {
+) -> Result<(), Halt> {
     let mut left = trace;
     for _ in 0..trace.len() {
         if left.len() > size {
@@ -172,15 +224,16 @@ fn take_all(
     session.take(left, out)
 }
 
-fn play(session: &mut Session, trace: &[u8], size: usize, out: &mut Vec<u8>) -> Result<u8, Fault> {
+fn play(session: &mut Session, trace: &[u8], size: usize, out: &mut Vec<u8>) -> Result<u8, Halt> {
     take_all(session, trace, size, out)?;
     session.finish(out)
 }
 
-fn is_end(found: Result<u8, Fault>, wanted: Result<u8, u64>) -> bool {
+fn is_end(found: Result<u8, Halt>, wanted: Result<u8, u64>) -> bool {
     match (found, wanted) {
         (Ok(status), Ok(other)) => status == other,
-        (Err(Fault::BadEvent(line, _why)), Err(other)) => line == other,
+        (Err(Halt::BadEvent(line, _why)), Err(other)) => line == other,
+        (Err(Halt::IllFormed(ill)), Err(other)) => ill.line == other,
         _ => false,
     }
 }

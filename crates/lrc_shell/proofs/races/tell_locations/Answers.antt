@@ -15,9 +15,9 @@ returns g c =
     let err = g.E.Write.contents c.args.err.now in
     let err' = g.E.Write.contents c.play_locations.new.err in
     let status = c.play_locations.result in
-    subst (λ (layout : Layout). IsLocationsPlayed known path (form_of c.args.racing.now.form) (sought_of c.args.racing.now.sure) layout out out' err err' status)
+    subst (λ (layout : Layout). IsLocationsPlayed known path (form_of c.args.racing.now.form) c.args.racing.now.strict (sought_of c.args.racing.now.sure) layout out out' err err' status)
     c.layout_of.ensures
-    (subst (λ (sought : Sought). IsLocationsPlayed known path (form_of c.args.racing.now.form) sought c.layout_of.result out out' err err' status)
+    (subst (λ (sought : Sought). IsLocationsPlayed known path (form_of c.args.racing.now.form) c.args.racing.now.strict sought c.layout_of.result out out' err err' status)
     c.sought_of.ensures
-    (subst (λ (form : Form). IsLocationsPlayed known path form c.sought_of.result c.layout_of.result out out' err err' status) c.form_of.ensures
+    (subst (λ (form : Form). IsLocationsPlayed known path form c.args.racing.now.strict c.sought_of.result c.layout_of.result out out' err err' status) c.form_of.ensures
     c.play_locations.ensures))

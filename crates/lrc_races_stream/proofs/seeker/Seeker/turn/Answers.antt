@@ -34,5 +34,5 @@ returns-in-Ok-clause-stop g c =
 
 pub returns-in-Err-clause-stop : goal.returns-in-Err-clause-stop
 returns-in-Err-clause-stop g c sought form last held u =
-    no_more g.K.Keep.has_kept sought form last held (g.B.Blocks.left c.args.trace.now) _ u _ _
+    no_more g.K.Keep.has_kept sought form last held (g.B.Blocks.left c.args.trace.now) _ u _
     (subst (λ (kind : ErrorKind). IsCause (g.B.Blocks.left c.args.trace.now) kind) (sym c.kind.ensures) c.in-Err.ensures.err)

@@ -1,4 +1,4 @@
-use Rattle.lrc_races_stream.proofs.TellerLemmas.{cut_at, cut_unwritten, ended_so, ended_unwritten, out_of_memory}
+use Rattle.lrc_races_stream.proofs.TellerLemmas.{cut_at, cut_unwritten, ended_so, ended_unwritten, ill_end, ill_end_unwritten, out_of_memory}
 use Rattle.lrc_races_stream.proofs.teller.Teller.finish.Goals as goal
 
 pub returns-in-Ok-write : goal.returns-in-Ok-write
@@ -20,6 +20,16 @@ pub returns-in-Err-write : goal.returns-in-Err-write
 returns-in-Err-write g c form asked held left start u end =
     cut_unwritten form asked held left start _ _ u _ c.in-Err-BadEvent.line c.in-Err-BadEvent.why _ _ _ _ end c.clear.ensures.items c.in-Err-BadEvent.field-0-is c.in-Err-BadEvent.ensures.bad
     c.deref-in-Err-BadEvent.ensures.value c.in-Err-write.ensures.err
+
+pub returns-in-Ok-write-3 : goal.returns-in-Ok-write-3
+returns-in-Ok-write-3 g c form asked held left start u end =
+    ill_end form asked held left start _ _ u _ c.in-Err-IllFormed.ill _ _ _ _ end c.clear.ensures.items c.in-Err-IllFormed.field-0-is c.in-Err-IllFormed.ensures.bad
+    c.deref-in-Err-IllFormed.ensures.value c.in-Ok-write-3.ensures.ok
+
+pub returns-in-Err-write-2 : goal.returns-in-Err-write-2
+returns-in-Err-write-2 g c form asked held left start u end =
+    ill_end_unwritten form asked held left start _ _ u _ c.in-Err-IllFormed.ill _ _ _ _ end c.clear.ensures.items c.in-Err-IllFormed.field-0-is c.in-Err-IllFormed.ensures.bad
+    c.deref-in-Err-IllFormed.ensures.value c.in-Err-write-2.ensures.err
 
 pub returns-in-Err-NoMemory : goal.returns-in-Err-NoMemory
 returns-in-Err-NoMemory g c form asked held left start u end = out_of_memory form asked held left start _ _ u

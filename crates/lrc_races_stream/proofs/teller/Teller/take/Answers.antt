@@ -1,6 +1,6 @@
 use Rattle.std.proofs.Common.{List, ℕ, subst, sym, take}
 use Rattle.lrc_shell_sources.specs.Known.{IsReadOff}
-use Rattle.lrc_races_stream.proofs.TellerLemmas.{broken_at, broken_unwritten, gone_on, gone_unwritten, out_of_memory}
+use Rattle.lrc_races_stream.proofs.TellerLemmas.{broken_at, broken_unwritten, gone_on, gone_unwritten, ill_at, ill_unwritten, out_of_memory}
 use Rattle.lrc_races_stream.proofs.teller.Teller.take.Goals as goal
 
 pub returns-in-Ok-write : goal.returns-in-Ok-write
@@ -26,6 +26,18 @@ returns-in-Err-write g c form asked held left after start u off =
     broken_unwritten form asked held left start _ _ u after _ c.in-Err-BadEvent.line c.in-Err-BadEvent.why _ _ _ _ _
     (subst (λ (bytes : List ℕ). IsReadOff left (take c.args.count bytes) after) (sym c.deref.ensures.value) off) c.clear.ensures.items
     c.in-Err-BadEvent.field-0-is c.in-Err-BadEvent.ensures.bad c.deref-in-Err-BadEvent.ensures.value c.in-Err-write.ensures.err
+
+pub returns-in-Ok-write-3 : goal.returns-in-Ok-write-3
+returns-in-Ok-write-3 g c form asked held left after start u off =
+    ill_at form asked held left start _ _ u after _ c.in-Err-IllFormed.ill _ _ _ _ _
+    (subst (λ (bytes : List ℕ). IsReadOff left (take c.args.count bytes) after) (sym c.deref.ensures.value) off) c.clear.ensures.items
+    c.in-Err-IllFormed.field-0-is c.in-Err-IllFormed.ensures.bad c.deref-in-Err-IllFormed.ensures.value c.in-Ok-write-3.ensures.ok
+
+pub returns-in-Err-write-2 : goal.returns-in-Err-write-2
+returns-in-Err-write-2 g c form asked held left after start u off =
+    ill_unwritten form asked held left start _ _ u after _ c.in-Err-IllFormed.ill _ _ _ _ _
+    (subst (λ (bytes : List ℕ). IsReadOff left (take c.args.count bytes) after) (sym c.deref.ensures.value) off) c.clear.ensures.items
+    c.in-Err-IllFormed.field-0-is c.in-Err-IllFormed.ensures.bad c.deref-in-Err-IllFormed.ensures.value c.in-Err-write-2.ensures.err
 
 pub returns-in-Err-NoMemory : goal.returns-in-Err-NoMemory
 returns-in-Err-NoMemory g c form asked held left after start u off = out_of_memory form asked held left start _ _ u

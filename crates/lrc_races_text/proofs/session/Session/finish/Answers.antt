@@ -3,7 +3,7 @@ use Rattle.lrc_races_text.proofs.SessionLemmas.{ended_well, failed_line, failed_
 use Rattle.lrc_races_text.proofs.session.Session.finish.Goals as goal
 
 pub returns-in-Err-clause-bad : goal.returns-in-Err-clause-bad
-returns-in-Err-clause-bad c = failed_line c.args.self.now _ _ _ c.in-Err.ensures.kept c.in-Err.ensures.bad
+returns-in-Err-clause-bad c = failed_line c.args.self.now _ _ _ c.in-Err.ensures.kept c.in-Err.ensures.bad c.in-Err.ensures.ill
 
 pub returns-in-Ok-end-clause-ok : goal.returns-in-Ok-end-clause-ok
 returns-in-Ok-end-clause-ok c = ended_well c.args.self.now _ _ _ _ _ c.in-Ok.ensures.ok c.in-Ok-end.ensures.ok

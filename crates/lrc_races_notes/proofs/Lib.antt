@@ -1,0 +1,2 @@
+pub mod NoterLemmas
+mod SignLemmas

@@ -1,0 +1,4 @@
+pub mod Noter
+pub mod Notes
+pub mod Noting
+pub mod Signs
