@@ -266,34 +266,7 @@ judge_keyed = (
 )
 
 explore_keyed : AllByRecursion (IsKeyed explore_built.rules) explore_built.rules
-explore_keyed = (
-  record { own = refl; acts = inl (refl, lit< tt) },
-  (
-    record { own = refl; acts = inl (refl, lit< tt) },
-    (
-      record { own = refl; acts = inl (refl, lit< tt) },
-      (
-        record { own = refl; acts = inl (refl, lit< tt) },
-        (
-          record { own = refl; acts = inr (inl (refl, lit< tt)) },
-          (
-            record { own = refl; acts = inl (refl, lit< tt) },
-            (
-              record { own = refl; acts = inl (refl, lit< tt) },
-              (
-                record { own = refl; acts = inr (inl (refl, lit< tt)) },
-                (
-                  record { own = refl; acts = inr (inl (refl, lit< tt)) },
-                  (record { own = refl; acts = inr (inr refl) }, tt),
-                ),
-              ),
-            ),
-          ),
-        ),
-      ),
-    ),
-  ),
-)
+explore_keyed = (record { own = refl; acts = inl (refl, lit< tt) }, (record { own = refl; acts = inl (refl, lit< tt) }, (record { own = refl; acts = inl (refl, lit< tt) }, (record { own = refl; acts = inl (refl, lit< tt) }, (record { own = refl; acts = inr (inl (refl, lit< tt)) }, (record { own = refl; acts = inl (refl, lit< tt) }, (record { own = refl; acts = inl (refl, lit< tt) }, (record { own = refl; acts = inr (inl (refl, lit< tt)) }, (record { own = refl; acts = inr (inl (refl, lit< tt)) }, (record { own = refl; acts = inl (refl, lit< tt) }, (record { own = refl; acts = inl (refl, lit< tt) }, (record { own = refl; acts = inr (inr refl) }, tt))))))))))))
 
 why_keyed : AllByRecursion (IsKeyed why_built.rules) why_built.rules
 why_keyed = (record { own = refl; acts = inl (refl, lit< tt) }, (record { own = refl; acts = inl (refl, lit< tt) }, (record { own = refl; acts = inl (refl, lit< tt) }, (record { own = refl; acts = inl (refl, lit< tt) }, (record { own = refl; acts = inl (refl, lit< tt) }, (record { own = refl; acts = inl (refl, lit< tt) }, (record { own = refl; acts = inl (refl, lit< tt) }, (record { own = refl; acts = inl (refl, lit< tt) }, (record { own = refl; acts = inl (refl, lit< tt) }, (record { own = refl; acts = inl (refl, lit< tt) }, (record { own = refl; acts = inl (refl, lit< tt) }, (record { own = refl; acts = inl (refl, lit< tt) }, (record { own = refl; acts = inr (inr refl) }, tt)))))))))))))
@@ -302,7 +275,7 @@ lint_keyed : AllByRecursion (IsKeyed lint_built.rules) lint_built.rules
 lint_keyed = (record { own = refl; acts = inl (refl, lit< tt) }, (record { own = refl; acts = inr (inr refl) }, tt))
 
 races_keyed : AllByRecursion (IsKeyed races_built.rules) races_built.rules
-races_keyed = (record { own = refl; acts = inl (refl, lit< tt) }, (record { own = refl; acts = inl (refl, lit< tt) }, (record { own = refl; acts = inr (inl (refl, lit< tt)) }, (record { own = refl; acts = inr (inl (refl, lit< tt)) }, (record { own = refl; acts = inr (inl (refl, lit< tt)) }, (record { own = refl; acts = inr (inl (refl, lit< tt)) }, (record { own = refl; acts = inl (refl, lit< tt) }, (record { own = refl; acts = inl (refl, lit< tt) }, (record { own = refl; acts = inr (inr refl) }, tt)))))))))
+races_keyed = (record { own = refl; acts = inl (refl, lit< tt) }, (record { own = refl; acts = inl (refl, lit< tt) }, (record { own = refl; acts = inr (inl (refl, lit< tt)) }, (record { own = refl; acts = inr (inl (refl, lit< tt)) }, (record { own = refl; acts = inr (inl (refl, lit< tt)) }, (record { own = refl; acts = inr (inl (refl, lit< tt)) }, (record { own = refl; acts = inr (inl (refl, lit< tt)) }, (record { own = refl; acts = inl (refl, lit< tt) }, (record { own = refl; acts = inl (refl, lit< tt) }, (record { own = refl; acts = inl (refl, lit< tt) }, (record { own = refl; acts = inr (inr refl) }, tt)))))))))))
 
 -- a value that the parser of numbers let through
 bare_passed : (text : Option Text) → IfSome text (λ t. value_kinds false (Unsigned 0 18446744073709551615) t ≡ [])
@@ -535,6 +508,7 @@ races_taken words none =
       locations = flag_taken races_built rows level (codes "locations") refl;
       sure = flag_taken races_built rows level (codes "sure") refl;
       json = flag_taken races_built rows level (codes "json") refl;
+      strict = flag_taken races_built rows level (codes "strict") refl;
     }
 
 why_taken : (words : List Text) → level_fault why_built [] nothing_held words false [] ≡ [] → IsWhyTaken (rows_after why_built.rules [] words)

@@ -24,19 +24,21 @@ use Rattle.lrc_cli_args.specs.declared.choice.PlainRun.{PlainRun}
 use Rattle.lrc_cli_args.specs.declared.choice.Racing.{Racing}
 use Rattle.lrc_cli_args.specs.declared.choice.Reasoning.{Reasoning}
 use Rattle.lrc_cli_args.specs.declared.choice.Request.{Request}
-use Rattle.lrc_cli_args.specs.declared.choice.Request.TheVariants.{About, Races, Witness as WitnessOf, Reasons as ReasonsOf, Answer}
+use Rattle.lrc_cli_args.specs.declared.choice.Request.TheVariants.{About, Races, Witness as WitnessOf, Reasons as ReasonsOf, Score as ScoreOf, Answer}
 use Rattle.lrc_cli_args.specs.declared.choice.RunChoice.{RunChoice}
+use Rattle.lrc_cli_args.specs.declared.choice.Scoring.{Scoring}
 use Rattle.lrc_cli_args.specs.declared.choice.Shape.{Shape}
 use Rattle.lrc_cli_args.specs.declared.choice.Shape.TheVariants.{Report, Trace, Step, Explain, Stats, Chart, Why}
+use Rattle.lrc_cli_args.specs.declared.choice.Tell.{Tell as Tells}
 use Rattle.lrc_cli_args.specs.declared.choice.Topic.{Topic}
 use Rattle.lrc_cli_args.specs.declared.choice.Topic.TheVariants.{Commands, Command, Version}
 use Rattle.lrc_cli_args.specs.declared.choice.Way.{Way}
 use Rattle.lrc_cli_args.specs.declared.choice.Witnessing.{Witnessing}
 use Rattle.lrc_cli_args.specs.declared.misfit.Misfit.{Misfit}
-use Rattle.lrc_cli_args.specs.declared.misfit.Misfit.TheVariants.{Order, RunOrder, Page, Form as FormMisfit, Seed, Then as ThenMisfit, Followed as FollowedMisfit, Threads, Messages, Part as PartMisfit, Memory as MemoryMisfit, ExactMemory, ExactOption, Tries as TriesMisfit, IgnoredRaces, Ends as EndsMisfit, Topic as TopicMisfit, TraceForm, Questions, Reasons, ReasonLines, Witness, WitnessLines, Hide, TextSource, SameAct, Sources, NoSource, RunOption, ChartRunOption, Number}
-use Rattle.lrc_cli_args.specs.declared.races.Question.TheVariants.{Told, Reasoned, Witnessed}
+use Rattle.lrc_cli_args.specs.declared.misfit.Misfit.TheVariants.{Order, RunOrder, Page, Form as FormMisfit, Seed, Then as ThenMisfit, Followed as FollowedMisfit, Threads, Messages, Part as PartMisfit, Memory as MemoryMisfit, ExactMemory, ExactOption, Tries as TriesMisfit, IgnoredRaces, Ends as EndsMisfit, ExploreForm, Events, ToldOrder, Tell, Topic as TopicMisfit, TraceForm, Questions, Score, Reasons, ReasonLines, Witness, WitnessLines, Hide, TextSource, SameAct, Sources, NoSource, RunOption, ChartRunOption, Number}
+use Rattle.lrc_cli_args.specs.declared.races.Question.TheVariants.{Told, Scored, Reasoned, Witnessed}
 use Rattle.lrc_cli_words.specs.Commands.{is_command, treadmarks}
-use Rattle.lrc_cli_args.specs.Options.{AreChartedActs, AreForeignActs, AreLines, AreOptions, AreRunOptions, HasBadCount, HasBadExploreNumber, HasChartedActsMisfit, HasExactMisfit, HasForeignMisfit, HasFormMisfitIn, HasOptionsMisfit, HasRacesMisfit, HasValue, HasWayMisfitIn, IsAsking, IsChartTaken, IsHiding}
+use Rattle.lrc_cli_args.specs.Options.{AreChartedActs, AreEventsChosen, AreForeignActs, AreLines, AreOptions, AreRunOptions, HasBadCount, HasBadExploreNumber, HasChartedActsMisfit, HasEventsMisfit, HasExactMisfit, HasForeignMisfit, HasFormMisfitIn, HasOptionsMisfit, HasRacesMisfit, HasValue, HasWayMisfitIn, IsAsking, IsChartTaken, IsHiding}
 use Rattle.lrc_cli_args.specs.Options.{IsExactChosen, IsExploreTaken, IsFlag, IsFormIn, IsJudgeTaken, IsMemory, IsPart, IsPicker, IsPlainTaken, IsQuestion, IsRacesTaken, IsRunTaken, IsShowingTaken, IsStepTaken}
 use Rattle.lrc_cli_args.specs.Options.{asks_outcomes, IsSimTaken, IsThreadsWayIn, IsTraceForm, IsTraceTaken, IsWayIn, IsWhyTaken, most_in, nodes_in, option_number, outcome_in, some_number_in, takes_tries, texts_of, tries_in}
 
@@ -144,6 +146,7 @@ pub record IsExploring (rows : List Row) (exploring : Exploring) : Type 0 where
   pub plainly : exploring.ignores_races ≡ true → asks_outcomes exploring.outcomes (outcome_in rows) rows ≡ false
   pub ends : IsFlag (codes "ends") exploring.ends rows
   pub ends_plainly : exploring.ends ≡ true → asks_outcomes exploring.outcomes (outcome_in rows) rows ≡ false
+  pub events : AreEventsChosen exploring.memory exploring.outcomes (outcome_in rows) exploring.ends rows exploring.events
 
 -- a chart of a run
 pub record IsRunChart (rows : List Row) (run : RunChoice) (charting : Charting) : Type 0 where
@@ -204,6 +207,17 @@ pub record IsRacing (rows : List Row) (racing : Racing) : Type 0 where
   pub asked : IsQuestion rows (Told racing.grouping)
   pub sure : IsFlag (codes "sure") racing.sure rows
   pub json : IsFlag (codes "json") racing.json rows
+  pub strict : IsFlag (codes "strict") racing.strict rows
+
+-- Which report is judged. Its lines are no objects, and of it and the trace at most one is standard input.
+pub record IsScoring (rows : List Row) (scoring : Scoring) : Type 0 where
+  pub file : first_of (codes "FILE") rows ≡ Some scoring.file.now
+  pub form : IsTraceForm (first_of (codes "as") rows) scoring.form
+  pub asked : IsQuestion rows (Scored scoring.report)
+  pub apart : scoring.report.now ≡ codes "-" → scoring.file.now ≢ codes "-"
+  pub sure : IsFlag (codes "sure") scoring.sure rows
+  pub json : IsFlag (codes "json") false rows
+  pub strict : IsFlag (codes "strict") scoring.strict rows
 
 -- Of which two lines it is asked how their events are ordered.
 pub record IsReasoning (rows : List Row) (reasoning : Reasoning) : Type 0 where
@@ -214,6 +228,7 @@ pub record IsReasoning (rows : List Row) (reasoning : Reasoning) : Type 0 where
   pub lines : AreLines (texts_of texts) reasoning.lines
   pub sure : IsFlag (codes "sure") false rows
   pub json : IsFlag (codes "json") false rows
+  pub strict : IsFlag (codes "strict") reasoning.strict rows
 
 -- Of which two lines it is asked whether they are a sure race. The trace may be read twice, so it is a file.
 pub record IsWitnessing (rows : List Row) (witnessing : Witnessing) : Type 0 where
@@ -225,6 +240,7 @@ pub record IsWitnessing (rows : List Row) (witnessing : Witnessing) : Type 0 whe
   pub lines : AreLines (texts_of texts) witnessing.lines
   pub sure : IsFlag (codes "sure") false rows
   pub json : IsFlag (codes "json") false rows
+  pub strict : IsFlag (codes "strict") witnessing.strict rows
 
 -- what the command that clap found asks for, with its matches
 abbrev pub IsRequest : Text × List Row → Request → Type 0
@@ -232,6 +248,7 @@ IsRequest found (About topic) = IsTopic found topic
 IsRequest found (Races racing) = (found.0 ≡ codes "races") × IsRacing found.1 racing
 IsRequest found (WitnessOf witnessing) = (found.0 ≡ codes "races") × IsWitnessing found.1 witnessing
 IsRequest found (ReasonsOf reasoning) = (found.0 ≡ codes "races") × IsReasoning found.1 reasoning
+IsRequest found (ScoreOf scoring) = (found.0 ≡ codes "races") × IsScoring found.1 scoring
 IsRequest found (Answer choice) = IsChoice found choice
 
 -- ---- what does not fit
@@ -288,7 +305,7 @@ StandsPlainly name outcomes rows =
     (given : Bool) × IsFlag name given rows × (given ≡ true → asks_outcomes outcomes (outcome_in rows) rows ≡ false)
 
 -- Of `explore`: the memory; then runs at random that are asked for and may not be; then races that are to be ignored and may not be; then
--- ends that are asked for and may not be; then numbers.
+-- ends that are asked for and may not be; then events; then numbers.
 pub record HasExploreMisfit (rows : List Row) (misfit : Misfit) : Type 0 where
   pub why : ((misfit ≡ MemoryMisfit) × ((memory : Memory) → ¬ IsMemory (first_of (codes "memory") rows) memory))
       ⊎ ((misfit ≡ TriesMisfit) × (memory : Memory) × (outcomes : Bool) × AreSought rows memory outcomes × IsSome (tries_in rows)
@@ -299,9 +316,15 @@ pub record HasExploreMisfit (rows : List Row) (misfit : Misfit) : Type 0 where
       ⊎ ((misfit ≡ EndsMisfit) × (memory : Memory) × (outcomes : Bool) × AreSought rows memory outcomes
       × (IsSome (tries_in rows) → takes_tries memory outcomes (outcome_in rows) ≡ true) × StandsPlainly (codes "ignore-races") outcomes rows
       × IsFlag (codes "ends") true rows × (asks_outcomes outcomes (outcome_in rows) rows ≡ true))
+      ⊎ ((memory : Memory) × (outcomes : Bool) × AreSought rows memory outcomes
+      × (IsSome (tries_in rows) → takes_tries memory outcomes (outcome_in rows) ≡ true) × StandsPlainly (codes "ignore-races") outcomes rows
+      × StandsPlainly (codes "ends") outcomes rows
+      × ((ends : Bool) × IsFlag (codes "ends") ends rows × HasEventsMisfit memory outcomes (outcome_in rows) ends rows misfit))
       ⊎ ((misfit ≡ Number) × (memory : Memory) × (outcomes : Bool) × AreSought rows memory outcomes
       × (IsSome (tries_in rows) → takes_tries memory outcomes (outcome_in rows) ≡ true) × StandsPlainly (codes "ignore-races") outcomes rows
-      × StandsPlainly (codes "ends") outcomes rows × HasBadExploreNumber rows)
+      × StandsPlainly (codes "ends") outcomes rows
+      × ((ends : Bool) × IsFlag (codes "ends") ends rows × ((events : Option Tells) × AreEventsChosen memory outcomes (outcome_in rows) ends rows events))
+      × HasBadExploreNumber rows)
 
 -- what does not fit in what clap found of a command that shows something of a run
 abbrev pub HasShowMisfit : Text × List Row → Misfit → Type 0
@@ -363,9 +386,14 @@ IsUsageKind ExactOption kind = kind ≡ ArgumentConflict
 IsUsageKind TriesMisfit kind = kind ≡ ArgumentConflict
 IsUsageKind IgnoredRaces kind = kind ≡ ArgumentConflict
 IsUsageKind EndsMisfit kind = kind ≡ ArgumentConflict
+IsUsageKind ExploreForm kind = kind ≡ InvalidValue
+IsUsageKind Events kind = kind ≡ ArgumentConflict
+IsUsageKind ToldOrder kind = kind ≡ InvalidValue
+IsUsageKind Tell kind = kind ≡ ArgumentConflict
 IsUsageKind TopicMisfit kind = kind ≡ InvalidSubcommand
 IsUsageKind TraceForm kind = kind ≡ InvalidValue
 IsUsageKind Questions kind = kind ≡ ArgumentConflict
+IsUsageKind Score kind = kind ≡ ArgumentConflict
 IsUsageKind Reasons kind = kind ≡ ArgumentConflict
 IsUsageKind ReasonLines kind = kind ≡ InvalidValue
 IsUsageKind Witness kind = kind ≡ ArgumentConflict

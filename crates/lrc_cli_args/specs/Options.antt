@@ -1,5 +1,5 @@
 -- What the options of a command say, by the matches that clap made of its words.
-use Rattle.std.specs.Prelude.{◌≡◌, ◌≢◌, ◌⊎◌, ℕ, Bool, false, true, List, [], ◌∷◌, Option, None, Some, IfSome, IsSome, IsSomeAnd, codes, if◌then◌else◌, map, option_map, is_some, unwrap_or, ◌&&◌, ◌||◌}
+use Rattle.std.specs.Prelude.{◌≡◌, ◌≢◌, ◌⊎◌, ℕ, Bool, false, true, List, [], ◌∷◌, Option, None, Some, IfSome, IsSome, IsSomeAnd, codes, if◌then◌else◌, map, not, option_map, is_some, unwrap_or, ◌&&◌, ◌||◌}
 use Rattle.std.specs.Borrow.{Bor}
 use Rattle.std.specs.Int.{IsOutOfRange}
 use Rattle.std.specs.List.{list_any}
@@ -25,6 +25,8 @@ use Rattle.lrc_cli_args.specs.declared.choice.Memory.{Memory}
 use Rattle.lrc_cli_args.specs.declared.choice.Memory.TheVariants.{Flat, Lazy}
 use Rattle.lrc_cli_args.specs.declared.choice.Part.{Part}
 use Rattle.lrc_cli_args.specs.declared.choice.RunOptions.{RunOptions}
+use Rattle.lrc_cli_args.specs.declared.choice.Tell.{Tell}
+use Rattle.lrc_cli_args.specs.declared.choice.Tell.TheVariants as tells
 use Rattle.lrc_cli_args.specs.declared.choice.TraceForm.{TraceForm}
 use Rattle.lrc_cli_args.specs.declared.choice.TraceForm.TheVariants.{Std, Acts}
 use Rattle.lrc_cli_args.specs.declared.choice.Then.{Then}
@@ -75,6 +77,10 @@ tries_in = some_number_in (codes "tries")
 -- the values that an option is given, as texts
 abbrev pub texts_of : Bor (List (Bor Text)) → List Text
 texts_of texts = map (λ text. text.now) texts.now
+
+-- the report that is to be judged, if `--score` is named
+abbrev pub report_in : List Row → Option Text
+report_in = first_of (codes "score")
 
 -- the lines that `--why` is given, if it is named
 abbrev pub reasons_in : List Row → Option (List Text)
@@ -187,6 +193,7 @@ pub record IsRacesTaken (rows : List Row) : Type 0 where
   pub locations : IsFlagOption (codes "locations") rows
   pub sure : IsFlagOption (codes "sure") rows
   pub json : IsFlagOption (codes "json") rows
+  pub strict : IsFlagOption (codes "strict") rows
 
 -- of `why`: a FILE need not be there
 pub record IsWhyTaken (rows : List Row) : Type 0 where
@@ -383,19 +390,46 @@ IsGrouping rows groupings.Each = IsFlag (codes "group") false rows × IsFlag (co
 IsGrouping rows groupings.Groups = IsFlag (codes "group") true rows × IsFlag (codes "locations") false rows
 IsGrouping rows groupings.Locations = IsFlag (codes "group") false rows × IsFlag (codes "locations") true rows
 
--- One question among these options: reasons or a witness are asked for alone, and neither beside groups nor beside pairs of locations.
-abbrev pub IsOneOf : Grouping → (reasons witness : Option (List Text)) → Question → Type 0
-IsOneOf grouping reasons witness (questions.Told told) = (grouping ≡ told) × (reasons ≡ None) × (witness ≡ None)
-IsOneOf grouping reasons witness (questions.Reasoned texts) =
-    (grouping ≡ groupings.Each) × (reasons ≡ Some (texts_of texts)) × (witness ≡ None)
-IsOneOf grouping reasons witness (questions.Witnessed texts) =
-    (grouping ≡ groupings.Each) × (reasons ≡ None) × (witness ≡ Some (texts_of texts))
+-- One question among these options: a report, reasons or a witness are asked for alone, and neither beside groups nor beside pairs of locations.
+abbrev pub IsOneOf : Grouping → (report : Option Text) → (reasons witness : Option (List Text)) → Question → Type 0
+IsOneOf grouping report reasons witness (questions.Told told) = (grouping ≡ told) × (report ≡ None) × (reasons ≡ None) × (witness ≡ None)
+IsOneOf grouping report reasons witness (questions.Scored path) =
+    (grouping ≡ groupings.Each) × (report ≡ Some path.now) × (reasons ≡ None) × (witness ≡ None)
+IsOneOf grouping report reasons witness (questions.Reasoned texts) =
+    (grouping ≡ groupings.Each) × (report ≡ None) × (reasons ≡ Some (texts_of texts)) × (witness ≡ None)
+IsOneOf grouping report reasons witness (questions.Witnessed texts) =
+    (grouping ≡ groupings.Each) × (report ≡ None) × (reasons ≡ None) × (witness ≡ Some (texts_of texts))
 
 -- what these matches ask of a trace
 pub record IsQuestion (rows : List Row) (question : Question) : Type 0 where
   pub grouping : Grouping
   pub grouped : IsGrouping rows grouping
-  pub one : IsOneOf grouping (reasons_in rows) (witness_in rows) question
+  pub one : IsOneOf grouping (report_in rows) (reasons_in rows) (witness_in rows) question
+
+-- The order of which events are shown that a word names: the first where there is no word.
+abbrev pub IsTell : Option Text → Tell → Type 0
+IsTell word tells.First = word ≡ None
+IsTell word tells.Stuck = word ≡ Some (codes "stuck")
+IsTell word tells.Trap = word ≡ Some (codes "trap")
+IsTell word tells.End = word ≡ Some (codes "end")
+
+-- events are of one order of the flat memory: none are shown of a list of outcomes
+abbrev pub takes_events : Memory → (outcomes : Bool) → (outcome : Option ℕ) → Bool
+takes_events Flat outcomes outcome = not outcomes || is_some outcome
+takes_events Lazy outcomes outcome = false
+
+-- of an outcome there is one order, and an order that can no longer end is looked for only where ends are asked for
+abbrev pub takes_tell : Tell → (outcome : Option ℕ) → (ends : Bool) → Bool
+takes_tell tells.First outcome ends = true
+takes_tell tells.Stuck outcome ends = is_none outcome
+takes_tell tells.Trap outcome ends = is_none outcome
+takes_tell tells.End outcome ends = ends && is_none outcome
+
+-- the order whose events are shown is chosen by these matches, or no events are
+abbrev pub AreEventsChosen : Memory → (outcomes : Bool) → (outcome : Option ℕ) → (ends : Bool) → List Row → Option Tell → Type 0
+AreEventsChosen memory outcomes outcome ends rows None = (first_of (codes "as") rows ≡ None) × (first_of (codes "tell") rows ≡ None)
+AreEventsChosen memory outcomes outcome ends rows (Some tell) = (first_of (codes "as") rows ≡ Some (codes "events"))
+    × IsTell (first_of (codes "tell") rows) tell × (takes_events memory outcomes outcome ≡ true) × (takes_tell tell outcome ends ≡ true)
 
 -- outcomes are asked for, or a memory is named: so races are not ignored, and it is not asked for ends
 abbrev pub asks_outcomes : (outcomes : Bool) → (outcome : Option ℕ) → List Row → Bool
@@ -483,6 +517,18 @@ abbrev pub HasBadExploreNumber : List Row → Type 0
 HasBadExploreNumber rows = IsOutOfRange 1 16 (nodes_in rows) ⊎ IsOutOfRange 1 100000000 (most_in rows) ⊎ (outcome_in rows ≡ Some 0)
     ⊎ IsSomeAnd (tries_in rows) (IsOutOfRange 1 1000000)
 
+-- of events: an order of theirs is named and they are not asked for; then the word that asks for them; then that they may not be asked for;
+-- then the word of the order; then that it may not be that one
+abbrev pub HasEventsMisfit : Memory → (outcomes : Bool) → (outcome : Option ℕ) → (ends : Bool) → List Row → Misfit → Type 0
+HasEventsMisfit memory outcomes outcome ends rows misfit =
+    ((misfit ≡ unfit.Tell) × (first_of (codes "as") rows ≡ None) × IsSome (first_of (codes "tell") rows))
+    ⊎ ((misfit ≡ unfit.ExploreForm) × IsSomeAnd (first_of (codes "as") rows) (λ word. word ≢ codes "events"))
+    ⊎ ((misfit ≡ unfit.Events) × (first_of (codes "as") rows ≡ Some (codes "events")) × (takes_events memory outcomes outcome ≡ false))
+    ⊎ ((misfit ≡ unfit.ToldOrder) × (first_of (codes "as") rows ≡ Some (codes "events")) × (takes_events memory outcomes outcome ≡ true)
+    × ((tell : Tell) → ¬ IsTell (first_of (codes "tell") rows) tell))
+    ⊎ ((misfit ≡ unfit.Tell) × (first_of (codes "as") rows ≡ Some (codes "events")) × (takes_events memory outcomes outcome ≡ true)
+    × ((tell : Tell) × IsTell (first_of (codes "tell") rows) tell × (takes_tell tell outcome ends ≡ false)))
+
 -- of the exact memory: another one is named, or an option of it is given without it; then the size of its pages; then the number
 abbrev pub HasExactMisfit : List Row → Misfit → Type 0
 HasExactMisfit rows misfit =
@@ -492,10 +538,13 @@ HasExactMisfit rows misfit =
     ⊎ ((misfit ≡ unfit.Number) × (first_of (codes "memory") rows ≡ Some (codes "exact"))
     × ((size : Size) × IsPageSize (first_of (codes "page") rows) size) × IsOutOfRange 0 1000000 (collect_in rows))
 
--- Beside what is asked of a trace: the order of two events and a sure race stand neither with sure races nor with objects, and a trace that
--- may be read twice is not standard input; then what are no two lines.
+-- Beside what is asked of a trace: a report that is to be judged stands with no objects, and is not standard input where the trace is; the
+-- order of two events and a sure race stand neither with sure races nor with objects, and a trace that may be read twice is not standard
+-- input; then what are no two lines.
 abbrev pub HasMisfitBeside : List Row → Question → Misfit → Type 0
 HasMisfitBeside rows (questions.Told grouping) misfit = ⊥
+HasMisfitBeside rows (questions.Scored report) misfit = (misfit ≡ unfit.Score)
+    × (IsFlag (codes "json") true rows ⊎ ((first_of (codes "FILE") rows ≡ Some (codes "-")) × (report.now ≡ codes "-")))
 HasMisfitBeside rows (questions.Reasoned texts) misfit = ((misfit ≡ unfit.Reasons) × (IsFlag (codes "sure") true rows ⊎ IsFlag (codes "json") true rows))
     ⊎ ((misfit ≡ unfit.ReasonLines) × IsFlag (codes "sure") false rows × IsFlag (codes "json") false rows
     × ((lines : LinePair) → ¬ AreLines (texts_of texts) lines))

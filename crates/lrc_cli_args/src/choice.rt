@@ -1,6 +1,6 @@
 // What the words of the command line ask for.
 
-ghost use Rattle.std.specs.Prelude.{◌≡◌, ◌≢◌, ◌<◌, ◌≤◌, Some, true};
+ghost use Rattle.std.specs.Prelude.{◌≡◌, ◌≢◌, ◌<◌, ◌≤◌, Some, codes, true};
 ghost use Rattle.lrc_cli_words.specs.Commands.{is_command};
 
 use lrc_envelope::Picker;
@@ -197,6 +197,19 @@ pub enum Memory {
     Lazy,
 }
 
+/// Of which order the events are shown, of the orders that `explore` tells of.
+#[derive(Clone, Copy)]
+pub enum Tell {
+    /// The first that it tells of.
+    First,
+    /// The order that gets stuck.
+    Stuck,
+    /// The order in which a node traps.
+    Trap,
+    /// The order that can no longer end. It comes only where ends are asked for.
+    End,
+}
+
 /// The options of the command `explore`.
 #[derive(Clone, Copy)]
 pub struct Exploring<'w> {
@@ -219,6 +232,9 @@ pub struct Exploring<'w> {
     pub ignores_races: bool,
     /// Whether it is asked whether every order can end. It does not come with outcomes, nor where a memory is named.
     pub ends: bool,
+    /// The order whose events are shown in place of all lines, if events are asked for. They come neither with the list of
+    /// outcomes nor with lazy memory, and with one outcome only as those of the first order.
+    pub events: Option<Tell>,
 }
 
 /// The form of a trace that is searched for races.
@@ -252,6 +268,8 @@ pub struct Racing<'w> {
     pub sure: bool,
     /// Whether each line is a JSON object.
     pub json: bool,
+    /// Whether the first event that no program would give is a fault.
+    pub strict: bool,
 }
 
 /// The numbers of two lines of a trace, counted from 1, the lesser one first.
@@ -271,6 +289,8 @@ pub struct Witnessing<'w> {
     pub form: TraceForm,
     /// The lines of the two accesses.
     pub lines: LinePair,
+    /// Whether the first event that no program would give is a fault.
+    pub strict: bool,
 }
 
 /// The options of the command `races` if it is asked how two events of a trace are ordered.
@@ -281,6 +301,23 @@ pub struct Reasoning<'w> {
     pub form: TraceForm,
     /// The lines of the two events.
     pub lines: LinePair,
+    /// Whether the first event that no program would give is a fault.
+    pub strict: bool,
+}
+
+/// The options of the command `races` if a detector's report is judged.
+#[derive(Clone, Copy)]
+pub struct Scoring<'w> {
+    /// The file of the trace; `-` is standard input.
+    pub file: &'w str,
+    pub form: TraceForm,
+    /// The file of the report; `-` is standard input.
+    pub report: &'w str,
+    /// Whether the races are sure races throughout.
+    pub sure: bool,
+    /// Whether the first event that no program would give is a fault.
+    pub strict: bool,
+    pub ghost apart: { report.now ≡ codes "-" → file.now ≢ codes "-" },
 }
 
 /// A text of acts for the command `why`. The acts may come from any system.
@@ -355,6 +392,8 @@ pub enum Request<'w> {
     Witness(Witnessing<'w>),
     /// How two events of a trace are ordered.
     Reasons(Reasoning<'w>),
+    /// What of a detector's report on a trace is true, and what it missed.
+    Score(Scoring<'w>),
     /// An answer to the texts in files.
     Answer(Choice<'w>),
 }

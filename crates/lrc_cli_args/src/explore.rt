@@ -1,16 +1,18 @@
 // What is explored, and how.
 
-ghost use Rattle.std.specs.Prelude.{◌≡◌, IfErr, IfOk, Some, codes, false, true};
+ghost use Rattle.std.specs.Prelude.{◌≡◌, IfErr, IfOk, IsSome, None, Some, codes, false, option_map, true};
 ghost use Rattle.clap.specs.Words.{found_of, rows_of};
 ghost use Rattle.lrc_cli_args.specs.CommandLine.{HasExploreMisfit, IsChoice};
-ghost use Rattle.lrc_cli_args.specs.Options.{IsExploreTaken, IsFlag, IsFlagOption, IsMemory, asks_outcomes, takes_tries};
+ghost use Rattle.lrc_cli_args.specs.Options.{AreEventsChosen, HasEventsMisfit, IsExploreTaken, IsFlag, IsFlagOption, IsMemory, IsTell, asks_outcomes, takes_events, takes_tell, takes_tries};
 ghost use Rattle.lrc_cli_args.specs.declared.choice.Memory.{Memory as AnyMemory};
+ghost use Rattle.lrc_cli_args.specs.declared.choice.Tell.{Tell as AnyTell};
 ghost use Rattle.lrc_cli_args.specs.declared.misfit.Misfit.TheVariants as unfit;
 
-use crate::choice::{Choice, Exploring, Memory};
+use crate::choice::{Choice, Exploring, Memory, Tell};
 use crate::misfit::Misfit;
 use crate::reading::{
-    is_given, is_named, most_of, nodes_of, outcome_of, some_number_of, text_of, tries_of,
+    is_given, is_named, most_of, nodes_of, outcome_of, some_number_of, some_text_of, text_of,
+    tries_of,
 };
 use clap::ArgMatches;
 
@@ -30,6 +32,7 @@ pub(crate) fn explore_choice<'w>(options: &ArgMatches<'w>) -> Result<Choice<'w>,
     let beside = asks_outcomes(options, outcomes, outcome);
     let ignores_races = named_alone(options, "ignore-races", beside, Misfit::IgnoredRaces)?;
     let ends = named_alone(options, "ends", beside, Misfit::Ends)?;
+    let events = events_of(options, memory, outcomes, outcome, ends)?;
     Ok(Choice::Explore(Exploring {
         file: text_of(options, "FILE"),
         nodes: nodes_of(options)?,
@@ -40,7 +43,100 @@ pub(crate) fn explore_choice<'w>(options: &ArgMatches<'w>) -> Result<Choice<'w>,
         tries: tries_of(options)?,
         ignores_races,
         ends,
+        events,
     }))
+}
+
+// The order whose events are shown, if events are asked for and may be.
+fn events_of(
+    options: &ArgMatches<'_>,
+    memory: Memory,
+    outcomes: bool,
+    outcome: Option<u64>,
+    ends: bool,
+) -> Result<Option<Tell>, Misfit>
+    ensures ok { IfOk result (AreEventsChosen memory outcomes outcome ends
+        (rows_of (found_of options.now))) }
+    ensures err { IfErr result (HasEventsMisfit memory outcomes outcome ends
+        (rows_of (found_of options.now))) }
+{
+    let order = some_text_of(options, "tell");
+    let Some(form) = some_text_of(options, "as") else {
+        return none_told(order);
+    };
+    if form != "events" {
+        return Err(Misfit::ExploreForm);
+    }
+    if !takes_events(memory, outcomes, outcome) {
+        return Err(Misfit::Events);
+    }
+    let tell = tell_named(order)?;
+    if takes_tell(tell, outcome, ends) {
+        Ok(Some(tell))
+    } else {
+        Err(Misfit::Tell)
+    }
+}
+
+// No events are asked for, so no order of theirs may be named.
+fn none_told(order: Option<&str>) -> Result<Option<Tell>, Misfit>
+    ensures ok { IfOk result (λ tell. (tell ≡ None) × (option_map (λ word. word.now) order.entry ≡ None)) }
+    ensures err { IfErr result (λ misfit. (misfit ≡ unfit.Tell)
+        × IsSome (option_map (λ word. word.now) order.entry)) }
+{
+    match order {
+        None => Ok(None),
+        Some(_) => Err(Misfit::Tell),
+    }
+}
+
+// The order that a word names: the first, if there is no word.
+fn tell_named(word: Option<&str>) -> Result<Tell, Misfit>
+    ensures ok { IfOk result (IsTell (option_map (λ word. word.now) word.entry)) }
+    ensures err { IfErr result (λ misfit. (misfit ≡ unfit.ToldOrder)
+        × ((tell : AnyTell) → ¬ IsTell (option_map (λ word. word.now) word.entry) tell)) }
+{
+    match word {
+        None => Ok(Tell::First),
+        Some(word) => order_named(word),
+    }
+}
+
+fn order_named(word: &str) -> Result<Tell, Misfit>
+    ensures ok { IfOk result (IsTell (Some word.now)) }
+    ensures err { IfErr result (λ misfit. (misfit ≡ unfit.ToldOrder)
+        × ((tell : AnyTell) → ¬ IsTell (Some word.now) tell)) }
+{
+    if word == "stuck" {
+        Ok(Tell::Stuck)
+    } else if word == "trap" {
+        Ok(Tell::Trap)
+    } else if word == "end" {
+        Ok(Tell::End)
+    } else {
+        Err(Misfit::ToldOrder)
+    }
+}
+
+// Whether events may be asked for: of one order of the flat memory, and not of a list of outcomes.
+fn takes_events(memory: Memory, outcomes: bool, outcome: Option<u64>) -> bool
+    ensures { result ≡ takes_events memory outcomes outcome }
+{
+    match memory {
+        Memory::Flat => !outcomes || outcome.is_some(),
+        Memory::Lazy => false,
+    }
+}
+
+// Whether the events may be those of this order.
+fn takes_tell(tell: Tell, outcome: Option<u64>, ends: bool) -> bool
+    ensures { result ≡ takes_tell tell outcome ends }
+{
+    match tell {
+        Tell::First => true,
+        Tell::Stuck | Tell::Trap => outcome.is_none(),
+        Tell::End => ends && outcome.is_none(),
+    }
 }
 
 // Whether the words name a flag that may not stand beside others, where it is known whether these are there.

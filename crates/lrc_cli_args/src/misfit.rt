@@ -53,6 +53,16 @@ const BAD_IGNORED_RACES: &str =
 const BAD_ENDS: &str =
     "the argument '--ends' cannot be used with '--outcomes', '--outcome <K>' or '--memory <MEMORY>'";
 
+const BAD_EXPLORE_FORM: &str = "invalid value for '--as <FORM>': it is events";
+
+const BAD_EVENTS: &str =
+    "the argument '--as events' cannot be used with '--outcomes' without '--outcome <K>', or with '--memory lazy'";
+
+const BAD_TOLD_ORDER: &str = "invalid value for '--tell <ORDER>': it is stuck, trap or end";
+
+const BAD_TELL: &str =
+    "the argument '--tell <ORDER>' cannot be used without '--as events' or with '--outcome <K>', nor '--tell end' without '--ends'";
+
 const BAD_TOPIC: &str = "invalid value for '[COMMAND]': it is none of the commands";
 
 const BAD_HIDE: &str = "invalid value for '--hide <WHAT>': it is quiet";
@@ -62,7 +72,10 @@ const BAD_SOURCE: &str = "the argument '--source' cannot be used with '--text'";
 const BAD_TRACE_FORM: &str = "invalid value for '--as <FORM>': it is std or acts";
 
 const BAD_QUESTIONS: &str =
-    "the arguments '--group', '--locations', '--why <I> <J>' and '--witness <I> <J>' cannot be used with one another";
+    "the arguments '--group', '--locations', '--score <REPORT>', '--why <I> <J>' and '--witness <I> <J>' cannot be used with one another";
+
+const BAD_SCORE: &str =
+    "the argument '--score <REPORT>' cannot be used with '--json', or where FILE and REPORT are '-'";
 
 const BAD_REASONS: &str = "the argument '--why <I> <J>' cannot be used with '--sure' or '--json'";
 
@@ -122,12 +135,23 @@ pub(crate) enum Misfit {
     IgnoredRaces,
     /// It is asked whether every order can end, but outcomes are asked for or a memory is named.
     Ends,
+    /// The value of `--as` in the command `explore` is not its word.
+    ExploreForm,
+    /// Events are asked for together with the list of outcomes or with lazy memory.
+    Events,
+    /// The value of `--tell` is not one of its words.
+    ToldOrder,
+    /// An order is named whose events are to be shown, but no events are asked for, or those of an outcome, or no ends are
+    /// asked for and the order is that of the ends.
+    Tell,
     /// Help is asked for on a word that is not a command.
     Topic,
     /// The value of `--as` in the command `races` is not one of its words.
     TraceForm,
     /// More than one thing is asked of a trace.
     Questions,
+    /// A report is to be judged, but objects are asked for, or both the trace and the report are standard input.
+    Score,
     /// It is asked how two events are ordered, but sure races or objects are asked for too.
     Reasons,
     /// The values of `--why` are not the numbers of two lines, the lesser one first.
@@ -196,7 +220,10 @@ fn usage_kind(misfit: Misfit) -> ErrorKind
         | Misfit::Tries
         | Misfit::IgnoredRaces
         | Misfit::Ends
+        | Misfit::Events
+        | Misfit::Tell
         | Misfit::Questions
+        | Misfit::Score
         | Misfit::Reasons
         | Misfit::Witness
         | Misfit::TextSource
@@ -228,9 +255,14 @@ fn message_of(misfit: Misfit) -> &'static str {
         Misfit::Tries => BAD_TRIES,
         Misfit::IgnoredRaces => BAD_IGNORED_RACES,
         Misfit::Ends => BAD_ENDS,
+        Misfit::ExploreForm => BAD_EXPLORE_FORM,
+        Misfit::Events => BAD_EVENTS,
+        Misfit::ToldOrder => BAD_TOLD_ORDER,
+        Misfit::Tell => BAD_TELL,
         Misfit::Topic => BAD_TOPIC,
         Misfit::TraceForm => BAD_TRACE_FORM,
         Misfit::Questions => BAD_QUESTIONS,
+        Misfit::Score => BAD_SCORE,
         Misfit::Reasons => BAD_REASONS,
         Misfit::ReasonLines => BAD_REASON_LINES,
         Misfit::Witness => BAD_WITNESS,

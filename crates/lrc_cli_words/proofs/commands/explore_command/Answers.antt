@@ -14,7 +14,9 @@ returns-clause-app c =
     let six = c.taking-command-6.ensures.app _ _ c.bare_number.ensures.local c.bare_number.ensures.rule five in
     let seven = c.taking-command-7.ensures.app _ _ c.bare_number-2.ensures.local c.bare_number-2.ensures.rule six in
     let eight = c.taking-command-8.ensures.app _ _ c.flag_option-2.ensures.local c.flag_option-2.ensures.rule seven in
-    c.taking.ensures.app _ _ c.flag_option-3.ensures.local c.flag_option-3.ensures.rule eight
+    let nine = c.taking-command-9.ensures.app _ _ c.flag_option-3.ensures.local c.flag_option-3.ensures.rule eight in
+    let ten = c.taking-command-10.ensures.app _ _ c.text.ensures.local c.text.ensures.rule nine in
+    c.taking.ensures.app _ _ c.text-2.ensures.local c.text-2.ensures.rule ten
 
 pub returns-clause-local : goal.returns-clause-local
 returns-clause-local c =
@@ -27,4 +29,6 @@ returns-clause-local c =
     let six = c.taking-command-6.ensures.local c.bare_number.ensures.local five in
     let seven = c.taking-command-7.ensures.local c.bare_number-2.ensures.local six in
     let eight = c.taking-command-8.ensures.local c.flag_option-2.ensures.local seven in
-    c.taking.ensures.local c.flag_option-3.ensures.local eight
+    let nine = c.taking-command-9.ensures.local c.flag_option-3.ensures.local eight in
+    let ten = c.taking-command-10.ensures.local c.text.ensures.local nine in
+    c.taking.ensures.local c.text-2.ensures.local ten
