@@ -5,7 +5,7 @@ use Rattle.lrc_trace.specs.declared.act.Act.{Act}
 use Rattle.lrc_page.specs.declared.size.Size.TheVariants.{Words64}
 use Rattle.lrc_exec.specs.Plain.{plain}
 use Rattle.lrc_consistency_laws.specs.Racing.{HasNoRace}
-use Rattle.lrc_orders.specs.Verdict.{TellsStuck, TellsTrap}
+use Rattle.lrc_orders.specs.Verdict.{EndsInRace, TellsStuck, TellsTrap}
 use Rattle.lrc_orders_ends.specs.Ends.{TellsEnd}
 use Rattle.lrc_protocol.specs.declared.event.Event.{Event}
 use Rattle.lrc_protocol.specs.Node.{OptionsRecord}
@@ -78,8 +78,8 @@ pub data ShowsLine (program : Program) (nodes : ℕ) (races ends : Bool) (line :
   -- no order races, if that is looked for, and what is found besides;
   free : {status : ℕ} → (races ≡ true → HasNoRace program nodes) → ShowsFound program nodes ends line out status
       → ShowsLine program nodes races ends line out status
-  -- or one races
-  racy : races ≡ true → ShowsRace program nodes line out → ShowsLine program nodes races ends line out 3
+  -- or that is looked for, and this one races
+  racy : (order : List ℕ) → races ≡ true → EndsInRace program nodes order → ShowsRace program nodes line out → ShowsLine program nodes races ends line out 3
 
 -- of a run that has the outcome of this number, where there are as many
 pub record ShowsNumberedRun (program : Program) (nodes number : ℕ) (out : List ℕ) : Type 0 where

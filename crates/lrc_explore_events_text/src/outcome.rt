@@ -5,8 +5,8 @@ ghost use Rattle.lrc_exec.specs.Nodes.{AreNodes};
 ghost use Rattle.lrc_explore.specs.Answers.{FitsSettledNoted, MetTooMany};
 ghost use Rattle.lrc_explore_events_text.specs.Shows.{ShowsRunOfNumber};
 
-use crate::numbered::numbered_run;
 use crate::showing::events_shown;
+use lrc_explore_text::outcome_run::outcome_run;
 use lrc_lang::program::Program;
 use lrc_orders::search::ExploreFault;
 use std::alloc::Global;
@@ -32,7 +32,7 @@ pub fn outcome_shown(
         → MetTooMany program.now nodes most true) }
 {
     let count = nodes as u8;
-    match numbered_run(alloc, program, count, most, number)? {
+    match outcome_run(alloc, program, count, most, number)? {
         Some(acts) => {
             let text = events_shown(alloc, program, count, &acts)?;
             Ok(Some(text))

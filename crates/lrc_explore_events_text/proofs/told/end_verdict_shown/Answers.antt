@@ -23,4 +23,5 @@ race_shown-requires-clause-ends c =
 pub returns-in-Racy-clause-shows : goal.returns-in-Racy-clause-shows
 returns-in-Racy-clause-shows c =
     let is = subst (IsEndAnswer c.args.program.now c.args.nodes c.args.races) c.in-Racy.is c.requires.verdict in
-    of_raced c.args.program.now c.args.nodes c.args.races true c.args.line is.0 c.race_shown.result c.race_shown.ensures.shows c.race_shown.ensures.status
+    of_raced c.args.program.now c.args.nodes c.args.races true c.args.line _ is.0 is.1 c.race_shown.result c.race_shown.ensures.shows
+    c.race_shown.ensures.status

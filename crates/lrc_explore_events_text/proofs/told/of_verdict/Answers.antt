@@ -21,4 +21,5 @@ race_shown-requires-clause-ends c =
 
 pub returns-in-Racy-clause-shows : goal.returns-in-Racy-clause-shows
 returns-in-Racy-clause-shows c =
-    of_raced c.args.program.now c.args.nodes true false c.args.line refl c.race_shown.result c.race_shown.ensures.shows c.race_shown.ensures.status
+    of_raced c.args.program.now c.args.nodes true false c.args.line _ refl (subst (IsAnswer c.args.program.now c.args.nodes) c.in-Racy.is c.requires.verdict)
+    c.race_shown.result c.race_shown.ensures.shows c.race_shown.ensures.status
