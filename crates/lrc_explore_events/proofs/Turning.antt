@@ -1,5 +1,5 @@
 -- Whether the node of the order's next act is at its turn.
-use Rattle.std.proofs.Common.{◌≡◌, ◌≢◌, ◌∙◌, ◌<◌, ℕ, Bool, true, false, List, Option, None, Some, inr, sym, ap, subst, length, get_or, map}
+use Rattle.std.proofs.Common.{◌≡◌, ◌≢◌, ◌∙◌, ℕ, Bool, true, false, List, Option, None, Some, inr, sym, ap, subst, length, get_or, map}
 use Rattle.std.specs.Prelude.{MatchOption, if◌then◌else◌, nat_lt, option_map, position, slice_get, slice_index_or}
 use Rattle.std.proofs.lemmas.Bool.{ltb-true}
 use Rattle.std.proofs.lemmas.Option.{same_Some, slice_get-get_or}

@@ -1,6 +1,6 @@
 // Events along an order, as they are printed.
 
-ghost use Rattle.std.specs.Prelude.{◌≡◌, ◌≤◌, [], IfOk, IfSome, IsSome, Some, option_map};
+ghost use Rattle.std.specs.Prelude.{◌≡◌, ◌≤◌, IfOk, IfSome, IsSome, Some, option_map};
 ghost use Rattle.lrc_exec.specs.Nodes.{AreNodes};
 ghost use Rattle.lrc_exec.specs.Plain.{plain};
 ghost use Rattle.lrc_explore_events_text.specs.Shows.{ShowsEvents, ShowsOrder, bare_options};

@@ -1,4 +1,4 @@
-use Rattle.std.proofs.Common.{◌≡◌, ◌∙◌, ◌+◌, ◌≤◌, [], ◌∷◌, ap, arith, inl, inr, length, length-append}
+use Rattle.std.proofs.Common.{◌∙◌, [], ◌∷◌, ap, arith, inl, inr, length, length-append}
 use Rattle.lrc_protocol.specs.declared.event.Event.TheVariants.{Deliver}
 use Rattle.lrc_explore_events.proofs.Played.{draining_more}
 use Rattle.lrc_explore_events.proofs.order.drain.Goals as goal

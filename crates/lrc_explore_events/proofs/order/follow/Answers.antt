@@ -1,4 +1,4 @@
-use Rattle.std.proofs.Common.{◌≡◌, ◌∙◌, ◌+◌, [], ◌∷◌, Option, ap, arith, length, length-append, subst}
+use Rattle.std.proofs.Common.{◌∙◌, ◌+◌, [], ◌∷◌, Option, ap, arith, length, length-append, subst}
 use Rattle.std.specs.Prelude.{MatchOption}
 use Rattle.lrc_protocol.specs.declared.event.Event.{Event}
 use Rattle.lrc_along.specs.Along.{NoneDue}

@@ -1,4 +1,4 @@
-use Rattle.std.proofs.Common.{refl, subst, sym, true}
+use Rattle.std.proofs.Common.{subst, sym, true}
 use Rattle.lrc_explore_ends.specs.Answers.{IsEndAnswer}
 use Rattle.lrc_orders.specs.Verdict.{EndsInRace}
 use Rattle.lrc_explore_events_text.proofs.Lined.{of_free, of_raced}

@@ -1,8 +1,8 @@
-use Rattle.std.proofs.Common.{◌≡◌, ◌∙◌, Bool, List, ℕ, Option, Vec, Global, ap, ap₂, subst, sym}
-use Rattle.std.specs.Prelude.{is_some, option_map}
+use Rattle.std.proofs.Common.{◌∙◌, List, ℕ, Option, Vec, Global, ap₂, subst, sym}
+use Rattle.std.specs.Prelude.{option_map}
 use Rattle.lrc_explore_text.specs.Ends.{ends_status}
 use Rattle.lrc_explore_text.specs.Orders.{findings_status}
-use Rattle.lrc_explore_events_text.specs.Shows.{ShowsOrder, chosen}
+use Rattle.lrc_explore_events_text.specs.Shows.{ShowsOrder}
 use Rattle.lrc_explore_events_text.proofs.Chosen.{IsLed, chosen_led, end_led, led_there, some_mapped, stuck_led, trap_led}
 use Rattle.lrc_explore_events_text.proofs.told.found_shown.Goals as goal
 

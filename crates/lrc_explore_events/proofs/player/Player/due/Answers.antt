@@ -1,8 +1,5 @@
-use Rattle.std.proofs.Common.{Option, inl, subst}
-use Rattle.std.specs.Prelude.{MatchOption}
+use Rattle.std.proofs.Common.{inl}
 use Rattle.std.proofs.lemmas.Result.{IfOk-weaker}
-use Rattle.lrc_trace.specs.declared.act.Act.{Act}
-use Rattle.lrc_along.specs.Due.{IsAtTurn}
 use Rattle.lrc_explore_events.proofs.Turning.{due_so}
 use Rattle.lrc_explore_events.proofs.player.Player.due.Goals as goal
 

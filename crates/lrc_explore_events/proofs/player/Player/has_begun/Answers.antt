@@ -1,4 +1,4 @@
-use Rattle.std.proofs.Common.{◌≡◌, ◌∙◌, Option, ap, slice_get, sym}
+use Rattle.std.proofs.Common.{◌∙◌, ap, slice_get}
 use Rattle.lrc_along.specs.Due.{is_midway}
 use Rattle.lrc_protocol.specs.Node.{Mail, Wait}
 use Rattle.lrc_explore_events.proofs.Played.{begun_found, begun_nowhere}

@@ -1,4 +1,4 @@
-use Rattle.std.proofs.Common.{◌≡◌, ◌∙◌, [], ap, refl}
+use Rattle.std.proofs.Common.{◌∙◌, [], ap, refl}
 use Rattle.lrc_lines.specs.Walks.{end_line, walks_behind}
 use Rattle.lrc_explore_events.proofs.player.Player.start.Goals as goal
 
