@@ -6,8 +6,8 @@ ghost use Rattle.lrc_exec.specs.Plain.{plain};
 ghost use Rattle.lrc_explore_events_text.specs.Shows.{ShowsEvents, ShowsOrder, bare_options};
 
 use lrc_events::events_part;
-use lrc_exec::plain::plain_run;
 use lrc_explore_events::order::events_along;
+use lrc_explore_text::orders::acts_of;
 use lrc_lang::program::Program;
 use lrc_node::Options;
 use lrc_page::Size;
@@ -72,21 +72,4 @@ fn made_shown(
 {
     let acts = acts_of(alloc, program, nodes, order)?;
     events_shown(alloc, program, nodes, &acts)
-}
-
-/// Returns the acts that the plain machine makes in an order.
-pub(crate) fn acts_of(
-    alloc: Global,
-    program: &Program,
-    nodes: u8,
-    order: &[usize],
-) -> Result<Vec<Act>, AllocError>
-    requires nodes { AreNodes nodes }
-    requires led { IsSome (plain program.now nodes order.now) }
-    ensures { IfOk result (λ acts. plain program.now nodes order.now ≡ Some acts.items) }
-{
-    match plain_run(alloc, program, nodes, order)? {
-        Some(acts) => Ok(acts),
-        None => unreachable!(),
-    }
 }

@@ -9,10 +9,11 @@ ghost use Rattle.lrc_explore_text.specs.Orders.{findings_status};
 ghost use Rattle.lrc_orders.specs.Verdict.{AreFindings, EndsInRace, FindsNoRace};
 ghost use Rattle.lrc_explore_events_text.specs.Shows.{ShowsCauses, ShowsFound, ShowsLine, ShowsRace, TellsEndIf, chosen};
 
-use crate::showing::{acts_of, events_shown, order_shown};
+use crate::showing::{events_shown, order_shown};
 use lrc_explore::answers::{explore, findings};
 use lrc_explore_causes::told::race_told;
 use lrc_explore_ends::answers::{EndVerdict, explore_ends};
+use lrc_explore_text::orders::acts_of;
 use lrc_lang::program::Program;
 use lrc_orders::search::{ExploreFault, Findings, Verdict};
 use std::alloc::{AllocError, Global};

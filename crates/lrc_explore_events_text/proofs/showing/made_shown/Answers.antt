@@ -9,6 +9,6 @@ returns c =
     IfOk-weaker c.events_shown.result _ _
     (λ text shows. (
       c.in_ok-acts.acts.items,
-      c.in_ok-acts.ensures,
+      c.in_ok-acts.ensures.acts,
       subst (λ (acts : List Act). ShowsEvents c.args.program.now c.args.nodes acts text.items) c.deref.ensures.value shows,
     )) c.events_shown.ensures

@@ -5,22 +5,21 @@ use Rattle.lrc_trace.specs.declared.act.Act.{Act}
 use Rattle.lrc_trace.specs.Conflict.{Races}
 use Rattle.lrc_judge.specs.declared.TheConstants.{NODES}
 use Rattle.lrc_explore_causes.specs.Told.{TellsRace}
-use Rattle.lrc_explore_text.proofs.Led.{in_range, race_there}
+use Rattle.lrc_explore_text.proofs.Led.{race_there}
 use Rattle.lrc_explore_events_text.specs.Shows.{ShowsEvents}
 use Rattle.lrc_explore_events_text.proofs.told.causes_shown.Goals as goal
 
 pub race_told-requires-clause-in_range : goal.race_told-requires-clause-in_range
 race_told-requires-clause-in_range c =
-    subst (λ (acts : List Act). All (λ (act : Act). act.node < NODES) acts) (sym c.deref.ensures.value)
-    (in_range c.args.program.now c.args.nodes c.args.order.now c.in_ok-run.run.items c.requires.nodes c.in_ok-run.ensures)
+    subst (λ (acts : List Act). All (λ (act : Act). act.node < NODES) acts) (sym c.deref.ensures.value) c.in_ok-run.ensures.in_range
 
 pub race_told-requires-clause-made : goal.race_told-requires-clause-made
-race_told-requires-clause-made c = (c.args.order.now, c.in_ok-run.ensures ∙ ap Some (sym c.deref.ensures.value))
+race_told-requires-clause-made c = (c.args.order.now, c.in_ok-run.ensures.acts ∙ ap Some (sym c.deref.ensures.value))
 
 pub race_told-requires-clause-races : goal.race_told-requires-clause-races
 race_told-requires-clause-races c =
     subst (λ (acts : List Act). (i : ℕ) × (j : ℕ) × Races acts i j) (sym c.deref.ensures.value)
-    (race_there c.args.program.now c.args.nodes c.args.order.now c.in_ok-run.run.items c.in_ok-run.ensures c.requires.ends)
+    (race_there c.args.program.now c.args.nodes c.args.order.now c.in_ok-run.run.items c.in_ok-run.ensures.acts c.requires.ends)
 
 pub returns : goal.returns
 returns c =
@@ -33,7 +32,7 @@ returns c =
     (λ text shows. record {
       order = c.args.order.now;
       run = run;
-      led = c.in_ok-run.ensures;
+      led = c.in_ok-run.ensures.acts;
       told = told;
       tells = tells;
       shows = subst (λ (acts : List Act). ShowsEvents program nodes acts text.items) c.deref-2.ensures.value shows;
