@@ -14,7 +14,7 @@ _treadmarks_options() {
     chart) echo "--nodes --steps --collect --order --page --events --then --seed --threads --acts --text --from --to --hide --source" ;;
     judge) echo "--nodes --pairs --all --memory --page --collect" ;;
     races) echo "--as --group --locations --sure --json --strict --score --why --witness" ;;
-    explore) echo "--nodes --most --outcomes --outcome --memory --tries --ignore-races --ends" ;;
+    explore) echo "--nodes --most --outcomes --outcome --memory --tries --ignore-races --ends --as --tell" ;;
     esac
 }
 
@@ -24,6 +24,8 @@ _treadmarks_values() {
     run,--order) echo "oldest newest twice" ;;
     trace,--as) echo "acts bytes events json rapid states" ;;
     races,--as) echo "std acts" ;;
+    explore,--as) echo "events" ;;
+    explore,--tell) echo "stuck trap end" ;;
     *,--order) echo "oldest newest twice random" ;;
     *,--page) echo "64 256" ;;
     *,--hide) echo "quiet" ;;

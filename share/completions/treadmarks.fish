@@ -124,4 +124,6 @@ complete -c treadmarks -n '__fish_seen_subcommand_from explore' -l memory -r -f 
 complete -c treadmarks -n '__fish_seen_subcommand_from explore' -l tries -r -f -d 'of the lazy outcomes: how many seeds are tried'
 complete -c treadmarks -n '__fish_seen_subcommand_from explore' -l ignore-races -d 'look for no race'
 complete -c treadmarks -n '__fish_seen_subcommand_from explore' -l ends -d 'tell whether every order can end'
+complete -c treadmarks -n '__fish_seen_subcommand_from explore' -l as -r -f -a 'events' -d 'the events of the order told'
+complete -c treadmarks -n '__fish_seen_subcommand_from explore' -l tell -r -f -a 'stuck trap end' -d 'which order the events are of'
 complete -c treadmarks -n '__fish_seen_subcommand_from help' -f -a 'check core lint plain sim run trace step explain why stats chart judge races explore help version'

@@ -51,6 +51,8 @@ use Rattle.lrc_lazy_text.specs.Listed.{FitLazyRuns, MetTooManyLazily, TellsLazyO
 use Rattle.lrc_lazy_text.specs.One.{HasFewerLazyOutcomes, TellsNumberedLazyRun}
 use Rattle.lrc_cli_args.specs.declared.choice.OutcomeNumber.{OutcomeNumber}
 use Rattle.lrc_cli_args.specs.declared.choice.Judging.{Judging}
+use Rattle.lrc_cli_args.specs.declared.choice.Tell.{Tell}
+use Rattle.lrc_cli.specs.Events.{IsEventsAnswer}
 use Rattle.lrc_cli_answer.specs.declared.fault.Fault.{Fault}
 use Rattle.lrc_cli_answer.specs.declared.fault.Fault.TheVariants.{Acts, LongActs, NoAct, NoOutcome, TooManyStates, NoMemory}
 use Rattle.lrc_cli_answer.specs.declared.fault.Fault.TheVariants as printout_faults
@@ -142,9 +144,17 @@ IsAnswerTo Lazy exploring labels program places out status =
     IsLazyAnswer exploring.outcome exploring.outcomes exploring labels program places out status
 
 -- The text and the status are what is said of the program that this text is of, with the labels of the text.
-abbrev pub IsExploration : Exploring → List ℕ → Program → List ℕ → ℕ → Type 0
-IsExploration exploring text program out status = (places : List ℕ) × HasLines text (program_of program) places
+abbrev pub IsSaid : Exploring → List ℕ → Program → List ℕ → ℕ → Type 0
+IsSaid exploring text program out status = (places : List ℕ) × HasLines text (program_of program) places
     × IsAnswerTo exploring.memory exploring (labels_in text program) program places out status
+
+-- Where events are asked for, they stand in place of all that is said.
+abbrev pub IsShown : Option Tell → Exploring → List ℕ → Program → List ℕ → ℕ → Type 0
+IsShown (Some tell) exploring text program out status = IsEventsAnswer exploring.outcome exploring tell program out status
+IsShown None exploring text program out status = IsSaid exploring text program out status
+
+abbrev pub IsExploration : Exploring → List ℕ → Program → List ℕ → ℕ → Type 0
+IsExploration exploring text program out status = IsShown exploring.events exploring text program out status
 
 -- the text and the status are what `lint` says of the text of this file: that it is no program, or its warnings
 abbrev pub IsLinted : List ℕ → List ℕ → List ℕ → ℕ → Type 0
@@ -265,8 +275,17 @@ abbrev pub IsFaultIn : Memory → Exploring → Program → Fault → Type 0
 IsFaultIn Flat exploring program fault = IsFlatFault exploring.outcome exploring.ends exploring.ignores_races exploring program fault
 IsFaultIn Lazy exploring program fault = IsLazyFault exploring.outcome exploring.outcomes exploring program fault
 
+-- the fault of a search for the order whose events are asked for
+abbrev pub IsEventsFault : Option OutcomeNumber → Exploring → Program → Fault → Type 0
+IsEventsFault (Some outcome) exploring program fault = HasOutcomeFault exploring program outcome.number fault
+IsEventsFault None exploring program fault = HasFindingsFault exploring program fault
+
+abbrev pub IsFaultOfSearch : Option Tell → Exploring → Program → Fault → Type 0
+IsFaultOfSearch (Some tell) exploring program fault = IsEventsFault exploring.outcome exploring program fault
+IsFaultOfSearch None exploring program fault = IsFaultIn exploring.memory exploring program fault
+
 abbrev pub IsSearchFault : Exploring → Program → Fault → Type 0
-IsSearchFault exploring program fault = IsFaultIn exploring.memory exploring program fault
+IsSearchFault exploring program fault = IsFaultOfSearch exploring.events exploring program fault
 
 -- The first fault: of the text, then of the events, then of the run or the search, then of what is shown of the run. Memory may run out at any time.
 abbrev pub IsFault : Choice → List ℕ → Option (List ℕ) → Fault → Type 0

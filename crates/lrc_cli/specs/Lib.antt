@@ -1,3 +1,4 @@
+pub mod Events
 pub mod Answer
 pub mod Performance
 pub mod Reading

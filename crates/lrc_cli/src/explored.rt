@@ -1,13 +1,14 @@
 // What the program answers to the command `explore`.
 
 ghost use Rattle.std.specs.Prelude.{◌≡◌, ◌≤◌, IfErr, IfOk, None};
-ghost use Rattle.lrc_cli.specs.Answer.{HasFindingsFault, HasLazyFault, HasLazyRunFault, HasOrdersFault, HasOutcomeFault, IsExploration, IsFault, IsFlatAnswer, IsFlatFault};
-ghost use Rattle.lrc_cli.specs.Answer.{IsLazyAnswer, IsLazyFault, IsSearchFault, Prints, ShowsEnds, ShowsFindings, ShowsLazyOutcomes, ShowsLazyRun, ShowsOrders, ShowsOutcome, tries_asked};
+ghost use Rattle.lrc_cli.specs.Answer.{HasFindingsFault, HasLazyFault, HasLazyRunFault, HasOrdersFault, HasOutcomeFault, IsExploration, IsFault, IsFaultIn, IsFlatAnswer, IsFlatFault};
+ghost use Rattle.lrc_cli.specs.Answer.{IsLazyAnswer, IsLazyFault, IsSaid, IsSearchFault, Prints, ShowsEnds, ShowsFindings, ShowsLazyOutcomes, ShowsLazyRun, ShowsOrders, ShowsOutcome, tries_asked};
 ghost use Rattle.lrc_cli_answer.specs.Labels.{labels_in};
 ghost use Rattle.lrc_cli_answer.specs.Texts.{IsTextOf};
 ghost use Rattle.lrc_text.specs.Parts.{whole_text};
 ghost use Rattle.lrc_cli_args.specs.declared.choice.Choice.TheVariants.{Explore};
 
+use crate::events::events_of;
 use lrc_cli_answer::fault::Fault;
 use lrc_cli_answer::printout::{Printout, in_one};
 use lrc_cli_args::choice::{Exploring, Memory};
@@ -34,7 +35,25 @@ pub(crate) fn explored(
     ensures err { IfErr result (IsFault (Explore exploring.now) text.now None) }
 {
     let program = parse(alloc, text)?;
-    all_orders(alloc, exploring, text, &program)
+    answered(alloc, exploring, text, &program)
+}
+
+// What is said of the program that this text is of, or the events that are asked for in its place.
+fn answered(
+    alloc: Global,
+    exploring: &Exploring<'_>,
+    text: &[u8],
+    program: &Program,
+) -> Result<Printout, Fault>
+    requires { IsTextOf text.now program.now }
+    ensures ok { IfOk result (λ printout. IsExploration exploring.now text.now program.now
+        (whole_text printout.parts.items) printout.status) }
+    ensures err { IfErr result (IsSearchFault exploring.now program.now) }
+{
+    match exploring.events {
+        Some(tell) => events_of(alloc, exploring, program, tell),
+        None => all_orders(alloc, exploring, text, program),
+    }
 }
 
 // What is said of the program that this text is of, with the labels of the text.
@@ -45,9 +64,9 @@ fn all_orders(
     program: &Program,
 ) -> Result<Printout, Fault>
     requires { IsTextOf text.now program.now }
-    ensures ok { IfOk result (λ printout. IsExploration exploring.now text.now program.now
+    ensures ok { IfOk result (λ printout. IsSaid exploring.now text.now program.now
         (whole_text printout.parts.items) printout.status) }
-    ensures err { IfErr result (IsSearchFault exploring.now program.now) }
+    ensures err { IfErr result (IsFaultIn exploring.now.memory exploring.now program.now) }
 {
     let lines = lines_of(alloc, text)?;
     match exploring.memory {

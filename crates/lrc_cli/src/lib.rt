@@ -4,6 +4,7 @@
 
 pub mod answer;
 mod cored;
+mod events;
 mod explored;
 mod judged;
 mod linted;

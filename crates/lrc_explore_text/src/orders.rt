@@ -380,8 +380,8 @@ fn three_parts(
     Ok(parts)
 }
 
-// The acts that the plain machine makes in an order.
-pub(crate) fn acts_of(
+/// Returns the acts that the plain machine makes in an order. There must be 1 to 16 nodes. Fails if memory runs out.
+pub fn acts_of(
     alloc: Global,
     program: &Program,
     nodes: u8,

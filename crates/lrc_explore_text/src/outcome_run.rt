@@ -53,8 +53,9 @@ pub fn outcome_run_told(
     }
 }
 
-// The acts of a run that has the outcome of this number, if there are as many.
-fn outcome_run(
+/// Returns the acts of a run that has the outcome with this number, counted from 1, in the ascending list of a program's
+/// outcomes, or none if there are fewer. There must be 1 to 16 nodes. Fails as [`outcome_run_told`] does.
+pub fn outcome_run(
     alloc: Global,
     program: &Program,
     nodes: u8,

@@ -4,7 +4,7 @@ use crate::checks::passes;
 use crate::traces::{Report, TwoLines, is_wanted_of_trace};
 use lrc_cli_args::choice::{
     Asking, ChartedActs, Charting, Choice, ChooseFault, Exploring, ForeignActs, Form, Judging,
-    Memory, Part, PlainRun, Racing, Request, RunOptions, Shape, Then, Topic, Way,
+    Memory, Part, PlainRun, Racing, Request, RunOptions, Shape, Tell, Then, Topic, Way,
 };
 use lrc_cli_args::choose;
 use lrc_envelope::Picker;
@@ -62,6 +62,8 @@ pub enum Wanted {
     Explore(&'static str, u32, u32, bool, Memory, Option<u32>),
     /// The file of a program of which it is asked whether every order can end, and whether races are ignored.
     Ends(&'static str, bool),
+    /// The events of an order, or of a run with this outcome, by outcomes or not, with ends asked for or not.
+    Events(&'static str, Tell, Option<u64>, bool, bool),
     /// The list of commands.
     Commands,
     /// The help of this command.
@@ -172,6 +174,16 @@ fn are_charted(made: &ChartedActs<'_>, file: &str, nodes: Option<u32>) -> bool {
     made.file == file && made.nodes.map(|nodes| nodes.count) == nodes
 }
 
+fn is_same_tell(made: Option<Tell>, wanted: Tell) -> bool {
+    matches!(
+        (made, wanted),
+        (Some(Tell::First), Tell::First)
+            | (Some(Tell::Stuck), Tell::Stuck)
+            | (Some(Tell::Trap), Tell::Trap)
+            | (Some(Tell::End), Tell::End)
+    )
+}
+
 fn is_wanted_why(made: &Choice<'_>, wanted: &Wanted) -> bool {
     match (made, wanted) {
         (Choice::Show(made, Shape::Why(asking)), Wanted::Why(run, act, other)) => {
@@ -214,9 +226,20 @@ fn is_wanted(made: &Choice<'_>, wanted: &Wanted) -> bool {
                 && is_exploring(made, *nodes, *most, *outcomes)
                 && is_sought(made, *memory, *tries)
                 && !made.ends
+                && made.events.is_none()
         }
         (Choice::Explore(made), Wanted::Ends(file, ignores)) => {
-            made.file == *file && made.ends && made.ignores_races == *ignores
+            made.file == *file
+                && made.ends
+                && made.ignores_races == *ignores
+                && made.events.is_none()
+        }
+        (Choice::Explore(made), Wanted::Events(file, tell, outcome, outcomes, ends)) => {
+            made.file == *file
+                && is_same_tell(made.events, *tell)
+                && made.outcome.map(|outcome| outcome.number) == *outcome
+                && made.outcomes == *outcomes
+                && made.ends == *ends
         }
         _ => false,
     }
@@ -550,6 +573,31 @@ const CHOICES: &[Row] = &[
     (
         "explore a.tm --ends --ignore-races",
         Wanted::Ends("a.tm", true),
+    ),
+    // The events of an order.
+    (
+        "explore a.tm --as events",
+        Wanted::Events("a.tm", Tell::First, None, false, false),
+    ),
+    (
+        "explore a.tm --as=events --memory flat --tell stuck",
+        Wanted::Events("a.tm", Tell::Stuck, None, false, false),
+    ),
+    (
+        "explore a.tm --tell=trap --ends --as events",
+        Wanted::Events("a.tm", Tell::Trap, None, false, true),
+    ),
+    (
+        "explore a.tm --ends --as events --tell end",
+        Wanted::Events("a.tm", Tell::End, None, false, true),
+    ),
+    (
+        "explore a.tm --outcome 2 --as events",
+        Wanted::Events("a.tm", Tell::First, Some(2), false, false),
+    ),
+    (
+        "explore a.tm --outcomes --outcome 2 --as events",
+        Wanted::Events("a.tm", Tell::First, Some(2), true, false),
     ),
     // What is wrong with texts and traces, and why acts are as they are.
     ("lint a.tm", Wanted::Lint("a.tm")),

@@ -10,8 +10,8 @@ returns-in_err-program-clause-err c =
 
 pub returns-clause-ok : goal.returns-clause-ok
 returns-clause-ok c =
-    IfOk-weaker c.all_orders.result _ _ (λ printout told. (c.in_ok-program.program, c.in_ok-program.ensures.program, told)) c.all_orders.ensures.ok
+    IfOk-weaker c.answered.result _ _ (λ printout told. (c.in_ok-program.program, c.in_ok-program.ensures.program, told)) c.answered.ensures.ok
 
 pub returns-clause-err : goal.returns-clause-err
 returns-clause-err c =
-    IfErr-weaker c.all_orders.result _ _ (λ fault is. inr (c.in_ok-program.program, c.in_ok-program.ensures.program, is)) c.all_orders.ensures.err
+    IfErr-weaker c.answered.result _ _ (λ fault is. inr (c.in_ok-program.program, c.in_ok-program.ensures.program, is)) c.answered.ensures.err

@@ -1,0 +1,103 @@
+// What the program answers to the command `explore` where events are asked for.
+
+ghost use Rattle.std.specs.Prelude.{◌≡◌, ◌≤◌, IfErr, IfOk};
+ghost use Rattle.lrc_text.specs.Parts.{whole_text};
+ghost use Rattle.lrc_cli.specs.Answer.{HasFindingsFault, HasOutcomeFault, IsEventsFault};
+ghost use Rattle.lrc_cli.specs.Events.{IsEventsAnswer, ShowsLineOf, ShowsOutcomeEvents, line_of};
+
+use lrc_cli_answer::fault::Fault;
+use lrc_cli_answer::printout::{Printout, in_one};
+use lrc_cli_args::choice::{Exploring, Tell};
+use lrc_explore_events_text::outcome::outcome_shown;
+use lrc_explore_events_text::told::{Line, line_shown};
+use lrc_lang::program::Program;
+use lrc_orders::search::ExploreFault;
+use std::alloc::Global;
+
+/// Answers the command `explore` with the events along the order that it tells.
+pub(crate) fn events_of(
+    alloc: Global,
+    exploring: &Exploring<'_>,
+    program: &Program,
+    tell: Tell,
+) -> Result<Printout, Fault>
+    ensures ok { IfOk result (λ printout. IsEventsAnswer exploring.now.outcome exploring.now tell
+        program.now (whole_text printout.parts.items) printout.status) }
+    ensures err { IfErr result (IsEventsFault exploring.now.outcome exploring.now program.now) }
+{
+    match exploring.outcome {
+        Some(outcome) => outcome_events(alloc, exploring, program, outcome.number),
+        None => line_events(alloc, exploring, program, tell),
+    }
+}
+
+// Events along the order of a line.
+fn line_events(
+    alloc: Global,
+    exploring: &Exploring<'_>,
+    program: &Program,
+    tell: Tell,
+) -> Result<Printout, Fault>
+    ensures ok { IfOk result (λ printout. ShowsLineOf exploring.now (line_of tell) program.now
+        (whole_text printout.parts.items) printout.status) }
+    ensures err { IfErr result (HasFindingsFault exploring.now program.now) }
+{
+    let nodes = exploring.nodes.count;
+    let most = exploring.most.count;
+    let races = !exploring.ignores_races;
+    match line_shown(
+        alloc,
+        program,
+        nodes,
+        most as usize,
+        races,
+        exploring.ends,
+        line_of(tell),
+    ) {
+        Ok(shown) => Ok(Printout {
+            parts: in_one(alloc, shown.text)?,
+            status: shown.status,
+        }),
+        Err(ExploreFault::TooMany) => Err(Fault::TooManyStates(most)),
+        Err(ExploreFault::NoMemory) => Err(Fault::NoMemory),
+        Err(ExploreFault::BadNodes) => unreachable!(),
+    }
+}
+
+// Events along a run with the outcome of this number.
+fn outcome_events(
+    alloc: Global,
+    exploring: &Exploring<'_>,
+    program: &Program,
+    number: u64,
+) -> Result<Printout, Fault>
+    requires { 1 ≤ number }
+    ensures ok { IfOk result (λ printout. ShowsOutcomeEvents exploring.now program.now number
+        (whole_text printout.parts.items) printout.status) }
+    ensures err { IfErr result (HasOutcomeFault exploring.now program.now number) }
+{
+    let nodes = exploring.nodes.count;
+    let most = exploring.most.count;
+    match outcome_shown(alloc, program, nodes, most as usize, number) {
+        Ok(Some(text)) => Ok(Printout {
+            parts: in_one(alloc, text)?,
+            status: 0,
+        }),
+        Ok(None) => Err(Fault::NoOutcome(number)),
+        Err(ExploreFault::TooMany) => Err(Fault::TooManyStates(most)),
+        Err(ExploreFault::NoMemory) => Err(Fault::NoMemory),
+        Err(ExploreFault::BadNodes) => unreachable!(),
+    }
+}
+
+// The line of which an order is asked for.
+fn line_of(tell: Tell) -> Line
+    ensures { result ≡ line_of tell }
+{
+    match tell {
+        Tell::First => Line::First,
+        Tell::Stuck => Line::Stuck,
+        Tell::Trap => Line::Trap,
+        Tell::End => Line::End,
+    }
+}

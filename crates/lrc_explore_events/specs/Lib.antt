@@ -1,0 +1,2 @@
+pub mod Player
+pub mod Playing

@@ -1,0 +1,23 @@
+use Rattle.std.proofs.Common.{◌≡◌, ◌∙◌, IfOk, false, refl, subst, sym, true}
+use Rattle.lrc_explore_events_text.specs.Shows.{ShowsLine, free}
+use Rattle.lrc_explore_events_text.proofs.told.line_shown.Goals as goal
+
+pub returns-then-ends-clause-shows : goal.returns-then-ends-clause-shows
+returns-then-ends-clause-shows c =
+    subst (λ b. IfOk c.ends_shown.result (λ s. ShowsLine c.args.program.now c.args.nodes c.args.races b c.args.line s.text.items s.status)) (sym c.if-ends.true)
+    c.ends_shown.ensures.shows
+
+pub returns-then-races-clause-shows : goal.returns-then-races-clause-shows
+returns-then-races-clause-shows c =
+    subst (λ b. IfOk c.verdict_shown.result (λ s. ShowsLine c.args.program.now c.args.nodes c.args.races b c.args.line s.text.items s.status)) (sym c.if-ends.false)
+    (subst (λ b. IfOk c.verdict_shown.result (λ s. ShowsLine c.args.program.now c.args.nodes b false c.args.line s.text.items s.status)) (sym c.if-races.true)
+    c.verdict_shown.ensures.shows)
+
+pub found_shown-requires-clause-end : goal.found_shown-requires-clause-end
+found_shown-requires-clause-end c = (false, refl)
+
+pub returns-clause-shows : goal.returns-clause-shows
+returns-clause-shows c =
+    let shown = c.in_ok-shown.shown in
+    subst (λ b. ShowsLine c.args.program.now c.args.nodes c.args.races b c.args.line shown.text.items shown.status) (sym c.if-ends.false)
+    (free (λ is. let never : true ≡ false = sym is ∙ c.if-races.false in cc) (c.in_ok-shown.ensures false refl))

@@ -1,0 +1,2 @@
+words 1; locks 0;
+x = ;

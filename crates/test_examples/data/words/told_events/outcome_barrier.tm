@@ -1,0 +1,5 @@
+words 2; locks 1;
+acquire 0; x = [0]; [0] = x * 2 + me; release 0;
+barrier;
+y = [0];
+print x + y * 100;

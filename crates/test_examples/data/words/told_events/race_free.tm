@@ -1,0 +1,2 @@
+words 1; locks 1;
+acquire 0; x = [0]; [0] = x + 1; release 0; print x;

@@ -1,0 +1,3 @@
+words 1; locks 2;
+acquire me; acquire 1 - me;
+release me; release 1 - me;
