@@ -1,12 +1,11 @@
 -- The races of a picture: each group of a run's first pairs of races, by its least pair.
-use Rattle.std.specs.Prelude.{ℕ, ◌+◌, Bool, not, Option, Some, List, [], ◌∷◌, ◌++◌, codes, decimal, if◌then◌else◌, take}
-use Rattle.std.specs.List.{list_any}
+use Rattle.std.specs.Prelude.{ℕ, ◌+◌, Option, Some, List, [], ◌∷◌, ◌++◌, codes, decimal}
 use Rattle.lrc_trace.specs.declared.act.Act.{Act}
 use Rattle.lrc_judge.specs.Races.{word_of}
 use Rattle.lrc_judge.specs.declared.lanes.Pair.{Pair}
 use Rattle.lrc_acts_text.specs.Acts.{act_at}
 use Rattle.lrc_text.specs.Each.{each}
-use Rattle.lrc_explain.specs.Groups.{access_kind_text, is_of_site}
+use Rattle.lrc_explain.specs.Groups.{access_kind_text, leaders_of}
 use Rattle.lrc_explain.specs.Site.{site_of}
 use Rattle.lrc_explain.specs.declared.site.Site.{Site}
 use Rattle.lrc_labels.specs.Reading.{Label}
@@ -14,14 +13,6 @@ use Rattle.lrc_labels.specs.Show.{word_label_text}
 use Rattle.lrc_chart_build.specs.Course.{KnownRecord, shown_act}
 use Rattle.lrc_chart_build.specs.Seen.{SeenRace}
 use Rattle.lrc_chart_build.specs.declared.part.Place.{Place}
-
--- whether none of the pairs before a place is of the group of the pair there
-abbrev pub comes_first : List Act → (lines : List ℕ) → List Pair → ℕ → Pair → Bool
-comes_first acts lines pairs at pair = not (list_any (is_of_site acts lines (site_of acts lines pair)) (take at pairs))
-
--- of each group its least pair, in the order of the groups
-abbrev pub leads : List Act → (lines : List ℕ) → List Pair → List Pair
-leads acts lines pairs = each (λ at pair. if comes_first acts lines pairs at pair then pair ∷ [] else []) pairs
 
 -- the lines and kinds of a group
 abbrev pub label_of : Site → List ℕ
@@ -58,4 +49,4 @@ race_at known places number pair = race_if known number pair (shown_act places p
 -- Of each group the two acts of its least pair, where both are shown, in the order of the groups, which are numbered from 1, those too
 -- that are not shown.
 abbrev pub shown_races : KnownRecord → List Place → List SeenRace
-shown_races known places = each (λ before pair. race_at known places (before + 1) pair) (leads known.acts known.lines known.pairs)
+shown_races known places = each (λ before pair. race_at known places (before + 1) pair) (leaders_of known.acts known.lines known.pairs)

@@ -3,6 +3,7 @@
 ghost use Rattle.std.specs.Prelude.{◌≡◌, ◌++◌, IfOk, OnOk, map, slice_get};
 ghost use Rattle.std.specs.List.{flat_map};
 ghost use Rattle.lrc_chart_rows.specs.Takers.{takers};
+ghost use Rattle.lrc_chart_rows.specs.Takings.{AreTakings};
 ghost use Rattle.lrc_chart_build.specs.Arrows.{arrow_if, arrow_to, is_later, lost_if, lost_one, place_of_turn, shown_message_arrows};
 ghost use Rattle.lrc_chart_build.specs.Arrows.{sent_in_turn, shown_arrows, shown_lost};
 ghost use Rattle.lrc_chart_build.specs.Seen.{seen_arrow, seen_lost};
@@ -10,7 +11,7 @@ ghost use Rattle.lrc_chart_build.specs.Seen.{seen_arrow, seen_lost};
 use crate::message::{label_text, message_text};
 use crate::part::{Place, turn_at};
 use lrc_chart_model::{Arrow, Lost};
-use lrc_chart_rows::{TurnOf, takers};
+use lrc_chart_rows::{Takings, TurnOf, takers};
 use lrc_envelope::Envelope;
 use std::alloc::{AllocError, Global};
 
@@ -104,34 +105,39 @@ fn push_all_arrows(
     alloc: Global,
     arrows: &mut Vec<Arrow>,
     turns: &[TurnOf<'_>],
+    takings: &Takings,
     places: &[Place],
     from: usize,
     out: &[Envelope],
 ) -> Result<(), AllocError>
+    requires { AreTakings turns.now takings.now }
     ensures { OnOk result (map seen_arrow arrows.new.items ≡ map seen_arrow arrows.old.items
         ++ flat_map (λ envelope. shown_message_arrows places.now from envelope
         (takers turns.now envelope)) out.now) }
 {
     for envelope in out {
-        let takers = takers(alloc, turns, envelope)?;
+        let takers = takers(alloc, turns, takings, envelope)?;
         push_arrows(alloc, arrows, places, from, envelope, takers.as_slice())?;
     }
     Ok(())
 }
 
-/// Returns the arrows of the messages that the turns at these places send.
+/// Returns the arrows of the messages that the turns at these places send, given from which turn to which each message is
+/// taken.
 pub(crate) fn arrows_of(
     alloc: Global,
     turns: &[TurnOf<'_>],
+    takings: &Takings,
     places: &[Place],
 ) -> Result<Vec<Arrow>, AllocError>
+    requires { AreTakings turns.now takings.now }
     ensures { IfOk result (λ arrows. map seen_arrow arrows.items
         ≡ shown_arrows turns.now places.now) }
 {
     let mut arrows = Vec::new(alloc);
     for (from, place) in places.iter().enumerate() {
         let out = sent_in_turn(turns, place.turn);
-        push_all_arrows(alloc, &mut arrows, turns, places, from, out)?;
+        push_all_arrows(alloc, &mut arrows, turns, takings, places, from, out)?;
     }
     Ok(arrows)
 }
@@ -170,31 +176,36 @@ fn push_all_lost(
     alloc: Global,
     all: &mut Vec<Lost>,
     turns: &[TurnOf<'_>],
+    takings: &Takings,
     from: usize,
     out: &[Envelope],
 ) -> Result<(), AllocError>
+    requires { AreTakings turns.now takings.now }
     ensures { OnOk result (map seen_lost all.new.items ≡ map seen_lost all.old.items
         ++ flat_map (λ envelope. lost_if from envelope (takers turns.now envelope)) out.now) }
 {
     for envelope in out {
-        let takers = takers(alloc, turns, envelope)?;
+        let takers = takers(alloc, turns, takings, envelope)?;
         push_lost(alloc, all, from, envelope, takers.as_slice())?;
     }
     Ok(())
 }
 
-/// Returns the messages that the turns at these places send and no turn takes.
+/// Returns the messages that the turns at these places send and no turn takes, given from which turn to which each
+/// message is taken.
 pub(crate) fn lost_of(
     alloc: Global,
     turns: &[TurnOf<'_>],
+    takings: &Takings,
     places: &[Place],
 ) -> Result<Vec<Lost>, AllocError>
+    requires { AreTakings turns.now takings.now }
     ensures { IfOk result (λ all. map seen_lost all.items ≡ shown_lost turns.now places.now) }
 {
     let mut all = Vec::new(alloc);
     for (from, place) in places.iter().enumerate() {
         let out = sent_in_turn(turns, place.turn);
-        push_all_lost(alloc, &mut all, turns, from, out)?;
+        push_all_lost(alloc, &mut all, turns, takings, from, out)?;
     }
     Ok(all)
 }

@@ -2,10 +2,11 @@
 
 ghost use Rattle.std.specs.Prelude.{◌≡◌, ◌==◌, ◌∷◌, ◌++◌, [], IfOk, OnOk, if◌then◌else◌, take};
 ghost use Rattle.std.specs.List.{flat_map, list_any};
+ghost use Rattle.lrc_chart_rows.specs.Takings.{AreTakings};
 ghost use Rattle.lrc_node.specs.Logged.{seen_input};
 ghost use Rattle.lrc_chart_build.specs.Waits.{each_once, invalid_text, invalid_words, listed, named_in, taken_before, told_by};
 
-use lrc_chart_rows::{TurnOf, takes};
+use lrc_chart_rows::{Takings, TurnOf, takes};
 use lrc_envelope::{Envelope, Message};
 use lrc_node::Input;
 use lrc_store::Interval;
@@ -108,19 +109,22 @@ fn push_told(alloc: Global, text: &mut Vec<u8>, message: &Message) -> Result<(),
     push_invalid(text, pages.as_slice())
 }
 
-/// Returns the pages that become invalid at the turn at a position, which has this input.
+/// Returns the pages that become invalid at the turn at a position, which has this input, given from which turn to which
+/// each message is taken.
 pub(crate) fn invalid_text(
     alloc: Global,
     turns: &[TurnOf<'_>],
+    takings: &Takings,
     position: usize,
     input: &Input,
 ) -> Result<Vec<u8>, AllocError>
+    requires { AreTakings turns.now takings.now }
     ensures { IfOk result (λ text. text.items
         ≡ invalid_text turns.now position (seen_input input.now)) }
 {
     let mut text = Vec::new(alloc);
     if let Input::Taken(envelope) = input {
-        if !taken_before(turns, position, envelope) {
+        if !takings.is_taken_before(position, envelope) {
             push_told(alloc, &mut text, &envelope.message)?;
         }
     }

@@ -14,6 +14,7 @@ use crate::races::races_of;
 use crate::rows::rows_of;
 use crate::source::source_of;
 use lrc_chart_model::Picture;
+use lrc_chart_rows::takings_of;
 use lrc_text::push_number;
 use std::alloc::{AllocError, Global};
 use thiserror::Error;
@@ -89,12 +90,13 @@ fn picture_of(
 {
     let known = &course.known;
     let circled = circled_nodes(alloc, waits)?;
+    let takings = takings_of(alloc, course.turns)?;
     Ok(Picture {
         title: Vec::from_slice(alloc, title)?,
         columns: columns_of(alloc, nodes)?,
-        rows: rows_of(alloc, course, circled.as_slice(), places)?,
-        arrows: arrows_of(alloc, course.turns, places)?,
-        lost: lost_of(alloc, course.turns, places)?,
+        rows: rows_of(alloc, course, &takings, circled.as_slice(), places)?,
+        arrows: arrows_of(alloc, course.turns, &takings, places)?,
+        lost: lost_of(alloc, course.turns, &takings, places)?,
         bands: bands_of(alloc, known.acts, places)?,
         races: races_of(alloc, known, places)?,
         deadlocks: deadlock_lines(alloc, waits)?,

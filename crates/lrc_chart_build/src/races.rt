@@ -1,46 +1,21 @@
 // Races of a picture.
 
-ghost use Rattle.std.specs.Prelude.{◌≡◌, ◌+◌, ◌∷◌, ◌++◌, [], IfOk, OnOk, if◌then◌else◌, map, take};
-ghost use Rattle.std.specs.List.{list_any};
+ghost use Rattle.std.specs.Prelude.{◌≡◌, ◌+◌, ◌++◌, IfOk, OnOk, map};
 ghost use Rattle.lrc_text.specs.Each.{each};
-ghost use Rattle.lrc_explain.specs.Groups.{access_kind_text, is_of_site};
-ghost use Rattle.lrc_explain.specs.declared.site.Site.{Site as SiteRecord};
-ghost use Rattle.lrc_chart_build.specs.Races.{comes_first, hint_by, hint_of, label_of, leads, race_at, race_between, race_if, shown_races};
+ghost use Rattle.lrc_explain.specs.Groups.{access_kind_text};
+ghost use Rattle.lrc_chart_build.specs.Races.{hint_by, hint_of, label_of, race_at, race_between, race_if, shown_races};
 ghost use Rattle.lrc_chart_build.specs.Seen.{seen_race};
 
 use crate::course::Known;
 use crate::part::{Place, shown_act};
 use lrc_chart_model::Race;
-use lrc_explain::{Site, act_at, site_of};
+use lrc_explain::{Site, act_at, leaders_of, site_of};
 use lrc_judge::first_pairs::Pair;
 use lrc_judge::races::word_of;
 use lrc_labels::push_word_label;
 use lrc_text::push_number;
 use lrc_trace::act::Act;
 use std::alloc::{AllocError, Global};
-
-fn is_of_site(acts: &[Act], lines: &[u32], site: Site, pair: Pair) -> bool
-    ensures { result ≡ is_of_site acts.now lines.now site pair }
-{
-    site_of(acts, lines, pair).cmp(&site).is_eq()
-}
-
-// Whether one of the first pairs is of the group.
-fn is_among(acts: &[Act], lines: &[u32], site: Site, pairs: &[Pair], count: usize) -> bool
-    ensures { result ≡ list_any (is_of_site acts.now lines.now site) (take count pairs.now) }
-{
-    pairs
-        .iter()
-        .take(count)
-        .any(|other| is_of_site(acts, lines, site, *other))
-}
-
-// Whether none of the pairs before a place is of the group of the pair there.
-fn comes_first(acts: &[Act], lines: &[u32], pairs: &[Pair], at: usize, pair: Pair) -> bool
-    ensures { result ≡ comes_first acts.now lines.now pairs.now at pair }
-{
-    !is_among(acts, lines, site_of(acts, lines, pair), pairs, at)
-}
 
 fn kind_of(writes: bool) -> &'static [u8]
     ensures { result.now ≡ access_kind_text writes }
@@ -132,33 +107,6 @@ fn push_race(
     push_between(alloc, races, known, number, pair, from, to)
 }
 
-fn push_if(leads: &mut Vec<Pair>, pair: Pair, is_first: bool) -> Result<(), AllocError>
-    ensures { OnOk result (leads.new.items
-        ≡ leads.old.items ++ (if is_first then pair ∷ [] else [])) }
-{
-    if is_first {
-        leads.push(pair)?;
-    }
-    Ok(())
-}
-
-// Of each group its least pair, in the order of the groups.
-fn leads_of(
-    alloc: Global,
-    acts: &[Act],
-    lines: &[u32],
-    pairs: &[Pair],
-) -> Result<Vec<Pair>, AllocError>
-    ensures { IfOk result (λ found. found.items ≡ leads acts.now lines.now pairs.now) }
-{
-    let mut found = Vec::new(alloc);
-    for (at, pair) in pairs.iter().enumerate() {
-        let is_first = comes_first(acts, lines, pairs, at, *pair);
-        push_if(&mut found, *pair, is_first)?;
-    }
-    Ok(found)
-}
-
 // The races of these pairs, which are numbered from 1, where both acts are at these places.
 fn races_between(
     alloc: Global,
@@ -180,6 +128,6 @@ fn races_between(
 pub fn races_of(alloc: Global, known: &Known<'_>, places: &[Place]) -> Result<Vec<Race>, AllocError>
     ensures { IfOk result (λ races. map seen_race races.items ≡ shown_races known.now places.now) }
 {
-    let found = leads_of(alloc, known.acts, known.lines, known.pairs)?;
+    let found = leaders_of(alloc, known.acts, known.lines, known.pairs)?;
     races_between(alloc, known, found.as_slice(), places)
 }

@@ -63,7 +63,7 @@ fn begins_collection(turns: &[TurnOf<'_>], position: usize, input: &Input) -> bo
     match input {
         Input::Run => false,
         Input::Taken(envelope) => {
-            !taken_before(turns, position, envelope) && collects(&envelope.message)
+            collects(&envelope.message) && !taken_before(turns, position, envelope)
         }
     }
 }

@@ -2,3 +2,5 @@ pub mod Counting
 pub mod Numbering
 pub mod Rowing
 pub mod Taking
+pub mod Spanning
+mod Spans

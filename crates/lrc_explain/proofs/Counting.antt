@@ -67,11 +67,11 @@ counted_more acts lines pairs i d old new count lt updates count_is before q =
           ∙ before q ∙ sym (count_by_more_no (is_of_site acts lines q) pairs i d lt no')
     ]
 
-or_true : (b c : Bool) → c ≡ true → (b || c) ≡ true
+pub or_true : (b c : Bool) → c ≡ true → (b || c) ≡ true
 or_true true c h = refl
 or_true false c h = h
 
-or_false : (b c : Bool) → c ≡ false → (b || c) ≡ b
+pub or_false : (b c : Bool) → c ≡ false → (b || c) ≡ b
 or_false true c h = refl
 or_false false c h = h
 

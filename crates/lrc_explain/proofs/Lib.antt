@@ -3,6 +3,7 @@ mod Among
 mod Counting
 mod Fates
 mod Held
+mod Leading
 mod Left
 mod Spent
 mod Waiting

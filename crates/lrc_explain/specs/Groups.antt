@@ -1,5 +1,5 @@
 -- The races of a run by groups: those whose first pairs are of the same lines and kinds.
-use Rattle.std.specs.Prelude.{ℕ, ◌<◌, Bool, true, false, List, [], ◌++◌, Option, Some, None, codes, count_by, decimal, if◌then◌else◌, length, take}
+use Rattle.std.specs.Prelude.{ℕ, ◌<◌, Bool, true, false, List, [], ◌∷◌, ◌++◌, Option, Some, None, codes, count_by, decimal, if◌then◌else◌, length, take}
 use Rattle.std.specs.List.{list_any}
 use Rattle.std.specs.Ordering.{eq_by_cmp}
 use Rattle.lrc_trace.specs.declared.act.Act.{Act}
@@ -16,6 +16,14 @@ use Rattle.lrc_explain.specs.Site.{site_cmp, site_of}
 -- whether a pair is of this site
 abbrev pub is_of_site : List Act → (lines : List ℕ) → Site → Pair → Bool
 is_of_site acts lines site pair = eq_by_cmp site_cmp (site_of acts lines pair) site
+
+-- the first pair of a group at its place among these pairs: where none of those before is of its site
+abbrev pub leader_at : List Act → (lines : List ℕ) → List Pair → ℕ → Pair → List Pair
+leader_at acts lines pairs at pair = if list_any (is_of_site acts lines (site_of acts lines pair)) (take at pairs) then [] else pair ∷ []
+
+-- the first pair of each group, in the order of the groups
+abbrev pub leaders_of : List Act → (lines : List ℕ) → List Pair → List Pair
+leaders_of acts lines pairs = each (leader_at acts lines pairs) pairs
 
 -- both positions of a pair are those of acts
 pub record IsWithin (acts : List Act) (pair : Pair) : Type 0 where

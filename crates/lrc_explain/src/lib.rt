@@ -6,8 +6,10 @@ mod access;
 mod before;
 mod groups;
 pub mod laws;
+mod leaders;
 mod site;
 mod whole;
 
+pub use leaders::leaders_of;
 pub use site::{Site, act_at, site_of};
 pub use whole::explain;

@@ -1,11 +1,11 @@
 -- The lines of races, by the groups of the run with reasons.
-use Rattle.std.specs.Prelude.{◌≡◌, ℕ, ◌+◌, Bool, List, [], ◌∷◌, ◌++◌, Some, None, filter, if◌then◌else◌, not, take}
+use Rattle.std.specs.Prelude.{◌≡◌, ℕ, ◌+◌, Bool, List, [], ◌∷◌, ◌++◌, Some, None, filter, not}
 use Rattle.std.specs.List.{list_any}
 use Rattle.lrc_trace.specs.declared.act.Act.{Act}
 use Rattle.lrc_judge.specs.declared.lanes.Pair.{Pair}
 use Rattle.lrc_judge.specs.FirstPairs.{AreFirstPairs}
 use Rattle.lrc_text.specs.Each.{each}
-use Rattle.lrc_explain.specs.Groups.{is_of_site}
+use Rattle.lrc_explain.specs.Groups.{is_of_site, leaders_of}
 use Rattle.lrc_explain.specs.Site.{site_of}
 use Rattle.lrc_step.specs.Lines.{race_line}
 use Rattle.lrc_step.specs.declared.shown.Part.{Part}
@@ -14,14 +14,6 @@ use Rattle.lrc_step.specs.Shown.{AreShownPairs}
 -- whether a pair is of the lines and kinds of another
 abbrev pub is_beside : List Act → (lines : List ℕ) → Pair → Pair → Bool
 is_beside acts lines one pair = is_of_site acts lines (site_of acts lines one) pair
-
--- the first pair of a group at its place among the first pairs: where none of those before is of its lines and kinds
-abbrev pub leader_at : List Act → (lines : List ℕ) → List Pair → ℕ → Pair → List Pair
-leader_at acts lines firsts at pair = if list_any (is_beside acts lines pair) (take at firsts) then [] else pair ∷ []
-
--- the first pair of each group, in the order of the groups
-abbrev pub leaders_of : List Act → (lines : List ℕ) → List Pair → List Pair
-leaders_of acts lines firsts = each (leader_at acts lines firsts) firsts
 
 -- the line of a group, with those pairs that are of it
 abbrev pub group_line : List Act → (lines : List ℕ) → List Pair → ℕ → Pair → List ℕ

@@ -1,8 +1,7 @@
 // Pairs by the groups of the run with reasons.
 
 ghost use Rattle.std.specs.Prelude.{◌≡◌, IfOk, filter};
-ghost use Rattle.std.specs.List.{list_any};
-ghost use Rattle.lrc_step.specs.RaceLines.{is_alone, is_beside, leaders_of};
+ghost use Rattle.lrc_step.specs.RaceLines.{is_alone, is_beside};
 
 use lrc_explain::site_of;
 use lrc_judge::pairs::Pair;
@@ -14,37 +13,6 @@ fn is_beside(acts: &[Act], lines: &[u32], one: Pair, pair: Pair) -> bool
     ensures { result ≡ is_beside acts.now lines.now one pair }
 {
     site_of(acts, lines, pair) == site_of(acts, lines, one)
-}
-
-// Whether one of these pairs is of the lines and kinds of another.
-fn is_among(acts: &[Act], lines: &[u32], one: Pair, pairs: &[Pair]) -> bool
-    ensures { result ≡ list_any (is_beside acts.now lines.now one) pairs.now }
-{
-    for pair in pairs {
-        if is_beside(acts, lines, one, *pair) {
-            return true;
-        }
-    }
-    false
-}
-
-/// Returns, from the first pairs of races, the first pair of each group, in the order of the groups.
-pub(crate) fn leaders_of(
-    alloc: Global,
-    acts: &[Act],
-    lines: &[u32],
-    firsts: &[Pair],
-) -> Result<Vec<Pair>, AllocError>
-    ensures { IfOk result (λ leaders. leaders.items ≡ leaders_of acts.now lines.now firsts.now) }
-{
-    let mut leaders = Vec::new(alloc);
-    for at in 0..firsts.len() {
-        let pair = firsts[at];
-        if !is_among(acts, lines, pair, &firsts[..at]) {
-            leaders.push(pair)?;
-        }
-    }
-    Ok(leaders)
 }
 
 /// Returns the pairs that belong to the group of a first pair.

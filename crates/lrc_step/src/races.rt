@@ -6,9 +6,10 @@ ghost use Rattle.lrc_judge.specs.Order.{IsOrderOf};
 ghost use Rattle.lrc_text.specs.Each.{each};
 ghost use Rattle.lrc_step.specs.RaceLines.{TellsRaces, group_line, races_text, rest_line};
 
-use crate::groups::{alone, leaders_of, of_group};
+use crate::groups::{alone, of_group};
 use crate::push_race_line;
 use crate::shown::{Part, shown_pairs};
+use lrc_explain::leaders_of;
 use lrc_judge::first_pairs::first_pairs;
 use lrc_judge::order::Order;
 use lrc_judge::pairs::Pair;

@@ -3,12 +3,14 @@
 ghost use Rattle.std.specs.Prelude.{◌<◌, ◌≤◌, ℕ, All, IfOk, MatchBool, MatchOption, OnOk, length};
 ghost use Rattle.lrc_judge.specs.Adding.{Adds};
 ghost use Rattle.lrc_judge.specs.Order.{IsOrderOf};
+ghost use Rattle.lrc_why.specs.Lanes.{AreLanes};
 ghost use Rattle.lrc_why.specs.Positions.{IsLeastRacing};
 ghost use Rattle.lrc_step.specs.Shown.{AreShownPairs, IsShown, StandsForNode};
 
 use lrc_judge::order::Order;
 use lrc_judge::pairs::Pair;
 use lrc_trace::act::Act;
+use lrc_why::lanes::{Lanes, lanes_of};
 use lrc_why::least::least_racing;
 use std::alloc::{AllocError, Global};
 
@@ -31,16 +33,18 @@ fn add_pair_of_node(
     pairs: &mut Vec<Pair>,
     acts: &[Act],
     order: &Order,
+    lanes: &Lanes,
     part: Part,
     node: u8,
     position: usize,
 ) -> Result<(), AllocError>
     requires order { IsOrderOf acts.now order.now }
+    requires lanes { AreLanes acts.now lanes.now }
     requires within { position < length acts.now }
     ensures { OnOk result (Adds pairs.old.items pairs.new.items
         (StandsForNode acts.now part position node)) }
 {
-    let Some(least) = least_racing(acts, order, node, position) else {
+    let Some(least) = least_racing(acts, order, lanes, node, position) else {
         return Ok(());
     };
     if !is_shown(part, least) {
@@ -58,18 +62,20 @@ fn add_pairs_of(
     pairs: &mut Vec<Pair>,
     acts: &[Act],
     order: &Order,
+    lanes: &Lanes,
     nodes: u8,
     part: Part,
     position: usize,
 ) -> Result<(), AllocError>
     requires order { IsOrderOf acts.now order.now }
+    requires lanes { AreLanes acts.now lanes.now }
     requires nodes { All (λ act. act.node < nodes) acts.now }
     requires within { position < length acts.now }
     ensures { OnOk result (Adds pairs.old.items pairs.new.items
         (λ pair. (node : ℕ) × StandsForNode acts.now part position node pair)) }
 {
     for node in 0..nodes {
-        add_pair_of_node(pairs, acts, order, part, node, position)?;
+        add_pair_of_node(pairs, acts, order, lanes, part, node, position)?;
     }
     Ok(())
 }
@@ -90,9 +96,10 @@ pub fn shown_pairs(
     requires within { part.until ≤ length acts.now }
     ensures { IfOk result (λ pairs. AreShownPairs acts.now part pairs.items) }
 {
+    let lanes = lanes_of(alloc, acts)?;
     let mut pairs = Vec::new(alloc);
     for position in part.from..part.until {
-        add_pairs_of(&mut pairs, acts, order, nodes, part, position)?;
+        add_pairs_of(&mut pairs, acts, order, &lanes, nodes, part, position)?;
     }
     pairs.sort_unstable();
     pairs.dedup();

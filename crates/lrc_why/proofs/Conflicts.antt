@@ -1,5 +1,5 @@
 -- Accesses that conflict, by a test of two acts.
-use Rattle.std.proofs.Common.{◌≡◌, ℕ, ◌<◌, ◌⊎◌, ◌∙◌, inl, inr, List, get_or, length, refl, sym, ap}
+use Rattle.std.proofs.Common.{◌≡◌, ℕ, ◌<◌, ◌⊎◌, ◌∙◌, inl, inr, List, get_or, length, refl, sym, subst, ap}
 use Rattle.std.specs.Prelude.{Bool, true, false, ◌&&◌, ◌||◌, Option, Some, None, MatchBool}
 use Rattle.std.proofs.lemmas.Bool.{eqb-true, eq-eqb, not-true, not_from_false, false_from_ne_true, false≢true}
 use Rattle.std.proofs.lemmas.Option.{same_Some}
@@ -10,7 +10,7 @@ use Rattle.lrc_trace.specs.Conflict.{Accesses, Conflict, Writes}
 use Rattle.lrc_trace.specs.Run.{Does}
 use Rattle.lrc_trace.proofs.Positions.{Does-read, Does-deed, Does-one_node, Does-one_deed}
 use Rattle.lrc_why.specs.Deeds.{conflicts, is_write, same_word, word_accessed}
-use Rattle.lrc_why.specs.Positions.{IsAccess, IsRacing}
+use Rattle.lrc_why.specs.Positions.{IsRacing}
 
 both : (a b : Bool) → (a && b) ≡ true → (a ≡ true) × (b ≡ true)
 both true b h = (refl, h)
@@ -92,25 +92,48 @@ decided run i j d e true li lj is = conflicting run i j (get_or run i d) (get_or
 decided run i j d e false li lj is =
     λ h. false≢true (is ∙ conflict_tests run i j (get_or run i d) (get_or run j e) (Does-read run i d li) (Does-read run j e lj) h)
 
-first_accesses : (run : List Act) (i j : ℕ) → Conflict run i j → IsAccess run i
-first_accesses run i j (p, q, w, at) = (p, w, at.first)
-
-second_accesses : (run : List Act) (i j : ℕ) → Conflict run i j → IsAccess run j
-second_accesses run i j (p, q, w, at) = (q, w, at.second)
-
--- only an access races
-pub racing_accesses : (run : List Act) (node position k : ℕ) → IsRacing run node position k → IsAccess run position
-racing_accesses run node position k racing =
+-- an act that races with one of a word is of the same word
+pub racing_word : (run : List Act) (node position k w : ℕ) (d : Act) → position < length run → Some w ≡ word_accessed (get_or run position d).deed
+    → IsRacing run node position k → Accesses run k node w
+racing_word run node position k w d lt is racing =
+    let (deed, does) = racing.acts in
+    let here : Act = get_or run position d in
+    let stands = Does-read run position d lt in
     elim racing.races [
-      | inl before ↦ second_accesses run k position before.conflict
-      | inr behind ↦ first_accesses run position k behind.conflict
+      | inl before ↦
+          let (p, q, v, at) = before.conflict in
+          let word = (access_is run position q here.node v here.deed at.second stands).1 in
+          of_node run k p node v w deed (same_Some v w (sym word ∙ sym is)) at.first does
+      | inr behind ↦
+          let (p, q, v, at) = behind.conflict in
+          let word = (access_is run position p here.node v here.deed at.first stands).1 in
+          of_node run k q node v w deed (same_Some v w (sym word ∙ sym is)) at.second does
+    ]
+  where
+    of_node : (run : List Act) (k p node v w : ℕ) (deed : Deed) → v ≡ w → Accesses run k p v → Does run k node deed → Accesses run k node w
+    of_node run k p node v w deed same accesses does =
+        let (who, _) = access_is run k p node v deed accesses does in
+        subst (λ (n : ℕ). Accesses run k n w) who (subst (Accesses run k p) same accesses)
+
+-- only an act of a word races
+pub racing_some : (run : List Act) (node position k : ℕ) (d : Act) → position < length run → None ≡ word_accessed (get_or run position d).deed
+    → IsRacing run node position k → ⊥
+racing_some run node position k d lt is racing =
+    let here : Act = get_or run position d in
+    let stands = Does-read run position d lt in
+    elim racing.races [
+      | inl before ↦
+          let (p, q, v, at) = before.conflict in
+          let word = (access_is run position q here.node v here.deed at.second stands).1 in
+          cc
+      | inr behind ↦
+          let (p, q, v, at) = behind.conflict in
+          let word = (access_is run position p here.node v here.deed at.first stands).1 in
+          cc
     ]
 
--- the act at a position is an access exactly if it is of a word
-pub access_there : (run : List Act) (i : ℕ) (d : Act) (w : ℕ) → i < length run → Some w ≡ word_accessed (get_or run i d).deed → IsAccess run i
-access_there run i d w li is =
-    ((get_or run i d).node, w, accesses_word run i (get_or run i d).node (get_or run i d).deed w (sym is) (Does-read run i d li))
-
-pub no_access : (run : List Act) (i : ℕ) (d : Act) → i < length run → None ≡ word_accessed (get_or run i d).deed → IsAccess run i → ⊥
-no_access run i d li is (p, w, there) =
-    let e = (access_is run i p (get_or run i d).node w (get_or run i d).deed there (Does-read run i d li)).1 in cc
+-- the word of an access
+pub accessed_word : (run : List Act) (k node w : ℕ) (d : Act) → k < length run → Accesses run k node w
+    → ((get_or run k d).node ≡ node) × (word_accessed (get_or run k d).deed ≡ Some w)
+accessed_word run k node w d lt accesses =
+    let (who, word) = access_is run k node (get_or run k d).node w (get_or run k d).deed accesses (Does-read run k d lt) in (sym who, word)

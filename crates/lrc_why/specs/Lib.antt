@@ -7,3 +7,4 @@ pub mod Parting
 pub mod Known
 pub mod Spread
 pub mod Whole
+pub mod Lanes

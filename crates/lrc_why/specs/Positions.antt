@@ -6,16 +6,12 @@ use Rattle.lrc_trace.specs.declared.act.Act.{Act}
 use Rattle.lrc_trace.specs.declared.act.Deed.{Deed}
 use Rattle.lrc_trace.specs.Run.{Does}
 use Rattle.lrc_trace.specs.Order.{HappensBefore, Reaches}
-use Rattle.lrc_trace.specs.Conflict.{Accesses, Races}
+use Rattle.lrc_trace.specs.Conflict.{Races}
 use Rattle.lrc_trace.specs.Interval.{closes, interval_at}
 use Rattle.lrc_why_chains.specs.Known.{IsActOf}
 use Rattle.lrc_why_chains.specs.Writes.{IsWrite}
 use Rattle.lrc_why.specs.declared.positions.Which.{Which}
 use Rattle.lrc_why.specs.declared.positions.Which.TheVariants.{RacingOf, ClosingOf, BesideIn, NewOf}
-
--- at the position some node reads or writes a word
-abbrev pub IsAccess : List Act → ℕ → Type 0
-IsAccess run position = (node : ℕ) × (word : ℕ) × Accesses run position node word
 
 -- an act of the node that races with the one at the position, earlier or later
 pub record IsRacing (run : List Act) (node position k : ℕ) : Type 0 where

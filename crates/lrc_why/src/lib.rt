@@ -4,6 +4,7 @@
 
 mod about;
 mod known;
+pub mod lanes;
 pub mod least;
 mod opponents;
 mod parting;

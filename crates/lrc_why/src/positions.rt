@@ -9,7 +9,7 @@ ghost use Rattle.lrc_judge.specs.Order.{IsOrderOf};
 ghost use Rattle.lrc_why_chains.specs.Known.{IsActOf};
 ghost use Rattle.lrc_why_chains.specs.Writes.{AreExactly, IsWrite};
 ghost use Rattle.lrc_why.specs.Deeds.{conflicts, is_write, word_accessed};
-ghost use Rattle.lrc_why.specs.Positions.{AreWordsOf, IsAccess, IsAsked, IsBeside, IsClosed, IsNewBehind, IsRacing, IsWithin};
+ghost use Rattle.lrc_why.specs.Positions.{AreWordsOf, IsAsked, IsBeside, IsClosed, IsNewBehind, IsRacing, IsWithin};
 
 use lrc_judge::order::Order;
 use lrc_trace::act::{Act, Deed};
@@ -28,8 +28,8 @@ pub(crate) enum Which {
     NewOf(u8, usize, Option<usize>),
 }
 
-// The word that an access is of.
-fn accessed(deed: Deed) -> Option<u32>
+/// Returns the word that an access is of.
+pub(crate) fn accessed(deed: Deed) -> Option<u32>
     ensures { result ≡ word_accessed deed }
 {
     match deed {
@@ -91,17 +91,6 @@ pub(crate) fn races(acts: &[Act], order: &Order, earlier: usize, later: usize) -
         return false;
     }
     conflict_at(acts, earlier, later)
-}
-
-/// Returns whether the act at the position is an access: no other act races.
-pub(crate) fn is_access(acts: &[Act], position: usize) -> bool
-    requires { position < length acts.now }
-    ensures { MatchBool result (IsAccess acts.now position) (¬ IsAccess acts.now position) }
-{
-    match accessed(acts[position].deed) {
-        Some(_) => true,
-        None => false,
-    }
 }
 
 /// Returns whether an act is of the node and races with the act at the position.
