@@ -20,6 +20,7 @@ use lrc_cli_args::choice::{Form, RunChoice, RunOptions, Shape};
 use lrc_explain::explain;
 use lrc_node::End;
 use lrc_report::report::{run_parts, status_after_run};
+use lrc_source::read_text::ReadText;
 use lrc_source::source::Source;
 use lrc_source::text::SourceText;
 use lrc_stats::stats_part;
@@ -28,12 +29,13 @@ use lrc_world::keep::Keep;
 use lrc_world::run::Run;
 use std::alloc::{AllocError, Global};
 
-/// Answers a choice of a run without threads, from its texts.
+/// Answers a choice of a run without threads, from the program's text as it is read, and from the text of events if the
+/// choice names one.
 pub fn show(
     alloc: Global,
     choice: &RunChoice<'_>,
     shape: Shape,
-    text: &[u8],
+    text: &ReadText<'_>,
     events: Option<&[u8]>,
 ) -> Result<Printout, Fault>
     requires threadless { is_on_threads choice.now.way ≡ false }
