@@ -179,9 +179,9 @@ IsJudged false pairs judging text out status =
 -- What is printed, with the status: `ok` where the text is a program's, the text of its core, the report of what the program does in rounds on
 -- the plain machine, what is shown of its run, a judgement of acts, or what every order of the program comes to.
 abbrev pub Prints : Choice → List ℕ → Option (List ℕ) → List ℕ → ℕ → Type 0
-Prints (Check file) text events_text out status = HoldsAsRead text (λ nodes core. IsChecked core out status)
-Prints (Core file) text events_text out status = HoldsAsRead text (λ nodes core. IsCored core out status)
-Prints (Plain run) text events_text out status = HoldsAsRead text (λ nodes core. (program : Program) × IsTextOf core program
+Prints (Check file) text events_text out status = HoldsAsRead text (λ nodes read. IsChecked read.core out status)
+Prints (Core file) text events_text out status = HoldsAsRead text (λ nodes read. IsCored read.core out status)
+Prints (Plain run) text events_text out status = HoldsAsRead text (λ nodes read. (program : Program) × IsTextOf read.core program
     × IsPrintoutOfRounds program (nodes_for run.nodes_given run.nodes nodes).count run.steps.count out status)
 Prints (Show run shape) text events_text out status = ShowsAsRead (takes_named shape) run shape text events_text out status
 Prints (Judge judging) text events_text out status = IsJudged judging.all judging.pairs judging text out status
@@ -270,9 +270,9 @@ IsSearchFault exploring program fault = IsFaultIn exploring.memory exploring pro
 
 -- The first fault: of the text, then of the events, then of the run or the search, then of what is shown of the run. Memory may run out at any time.
 abbrev pub IsFault : Choice → List ℕ → Option (List ℕ) → Fault → Type 0
-IsFault (Check file) text events_text fault = IsFaultAsRead text fault (λ nodes core. IsTextFault core fault)
-IsFault (Core file) text events_text fault = IsFaultAsRead text fault (λ nodes core. IsTextFault core fault)
-IsFault (Plain run) text events_text fault = IsFaultAsRead text fault (λ nodes core. IsTextFault core fault)
+IsFault (Check file) text events_text fault = IsFaultAsRead text fault (λ nodes read. IsTextFault read.core fault)
+IsFault (Core file) text events_text fault = IsFaultAsRead text fault (λ nodes read. IsTextFault read.core fault)
+IsFault (Plain run) text events_text fault = IsFaultAsRead text fault (λ nodes read. IsTextFault read.core fault)
 IsFault (Show run shape) text events_text fault = RefusesAsRead (takes_named shape) run shape text events_text fault
 IsFault (Judge judging) text events_text fault = IsActsFault (judged_nodes judging) text fault
 IsFault (Explore exploring) text events_text fault = IsTextFault text fault

@@ -1,25 +1,30 @@
--- How the text of a program is read: a text of the core as it stands, and a named program as its core.
+-- How the text of a program is read: a text of the core as it stands, and a named program as its core, which the named program tells.
 use Rattle.std.specs.Prelude.{◌≡◌, ◌⊎◌, ℕ, Bool, true, false, List, Option, None, option_map, unwrap_or}
 use Rattle.lrc_cli_answer.specs.declared.fault.Fault.{Fault}
 use Rattle.lrc_cli_answer.specs.declared.fault.Fault.TheVariants as faults
 use Rattle.lrc_cli_args.specs.declared.choice.RunChoice.{RunChoice}
-use Rattle.lrc_named.specs.Named.{IsCoreText, IsNamedFault, IsReadAsNamed}
+use Rattle.lrc_named.specs.Named.{IsCoreTextOn, IsNamedFault, IsReadAsNamed}
 use Rattle.lrc_named.specs.declared.fault.NamedFault.{NamedFault}
 use Rattle.lrc_named.specs.declared.fault.NamedFault.TheVariants.{Text, Names, NoMemory}
 use Rattle.lrc_setting.specs.declared.setting.Nodes.{Nodes}
+use Rattle.lrc_source.specs.Telling.{ReadText, as_translated, as_written}
+
+-- the named program with this text has this core, asks for so many nodes, and tells the core by its own text and lines
+abbrev pub IsCoreTold : (text : List ℕ) → Option Nodes → ReadText → Type 0
+IsCoreTold text nodes read = (lines : List ℕ) × IsCoreTextOn text (option_map (λ (n : Nodes). n.count) nodes) read.core lines
+    × (read ≡ as_translated read.core text lines)
 
 -- the text is read as this one of the core, and asks for so many nodes
-abbrev pub IsReadAs : (text : List ℕ) → Option Nodes → (core : List ℕ) → Type 0
-IsReadAs text nodes core =
-    (¬ IsReadAsNamed text × (nodes ≡ None) × (core ≡ text))
-    ⊎ (IsReadAsNamed text × IsCoreText text (option_map (λ (n : Nodes). n.count) nodes) core)
+abbrev pub IsReadAs : (text : List ℕ) → Option Nodes → ReadText → Type 0
+IsReadAs text nodes read =
+    (¬ IsReadAsNamed text × (nodes ≡ None) × (read ≡ as_written text)) ⊎ (IsReadAsNamed text × IsCoreTold text nodes read)
 
 -- what holds of the text as it is read
-pub record HoldsAsRead (text : List ℕ) (Holds : Option Nodes → List ℕ → Type 0) : Type 0 where
+pub record HoldsAsRead (text : List ℕ) (Holds : Option Nodes → ReadText → Type 0) : Type 0 where
   pub nodes : Option Nodes
-  pub core : List ℕ
-  pub read : IsReadAs text nodes core
-  pub holds : Holds nodes core
+  pub read : ReadText
+  pub is_read : IsReadAs text nodes read
+  pub holds : Holds nodes read
 
 -- the fault of a named program, as it is told
 abbrev pub fault_of_named : NamedFault → Fault
@@ -35,7 +40,7 @@ IsUnread text faults.NoMemory = Unit {0}
 IsUnread text _ = ⊥
 
 -- the fault of a text that is read: it cannot be read, or what it is read as has this fault
-abbrev pub IsFaultAsRead : List ℕ → Fault → (Option Nodes → List ℕ → Type 0) → Type 0
+abbrev pub IsFaultAsRead : List ℕ → Fault → (Option Nodes → ReadText → Type 0) → Type 0
 IsFaultAsRead text fault Has = IsUnread text fault ⊎ HoldsAsRead text Has
 
 -- how many nodes run: as many as the words say; else as many as the text asks for; else as many as by default

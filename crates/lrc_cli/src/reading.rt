@@ -1,4 +1,5 @@
-// How the text of a program is read: a text of the core as it stands, and a named program as its core.
+// How the text of a program is read: a text of the core as it stands, and a named program as its core, which the named
+// program tells.
 
 ghost use Rattle.std.specs.Prelude.{◌≡◌, IfErr, IfOk};
 ghost use Rattle.lrc_cli.specs.Reading.{IsReadAs, IsUnread, fault_of_named, nodes_for, run_for};
@@ -10,6 +11,7 @@ use lrc_cli_args::choice::{RunChoice, RunOptions};
 use lrc_named::fault::NamedFault;
 use lrc_named::{CoreText, core_of_text, is_read_as_named};
 use lrc_setting::setting::Nodes;
+use lrc_source::read_text::ReadText;
 use std::alloc::Global;
 
 /// The text of a program, as it is read.
@@ -17,18 +19,28 @@ use std::alloc::Global;
 pub enum Reading<'t> {
     /// A text of the core, as it stands.
     Written(&'t [u8]),
-    /// The core of a named program.
-    Translated(CoreText),
+    /// A named program, and its core.
+    Translated(&'t [u8], CoreText),
 }
 
 impl Reading<'_> {
     /// Returns the text of the core that is read.
     pub fn text(&self) -> &[u8]
-        ensures { result.now ≡ text_read self.now }
+        ensures { result.now ≡ (text_read self.now).core }
     {
         match self {
             Reading::Written(text) => *text,
-            Reading::Translated(core) => &core.text,
+            Reading::Translated(_, core) => &core.text,
+        }
+    }
+
+    /// Returns the text of the core with what it is told by.
+    pub fn told(&self) -> ReadText<'_>
+        ensures { result ≡ text_read self.now }
+    {
+        match self {
+            Reading::Written(text) => ReadText::written(*text),
+            Reading::Translated(text, core) => ReadText::translated(&core.text, *text, &core.lines),
         }
     }
 
@@ -38,7 +50,7 @@ impl Reading<'_> {
     {
         match self {
             Reading::Written(_) => None,
-            Reading::Translated(core) => core.nodes,
+            Reading::Translated(_, core) => core.nodes,
         }
     }
 }
@@ -74,7 +86,7 @@ fn translated(alloc: Global, text: &[u8]) -> Result<Reading<'_>, Fault>
     ensures err { IfErr result (IsUnread text.now) }
 {
     match core_of_text(alloc, text) {
-        Ok(core) => Ok(Reading::Translated(core)),
+        Ok(core) => Ok(Reading::Translated(text, core)),
         Err(fault) => Err(fault_of(fault)),
     }
 }
