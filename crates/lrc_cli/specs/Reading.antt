@@ -3,16 +3,17 @@ use Rattle.std.specs.Prelude.{◌≡◌, ◌⊎◌, ℕ, Bool, true, false, List
 use Rattle.lrc_cli_answer.specs.declared.fault.Fault.{Fault}
 use Rattle.lrc_cli_answer.specs.declared.fault.Fault.TheVariants as faults
 use Rattle.lrc_cli_args.specs.declared.choice.RunChoice.{RunChoice}
+use Rattle.lrc_named_core.specs.Tree.{Trap}
 use Rattle.lrc_named.specs.Named.{IsCoreTextOn, IsNamedFault, IsReadAsNamed}
 use Rattle.lrc_named.specs.declared.fault.NamedFault.{NamedFault}
 use Rattle.lrc_named.specs.declared.fault.NamedFault.TheVariants.{Text, Names, NoMemory}
 use Rattle.lrc_setting.specs.declared.setting.Nodes.{Nodes}
 use Rattle.lrc_source.specs.Telling.{ReadText, as_translated, as_written}
 
--- the named program with this text has this core, asks for so many nodes, and tells the core by its own text and lines
+-- the named program with this text has this core, asks for so many nodes, and tells the core by its own text, lines and traps
 abbrev pub IsCoreTold : (text : List ℕ) → Option Nodes → ReadText → Type 0
-IsCoreTold text nodes read = (lines : List ℕ) × IsCoreTextOn text (option_map (λ (n : Nodes). n.count) nodes) read.core lines
-    × (read ≡ as_translated read.core text lines)
+IsCoreTold text nodes read = (lines : List ℕ) × (traps : List Trap)
+    × IsCoreTextOn text (option_map (λ (n : Nodes). n.count) nodes) read.core lines traps × (read ≡ as_translated read.core text lines traps)
 
 -- the text is read as this one of the core, and asks for so many nodes
 abbrev pub IsReadAs : (text : List ℕ) → Option Nodes → ReadText → Type 0

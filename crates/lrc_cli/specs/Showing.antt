@@ -10,13 +10,13 @@ use Rattle.lrc_source.specs.Telling.{as_written}
 use Rattle.lrc_text.specs.Parts.{whole_text}
 use Rattle.lrc_cli.specs.Reading.{HoldsAsRead, IsFaultAsRead, run_for}
 
--- whether a named program is shown so: where causes of traps and names of the translation's own are not told. Else the text has to be one of
--- the core
+-- whether a named program is shown so: where names of the translation's own are not told as what they hold. Else the text has to be one of the
+-- core
 abbrev pub takes_named : Shape → Bool
 takes_named Report = true
 takes_named Stats = true
 takes_named (Trace form) = true
-takes_named Explain = false
+takes_named Explain = true
 takes_named (Chart charting) = true
 takes_named (Step part) = false
 takes_named (Why asking) = false

@@ -20,7 +20,7 @@ pub enum Reading<'t> {
     /// A text of the core, as it stands.
     Written(&'t [u8]),
     /// A named program, and its core.
-    Translated(&'t [u8], CoreText),
+    Translated(&'t [u8], CoreText<'t>),
 }
 
 impl Reading<'_> {
@@ -40,7 +40,9 @@ impl Reading<'_> {
     {
         match self {
             Reading::Written(text) => ReadText::written(*text),
-            Reading::Translated(text, core) => ReadText::translated(&core.text, *text, &core.lines),
+            Reading::Translated(text, core) => {
+                ReadText::translated(&core.text, *text, &core.lines, &core.traps)
+            }
         }
     }
 

@@ -15,13 +15,17 @@ use std::alloc::Global;
 use std::sync::Wait;
 use std::thread::Threads;
 
-// Whether a named program is shown so: where causes of traps and names of the translation's own are not told.
+// Whether a named program is shown so: where names of the translation's own are not told as what they hold.
 fn takes_named(shape: Shape) -> bool
     ensures { result ≡ takes_named shape }
 {
     match shape {
-        Shape::Report | Shape::Stats | Shape::Trace(_) | Shape::Chart(_) => true,
-        Shape::Explain | Shape::Step(_) | Shape::Why(_) => false,
+        Shape::Report
+        | Shape::Stats
+        | Shape::Trace(_)
+        | Shape::Chart(_)
+        | Shape::Explain => true,
+        Shape::Step(_) | Shape::Why(_) => false,
     }
 }
 

@@ -9,15 +9,16 @@ use Rattle.lrc_explain_waits.specs.declared.stand.Fate.TheVariants.{Trapped}
 use Rattle.lrc_explain_waits.specs.declared.stand.Stand.{Stand}
 use Rattle.lrc_explain_waits.specs.Stand.{stands_of}
 use Rattle.lrc_explain_waits.specs.Stuck.{end_text}
+use Rattle.lrc_named_core.specs.Tree.{plain}
 
 -- how a node ended, if it has trapped
 abbrev pub trapped_as : Fate → List ℕ → List ℕ
 trapped_as (Trapped cause) text = text
 trapped_as _ text = []
 
--- how node `me` ended, and why, if it has trapped
+-- how node `me` ended, and why, if it has trapped, in words of the core
 abbrev pub trapped_line : List Label → List Stand → (me : ℕ) → Stand → List ℕ
-trapped_line labels stands me stand = trapped_as stand.fate (end_text labels stands me stand)
+trapped_line labels stands me stand = trapped_as stand.fate (end_text labels plain stands me stand)
 
 -- the same of all nodes, ascending
 abbrev pub trapped_lines : List Label → List Stand → List ℕ

@@ -10,6 +10,7 @@ use lrc_explain_waits::{Fate, Stand, push_end, stands_of};
 use lrc_labels::label::Label;
 use lrc_lang::program::Program;
 use lrc_lines::walks::follow_acts;
+use lrc_named_core::tree::Trap;
 use lrc_trace::act::Act;
 use std::alloc::{AllocError, Global};
 
@@ -26,7 +27,7 @@ fn push_trapped(
         ≡ text.old.items ++ trapped_line (map label_seen labels.now) stands.now me stand) }
 {
     match stand.fate {
-        Fate::Trapped(_) => push_end(alloc, text, labels, stands, me, stand),
+        Fate::Trapped(_) => push_end(alloc, text, labels, Trap::Plain, stands, me, stand),
         _ => Ok(()),
     }
 }

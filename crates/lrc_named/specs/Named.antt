@@ -11,8 +11,9 @@ use Rattle.lrc_named_expression_faults.specs.declared.fault.FaultKind.{FaultKind
 use Rattle.lrc_named_expression_faults.specs.Fault.{IsFirstOf, IsNone, fault_at}
 use Rattle.lrc_named_faults.specs.Checked.{counted_in}
 use Rattle.lrc_named_faults.specs.Program.{IsFaultOf}
+use Rattle.lrc_named_core.specs.Tree.{Trap}
 use Rattle.lrc_named_limits.specs.declared.excess.Excess.{Excess}
-use Rattle.lrc_named_origins.specs.Origins.{lines_told, origins_of}
+use Rattle.lrc_named_origins.specs.Origins.{lines_told, origins_of, traps_told}
 use Rattle.lrc_named_written.specs.Written as written
 use Rattle.lrc_named.specs.declared.fault.NamedFault.{NamedFault}
 use Rattle.lrc_named.specs.declared.fault.NamedFault.TheVariants.{Text, Names, NoMemory}
@@ -37,10 +38,11 @@ pub record IsCoreText (text : List ℕ) (nodes : Option ℕ) (core : List ℕ) :
   pub asked : nodes ≡ counted_in None tree.declarations
   pub core_is : written.IsCoreText declared (lines_of tokens) tree core
 
--- the same, where the core's text is told by this text: its statements, in the order of the core's text, lie on these lines, and last comes the
--- line of its end
-pub record IsCoreTextOn (text : List ℕ) (nodes : Option ℕ) (core told : List ℕ) : Type 0 where
+-- The same, and the core's statements, in the order of its text, lie on these lines of the named text, behind which comes the line of its end,
+-- and this is said of a trap of each.
+pub record IsCoreTextOn (text : List ℕ) (nodes : Option ℕ) (core told : List ℕ) (traps : List Trap) : Type 0 where
   pub is : IsCoreText text nodes core
+  pub traps_are : traps ≡ traps_told (origins_of is.core_is.statements)
   pub told_are : told ≡ lines_told (lines_of is.tokens) (origins_of is.core_is.statements) ++ last_of (lines_of is.tokens) ∷ []
 
 -- ---- faults

@@ -1,6 +1,6 @@
 -- What the statements of a core come from, in the order of its text: a statement stands before those of its blocks.
 use Rattle.std.specs.Prelude.{ℕ, List, [], ◌∷◌, ◌++◌, map, slice_index}
-use Rattle.lrc_named_core.specs.Tree.{Origin, Statement, assign, read, write, acquire, release, barrier, print, if_else, while_do}
+use Rattle.lrc_named_core.specs.Tree.{Origin, Trap, Statement, assign, read, write, acquire, release, barrier, print, if_else, while_do}
 use Rattle.lrc_named_core.specs.Tree.{Block, empty, next}
 
 abbrev mutual
@@ -23,3 +23,7 @@ abbrev mutual
 -- on which line of the named program's text each lies; `lines` has the line of each token of that text
 abbrev pub lines_told : (lines : List ℕ) → List Origin → List ℕ
 lines_told lines origins = map (λ (origin : Origin). slice_index lines origin.line) origins
+
+-- what is said of a trap of each
+abbrev pub traps_told : List Origin → List Trap
+traps_told origins = map (λ (origin : Origin). origin.trap) origins

@@ -1,18 +1,21 @@
 -- By what a text of the core is told: by itself, or by the named program whose core it is.
-use Rattle.std.specs.Prelude.{◌≡◌, ◌==◌, ℕ, Bool, false, List, [], ◌∷◌, if◌then◌else◌, map, slice_index}
+use Rattle.std.specs.Prelude.{◌≡◌, ◌==◌, ℕ, Bool, false, List, [], ◌∷◌, Option, None, Some, if◌then◌else◌, map, slice_index}
 use Rattle.lrc_lang.specs.Lines.{HasLines}
 use Rattle.lrc_lang.specs.Symbol.{Names}
 use Rattle.lrc_lang.specs.Tree.{program_of}
 use Rattle.lrc_lang.specs.declared.program.Program.{Program}
 use Rattle.lrc_lines.specs.Statements.{numbers_of}
+use Rattle.lrc_named_core.specs.Tree.{Trap}
+use Rattle.lrc_named_core.specs.View.{trap_of}
 use Rattle.lrc_source.specs.declared.read_text.Telling as code
 use Rattle.lrc_source.specs.declared.read_text.Telling.TheVariants.{Written, Translated}
 
--- What is told of a core: the text of the named program, and in it the lines of the statements that the core's come from, in the order of the
--- core's text, and last that of the named text's end.
+-- What a named program tells of its core: its text; the lines of that text on which the core's statements lie, in the order of the core's text,
+-- and last that of the named text's end; and what is said of a trap of each statement, in the same order.
 pub record Translation : Type 0 where
   pub text : List ℕ
   pub lines : List ℕ
+  pub traps : List Trap
 
 pub data Telling : Type 0 where
   -- the text of a core as it was written tells itself
@@ -30,8 +33,8 @@ abbrev pub as_written : List ℕ → ReadText
 as_written text = record { core = text; telling = written }
 
 -- a core, told by the named program with this text
-abbrev pub as_translated : (core text lines : List ℕ) → ReadText
-as_translated core text lines = record { core = core; telling = translated (record { text = text; lines = lines }) }
+abbrev pub as_translated : (core text lines : List ℕ) → List Trap → ReadText
+as_translated core text lines traps = record { core = core; telling = translated (record { text = text; lines = lines; traps = traps }) }
 
 -- the text that is shown
 abbrev pub shown_by : Telling → (core : List ℕ) → List ℕ
@@ -54,6 +57,11 @@ AreLinesBy (translated named) core program lines = lines ≡ lines_at named.line
 abbrev pub AreLines : ReadText → Program → List ℕ → Type 0
 AreLines text program lines = AreLinesBy text.telling text.core program lines
 
+-- what is said of a trap of each statement, in the order of the core's text, where something is said
+abbrev pub traps_of : Telling → Option (List Trap)
+traps_of written = None
+traps_of (translated named) = Some named.traps
+
 -- a name of the translation's own: no name of a named program begins so
 abbrev pub is_own : (name : List ℕ) → Bool
 is_own [] = false
@@ -72,4 +80,4 @@ names_told (translated named) names = map name_told names
 
 abbrev pub telling_seen : code.Telling → Telling
 telling_seen Written = written
-telling_seen (Translated named) = translated (record { text = named.text.now; lines = named.lines.now })
+telling_seen (Translated named) = translated (record { text = named.text.now; lines = named.lines.now; traps = map trap_of named.traps.now })

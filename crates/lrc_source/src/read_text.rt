@@ -1,13 +1,15 @@
 // A text of the core as it is read, and by what it is told.
 
-ghost use Rattle.std.specs.Prelude.{◌≡◌, IfOk, map, slice_index};
+ghost use Rattle.std.specs.Prelude.{◌≡◌, IfOk, map, option_map, slice_index};
 ghost use Rattle.std.specs.List.{range_with_len};
 ghost use Rattle.lrc_lang.specs.Faults.{IsText};
 ghost use Rattle.lrc_lang.specs.Tree.{program_of};
 ghost use Rattle.lrc_lang.specs.declared.program.Program.{Program};
-ghost use Rattle.lrc_source.specs.Telling.{AreLines, as_translated, as_written, is_own, name_told, names_told, shown_text};
+ghost use Rattle.lrc_named_core.specs.View.{trap_of};
+ghost use Rattle.lrc_source.specs.Telling.{AreLines, as_translated, as_written, is_own, name_told, names_told, shown_text, traps_of};
 
 use lrc_lang::lines::lines_of;
+use lrc_named_core::tree::Trap;
 use std::alloc::{AllocError, Global};
 use std::marker::Model;
 
@@ -19,6 +21,8 @@ pub struct Translation<'t> {
     /// The line in that text of the statement that each statement of the core comes from, in the order of the core's
     /// text, and last that of the named text's end.
     pub lines: &'t [u32],
+    /// What the named program says of a trap of each statement of the core, in the same order.
+    pub traps: &'t [Trap<'t>],
 }
 
 /// By what a text of the core is told.
@@ -58,13 +62,19 @@ impl<'t> ReadText<'t> {
     }
 
     /// Returns a text of the core that is told by the named program with this text. `lines` has the line in it of each
-    /// statement of the core, and last that of its end.
-    pub fn translated(core: &'t [u8], text: &'t [u8], lines: &'t [u32]) -> ReadText<'t>
-        ensures { result ≡ as_translated core.entry.now text.entry.now lines.entry.now }
+    /// statement of the core, and last that of its end; `traps` has what is said of a trap of each statement.
+    pub fn translated(
+        core: &'t [u8],
+        text: &'t [u8],
+        lines: &'t [u32],
+        traps: &'t [Trap<'t>],
+    ) -> ReadText<'t>
+        ensures { result ≡ as_translated core.entry.now text.entry.now lines.entry.now
+            (map trap_of traps.entry.now) }
     {
         ReadText {
             core,
-            telling: Telling::Translated(Translation { text, lines }),
+            telling: Telling::Translated(Translation { text, lines, traps }),
         }
     }
 
@@ -82,6 +92,16 @@ impl<'t> ReadText<'t> {
         match self.telling {
             Telling::Written => self.core,
             Telling::Translated(named) => named.text,
+        }
+    }
+
+    /// Returns what is said of a trap of each statement of the core, in the order of its text, if something is said.
+    pub fn traps(&self) -> Option<&'t [Trap<'t>]>
+        ensures { option_map (λ traps. map trap_of traps.now) result ≡ traps_of self.now.telling }
+    {
+        match self.telling {
+            Telling::Written => None,
+            Telling::Translated(named) => Some(named.traps),
         }
     }
 

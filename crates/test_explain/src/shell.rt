@@ -55,6 +55,7 @@ fn is_explained_of(
     match explain(
         alloc,
         labels,
+        &[],
         code,
         lines,
         case.nodes,
