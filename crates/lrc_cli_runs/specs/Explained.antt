@@ -1,20 +1,14 @@
 -- The report of a run with reasons.
-use Rattle.std.specs.Prelude.{◌≡◌, ℕ, List, [], Option, None, Some}
+use Rattle.std.specs.Prelude.{◌≡◌, ℕ, List, Option}
 use Rattle.lrc_lang.specs.declared.program.Program.{Program}
 use Rattle.lrc_trace.specs.declared.act.Act.{Act}
 use Rattle.lrc_explain.specs.Explain.{explain_text}
-use Rattle.lrc_explain_waits.specs.Traps.{traps_behind}
+use Rattle.lrc_explain_waits.specs.Traps.{traps_told}
 use Rattle.lrc_judge.specs.FirstPairs.{AreFirstPairs}
 use Rattle.lrc_judge.specs.declared.lanes.Pair.{Pair}
-use Rattle.lrc_named_core.specs.Tree.{Trap}
 use Rattle.lrc_cli_args.specs.declared.choice.RunOptions.{RunOptions}
 use Rattle.lrc_cli_answer.specs.Labels.{labels_in}
 use Rattle.lrc_source.specs.Telling.{AreLines, ReadText, traps_of}
-
--- what is said of a trap of the statement to which each node has come behind acts; nothing, where nothing is said of statements
-abbrev pub traps_told : Option (List Trap) → Program → (nodes : ℕ) → List Act → List Trap
-traps_told None program nodes acts = []
-traps_told (Some traps) program nodes acts = traps_behind traps program nodes acts
 
 -- the report of such a run with reasons, with the labels of the text, and with what it says of traps
 abbrev pub IsExplained : ReadText → Program → RunOptions → List Act → Option ℕ → List ℕ → Type 0

@@ -1,10 +1,8 @@
 // What the program answers to a run without threads, and what is shown of any run.
 
-ghost use Rattle.std.specs.Prelude.{◌≡◌, ◌<◌, All, IfErr, IfOk, false, is_some, length, map, option_map};
+ghost use Rattle.std.specs.Prelude.{◌≡◌, ◌<◌, All, IfErr, IfOk, false, is_some, length, option_map};
 ghost use Rattle.lrc_cli_runs.specs.Showing.{RefusesRun, ShowsRun};
-ghost use Rattle.lrc_cli_runs.specs.Explained.{IsExplained, traps_told};
-ghost use Rattle.lrc_named_core.specs.View.{trap_of};
-ghost use Rattle.lrc_source.specs.Telling.{traps_of};
+ghost use Rattle.lrc_cli_runs.specs.Explained.{IsExplained};
 ghost use Rattle.lrc_cli_runs.specs.Shown.{IsRunFor, IsShowFault, IsShown, keep_for, shown_status};
 ghost use Rattle.lrc_run.specs.Run.{turns_of_nodes};
 ghost use Rattle.lrc_stats.specs.StatsText.{stats_text};
@@ -20,8 +18,7 @@ use lrc_cli_answer::fault::Fault;
 use lrc_cli_answer::printout::{Printout, in_one};
 use lrc_cli_args::choice::{Form, RunChoice, RunOptions, Shape};
 use lrc_explain::explain;
-use lrc_explain_waits::traps_behind;
-use lrc_named_core::tree::Trap;
+use lrc_explain_waits::traps_told;
 use lrc_node::End;
 use lrc_report::report::{run_parts, status_after_run};
 use lrc_source::read_text::ReadText;
@@ -163,7 +160,7 @@ pub(crate) fn explained(
         acts.now first_race (whole_text parts.items)) }
 {
     let nodes = options.nodes.count as u8;
-    let traps = traps_told(alloc, source, nodes, acts)?;
+    let traps = traps_told(alloc, source.code(), source.text().traps(), nodes, acts)?;
     explain(
         alloc,
         source.labels(),
@@ -175,22 +172,6 @@ pub(crate) fn explained(
         acts,
         first_race,
     )
-}
-
-// What the text says of a trap of the statement to which each node has come.
-fn traps_told<'s>(
-    alloc: Global,
-    source: &Source<'s>,
-    nodes: u8,
-    acts: &[Act],
-) -> Result<Vec<Trap<'s>>, AllocError>
-    ensures { IfOk result (λ traps. map trap_of traps.items
-        ≡ traps_told (traps_of source.now.text.telling) source.now.program nodes acts.now) }
-{
-    match source.text().traps() {
-        Some(traps) => traps_behind(alloc, source.code(), traps, nodes, acts),
-        None => Ok(Vec::new(alloc)),
-    }
 }
 
 // The counts of a run.

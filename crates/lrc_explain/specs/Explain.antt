@@ -1,5 +1,5 @@
 -- What is printed of a run, with reasons.
-use Rattle.std.specs.Prelude.{ℕ, ◌==◌, List, [], ◌++◌, Option, Some, codes, decimal, if◌then◌else◌, slice_index_or}
+use Rattle.std.specs.Prelude.{ℕ, ◌==◌, List, [], ◌++◌, Option, Some, codes, decimal, if◌then◌else◌}
 use Rattle.std.specs.List.{flat_map}
 use Rattle.lrc_lang.specs.declared.program.Program.{Program}
 use Rattle.lrc_trace.specs.declared.act.Act.{Act}
@@ -10,11 +10,12 @@ use Rattle.lrc_judge.specs.declared.lanes.Pair.{Pair}
 use Rattle.lrc_text.specs.RaceText.{first_race_text}
 use Rattle.lrc_text.specs.Each.{each}
 use Rattle.lrc_labels.specs.Reading.{Label}
-use Rattle.lrc_named_core.specs.Tree.{Trap, plain}
+use Rattle.lrc_named_core.specs.Tree.{Trap}
 use Rattle.lrc_explain_waits.specs.declared.stand.Stand.{Stand}
 use Rattle.lrc_explain_waits.specs.Circles.{deadlocks_text}
 use Rattle.lrc_explain_waits.specs.Stand.{stands_of}
 use Rattle.lrc_explain_waits.specs.Stuck.{end_text}
+use Rattle.lrc_explain_waits.specs.Traps.{trap_at}
 use Rattle.lrc_explain.specs.Access.{node_words}
 use Rattle.lrc_explain.specs.Groups.{groups_text}
 
@@ -30,11 +31,7 @@ print_of node act = if act.node == node then print_text node act.deed else []
 abbrev pub prints_text : (node : ℕ) → List Act → List ℕ
 prints_text node acts = flat_map (print_of node) acts
 
--- what the text says of a trap of the statement to which this node has come: nothing where nothing is said of nodes
-abbrev pub trap_at : List Trap → (node : ℕ) → Trap
-trap_at traps node = slice_index_or traps node plain
-
--- what each node printed, how it ended and why
+-- what each node printed, how it ended and why; of a trap of the statement to which each has come the text says this
 abbrev pub fates_text : List Label → List Trap → List Act → List Stand → List ℕ
 fates_text labels traps acts stands = each (λ node stand. prints_text node acts ++ end_text labels (trap_at traps node) stands node stand) stands
 

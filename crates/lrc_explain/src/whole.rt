@@ -8,13 +8,13 @@ ghost use Rattle.lrc_labels.specs.Reading.{label_seen};
 ghost use Rattle.lrc_named_core.specs.View.{trap_of};
 ghost use Rattle.lrc_text.specs.Parts.{whole_text};
 ghost use Rattle.lrc_text.specs.RaceText.{first_race_text};
-ghost use Rattle.lrc_explain.specs.Explain.{explain_text, fates_text, print_of, print_text, prints_text, trap_at};
+ghost use Rattle.lrc_explain.specs.Explain.{explain_text, fates_text, print_of, print_text, prints_text};
 ghost use Rattle.lrc_explain_waits.specs.Circles.{deadlocks_text};
 
 use crate::access::push_node;
 use crate::groups::groups_part;
 use lrc_exec::code::Code;
-use lrc_explain_waits::{Stand, push_deadlocks, push_end, stands_of};
+use lrc_explain_waits::{Stand, push_deadlocks, push_end, stands_of, trap_at};
 use lrc_judge::NODES;
 use lrc_judge::first_pairs::first_pairs;
 use lrc_labels::label::Label;
@@ -55,16 +55,6 @@ fn push_prints(text: &mut Vec<u8>, node: usize, acts: &[Act]) -> Result<(), Allo
         push_print_of(text, node, *act)?;
     }
     Ok(())
-}
-
-// What the text says of a trap of the statement to which a node has come.
-fn trap_at<'t>(traps: &[Trap<'t>], node: usize) -> Trap<'t>
-    ensures { trap_of result ≡ trap_at (map trap_of traps.now) node }
-{
-    match traps.get(node) {
-        Some(trap) => *trap,
-        None => Trap::Plain,
-    }
 }
 
 // What each node printed, how it ended and why.

@@ -8,7 +8,8 @@ use Rattle.lrc_explain_waits.specs.declared.stand.Fate.TheVariants.{Ended, Trapp
 use Rattle.lrc_explain_waits.specs.declared.stand.Stand.{Stand}
 use Rattle.lrc_explain_waits.specs.Circles.{deadlocks_text}
 use Rattle.lrc_explain_waits.specs.Words.{coming_words}
-use Rattle.lrc_named_core.specs.Tree.{Trap, plain}
+use Rattle.lrc_explain_waits.specs.Traps.{trap_at}
+use Rattle.lrc_named_core.specs.Tree.{Trap}
 use Rattle.lrc_trap_words.specs.Words.{cause_words}
 
 -- how a node ended
@@ -31,17 +32,18 @@ reason_text labels trap stands me stand = reason_by labels trap stand.fate stand
 abbrev pub end_text : List Label → Trap → List Stand → (me : ℕ) → Stand → List ℕ
 end_text labels trap stands me stand = codes "node " ++ decimal me ++ fate_words stand.fate ++ reason_text labels trap stands me stand
 
--- the same of a node that is unfinished, in words of the core
+-- the same of a node that is unfinished
 abbrev pub stuck_as : Fate → List ℕ → List ℕ
 stuck_as Unfinished text = text
 stuck_as _ text = []
 
-abbrev pub stuck_line : List Label → List Stand → (me : ℕ) → Stand → List ℕ
-stuck_line labels stands me stand = stuck_as stand.fate (end_text labels plain stands me stand)
+abbrev pub stuck_line : List Label → Trap → List Stand → (me : ℕ) → Stand → List ℕ
+stuck_line labels trap stands me stand = stuck_as stand.fate (end_text labels trap stands me stand)
 
-abbrev pub stuck_lines : List Label → List Stand → List ℕ
-stuck_lines labels stands = each (λ me stand. stuck_line labels stands me stand) stands
+-- of a trap of the statement to which each node has come the text says this
+abbrev pub stuck_lines : List Label → List Trap → List Stand → List ℕ
+stuck_lines labels traps stands = each (λ me stand. stuck_line labels (trap_at traps me) stands me stand) stands
 
 -- the lines of the nodes that are unfinished, and then those of the circles of waiting
-abbrev pub stuck_text : List Label → List Stand → List ℕ
-stuck_text labels stands = stuck_lines labels stands ++ deadlocks_text stands
+abbrev pub stuck_text : List Label → List Trap → List Stand → List ℕ
+stuck_text labels traps stands = stuck_lines labels traps stands ++ deadlocks_text stands

@@ -16,4 +16,4 @@ pub use circles::{circle_of, push_circle, push_deadlocks, waits_of};
 pub use holder::Holder;
 pub use stand::{Coming, Fate, Stand, stands_of};
 pub use stuck::{push_end, stuck_part};
-pub use traps::traps_behind;
+pub use traps::{Wording, trap_at, traps_told};

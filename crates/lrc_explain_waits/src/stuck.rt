@@ -5,12 +5,14 @@ ghost use Rattle.lrc_text.specs.Front.{BeginsWith};
 ghost use Rattle.lrc_labels.specs.Reading.{label_seen};
 ghost use Rattle.lrc_explain_waits.specs.Stand.{stands_of};
 ghost use Rattle.lrc_explain_waits.specs.Stuck.{end_text, fate_words, reason_text, stuck_line, stuck_lines, stuck_text};
+ghost use Rattle.lrc_explain_waits.specs.Traps.{traps_told, wording_of};
 ghost use Rattle.lrc_explain_waits.specs.Words.{coming_words};
 ghost use Rattle.lrc_named_core.specs.View.{trap_of};
 ghost use Rattle.lrc_trap_words.specs.Words.{cause_words};
 
 use crate::circles::push_deadlocks;
 use crate::stand::{Fate, Stand, stands_of};
+use crate::traps::{Wording, trap_at, traps_told};
 use crate::words::push_coming;
 use lrc_exec::code::Code;
 use lrc_labels::label::Label;
@@ -132,36 +134,45 @@ fn push_stuck(
     alloc: Global,
     text: &mut Vec<u8>,
     labels: &[Label<'_>],
+    trap: Trap<'_>,
     stands: &[Stand],
     me: usize,
     stand: Stand,
 ) -> Result<(), AllocError>
     ensures { OnOk result (text.new.items
-        ≡ text.old.items ++ stuck_line (map label_seen labels.now) stands.now me stand) }
+        ≡ text.old.items
+        ++ stuck_line (map label_seen labels.now) (trap_of trap.entry) stands.now me stand) }
 {
     match stand.fate {
-        Fate::Unfinished => push_end(alloc, text, labels, Trap::Plain, stands, me, stand),
+        Fate::Unfinished => push_end(alloc, text, labels, trap, stands, me, stand),
         _ => Ok(()),
     }
 }
 
-fn stuck_lines(alloc: Global, labels: &[Label<'_>], stands: &[Stand]) -> Result<Vec<u8>, AllocError>
+fn stuck_lines(
+    alloc: Global,
+    labels: &[Label<'_>],
+    traps: &[Trap<'_>],
+    stands: &[Stand],
+) -> Result<Vec<u8>, AllocError>
     ensures { IfOk result (λ part. part.items
-        ≡ stuck_lines (map label_seen labels.now) stands.now) }
+        ≡ stuck_lines (map label_seen labels.now) (map trap_of traps.now) stands.now) }
 {
     let mut text = Vec::new(alloc);
     for me in 0..stands.len() {
-        push_stuck(alloc, &mut text, labels, stands, me, stands[me])?;
+        let trap = trap_at(traps, me);
+        push_stuck(alloc, &mut text, labels, trap, stands, me, stands[me])?;
     }
     Ok(text)
 }
 
 /// Returns what is printed of the nodes that are unfinished after acts: two lines for each, and then a line for each
 /// circle of waiting. `lines` has the lines of the program's statements, and of the text's end behind them. `steps` is
-/// the number of steps that a node has, if it is limited. The labels of words and locks follow their numbers.
+/// the number of steps that a node has, if it is limited. The labels of words and locks follow their numbers, and a trap
+/// is told by what the text says of it.
 pub fn stuck_part(
     alloc: Global,
-    labels: &[Label<'_>],
+    wording: &Wording<'_>,
     code: &Code<'_>,
     lines: &[u32],
     nodes: u8,
@@ -169,12 +180,14 @@ pub fn stuck_part(
     acts: &[Act],
 ) -> Result<Vec<u8>, AllocError>
     ensures { IfOk result (λ part. part.items
-        ≡ stuck_text (map label_seen labels.now)
+        ≡ stuck_text (wording_of wording.now).labels
+        (traps_told (wording_of wording.now).traps code.now nodes acts.now)
         (stands_of code.now nodes lines.now steps acts.now)) }
 {
     let followed = follow_acts(alloc, code, lines, nodes, acts)?;
     let stands = stands_of(alloc, &followed, nodes, steps, acts)?;
-    let mut text = stuck_lines(alloc, labels, &stands)?;
+    let traps = traps_told(alloc, code, wording.traps, nodes, acts)?;
+    let mut text = stuck_lines(alloc, wording.labels, &traps, &stands)?;
     push_deadlocks(alloc, &mut text, &stands)?;
     Ok(text)
 }

@@ -1,20 +1,28 @@
-// What the text says of a trap of the statement to which a node has come.
+// What a text says of traps, and of words and locks.
 
-ghost use Rattle.std.specs.Prelude.{◌≡◌, ◌+◌, IfOk, List, map, slice_index_or};
+ghost use Rattle.std.specs.Prelude.{◌≡◌, ◌+◌, IfOk, List, map, option_map};
 ghost use Rattle.std.specs.List.{range_with_len};
 ghost use Rattle.lrc_lines.specs.Statements.{numbers_of};
-ghost use Rattle.lrc_named_core.specs.Tree.{plain};
 ghost use Rattle.lrc_named_core.specs.View.{trap_of};
 ghost use Rattle.lrc_lang.specs.declared.program.Program.{Program};
 ghost use Rattle.lrc_trace.specs.declared.act.Act.{Act as AnyAct};
 ghost use Rattle.lrc_explain_waits.specs.Followed.{AreFollowed};
-ghost use Rattle.lrc_explain_waits.specs.Traps.{traps_behind};
+ghost use Rattle.lrc_explain_waits.specs.Traps.{trap_at, traps_behind, traps_told};
 
 use lrc_exec::code::Code;
+use lrc_labels::label::Label;
 use lrc_lines::walks::{Followed, follow_acts};
 use lrc_named_core::tree::Trap;
 use lrc_trace::act::Act;
 use std::alloc::{AllocError, Global};
+
+/// What a text says of words and locks by labels, and of a trap of each statement, in the order of the core's text, if it
+/// says something of statements.
+#[derive(Clone, Copy)]
+pub struct Wording<'a> {
+    pub labels: &'a [Label<'a>],
+    pub traps: Option<&'a [Trap<'a>]>,
+}
 
 // The numbers from 0 to the last one. For a number that does not fit in 32 bits there is no memory.
 fn numbers_to(alloc: Global, last: usize) -> Result<Vec<u32>, AllocError>
@@ -38,19 +46,38 @@ fn numbers_in(alloc: Global, code: &Code<'_>) -> Result<Vec<u32>, AllocError>
     numbers_to(alloc, instructions.len())
 }
 
-// What is said at a place; past the last one nothing is.
-fn trap_at<'t>(traps: &[Trap<'t>], place: u32) -> Trap<'t>
-    ensures { trap_of result ≡ slice_index_or (map trap_of traps.now) place plain }
+/// Returns what is said at a place; past the last one nothing is.
+pub fn trap_at<'t>(traps: &[Trap<'t>], place: usize) -> Trap<'t>
+    ensures { trap_of result ≡ trap_at (map trap_of traps.now) place }
 {
-    match traps.get(place as usize) {
+    match traps.get(place) {
         Some(trap) => *trap,
         None => Trap::Plain,
     }
 }
 
-/// Returns what the text says of a trap of the statement to which each of nodes 0, 1, .. has come after acts. `traps` has
-/// it of each statement, in the order of the text. It fails if memory runs out; there is none for 2^32 statements.
-pub fn traps_behind<'t>(
+/// Returns what the text says of a trap of the statement to which each node has come after acts, or nothing where nothing
+/// is said of statements. It fails if memory runs out; there is none for 2^32 statements.
+pub fn traps_told<'t>(
+    alloc: Global,
+    code: &Code<'_>,
+    traps: Option<&[Trap<'t>]>,
+    nodes: u8,
+    acts: &[Act],
+) -> Result<Vec<Trap<'t>>, AllocError>
+    ensures { IfOk result (λ found. map trap_of found.items
+        ≡ traps_told (option_map (λ traps. map trap_of traps.now) traps.entry) code.now nodes
+        acts.now) }
+{
+    match traps {
+        Some(traps) => traps_behind(alloc, code, traps, nodes, acts),
+        None => Ok(Vec::new(alloc)),
+    }
+}
+
+// What the text says of a trap of the statement to which each of nodes 0, 1, .. has come after acts. `traps` has it of each
+// statement, in the order of the text.
+fn traps_behind<'t>(
     alloc: Global,
     code: &Code<'_>,
     traps: &[Trap<'t>],
@@ -79,7 +106,7 @@ fn found_at<'t>(
 {
     let mut found = Vec::new(alloc);
     for node in 0..nodes {
-        found.push(trap_at(traps, followed.walks.line(node)))?;
+        found.push(trap_at(traps, followed.walks.line(node) as usize))?;
     }
     Ok(found)
 }

@@ -3,10 +3,11 @@ use Rattle.lrc_text.proofs.Each.{each_more}
 use Rattle.lrc_labels.specs.Reading.{Label, label_seen}
 use Rattle.lrc_explain_waits.specs.declared.stand.Stand.{Stand}
 use Rattle.lrc_explain_waits.specs.Stuck.{end_text}
+use Rattle.lrc_explain_waits.specs.Traps.{trap_at}
 use Rattle.lrc_explain_waits.proofs.Standing.{no_stand}
 use Rattle.lrc_named_core.specs.Tree.{Trap}
 use Rattle.lrc_named_core.specs.View.{trap_of}
-use Rattle.lrc_explain.specs.Explain.{prints_text, trap_at}
+use Rattle.lrc_explain.specs.Explain.{prints_text}
 use Rattle.lrc_explain.proofs.whole.nodes_part.Goals as goal
 
 pub loop-node-preserved : goal.loop-node-preserved
