@@ -2,6 +2,7 @@
 use Rattle.std.specs.Prelude.{◌≡◌, ◌⊎◌, ℕ, Bool, true, false, List, Option, None, option_map, unwrap_or}
 use Rattle.lrc_cli_answer.specs.declared.fault.Fault.{Fault}
 use Rattle.lrc_cli_answer.specs.declared.fault.Fault.TheVariants as faults
+use Rattle.lrc_cli_args.specs.declared.choice.Exploring.{Exploring}
 use Rattle.lrc_cli_args.specs.declared.choice.RunChoice.{RunChoice}
 use Rattle.lrc_named_core.specs.Tree.{Trap}
 use Rattle.lrc_named.specs.Named.{IsCoreTextOn, IsNamedFault, IsReadAsNamed}
@@ -48,6 +49,10 @@ IsFaultAsRead text fault Has = IsUnread text fault ⊎ HoldsAsRead text Has
 abbrev pub nodes_for : (given : Bool) → Nodes → (asked : Option Nodes) → Nodes
 nodes_for true nodes asked = nodes
 nodes_for false nodes asked = unwrap_or asked nodes
+
+-- a search through orders with the nodes that a text asks for
+abbrev pub exploring_for : Exploring → (asked : Option Nodes) → Exploring
+exploring_for exploring asked = record exploring { nodes = nodes_for exploring.nodes_given exploring.nodes asked }
 
 -- a run with the nodes that a text asks for
 abbrev pub run_for : RunChoice → (asked : Option Nodes) → RunChoice

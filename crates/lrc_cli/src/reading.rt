@@ -2,12 +2,12 @@
 // program tells.
 
 ghost use Rattle.std.specs.Prelude.{◌≡◌, IfErr, IfOk};
-ghost use Rattle.lrc_cli.specs.Reading.{IsReadAs, IsUnread, fault_of_named, nodes_for, run_for};
+ghost use Rattle.lrc_cli.specs.Reading.{IsReadAs, IsUnread, exploring_for, fault_of_named, nodes_for, run_for};
 ghost use Rattle.lrc_cli.specs.ReadingSeen.{asked_by, text_read};
 ghost use Rattle.lrc_named.specs.Named.{IsReadAsNamed};
 
 use lrc_cli_answer::fault::Fault;
-use lrc_cli_args::choice::{RunChoice, RunOptions};
+use lrc_cli_args::choice::{Exploring, RunChoice, RunOptions};
 use lrc_named::fault::NamedFault;
 use lrc_named::{CoreText, core_of_text, is_read_as_named};
 use lrc_setting::setting::Nodes;
@@ -98,6 +98,17 @@ pub fn nodes_for(given: bool, nodes: Nodes, asked: Option<Nodes>) -> Nodes
     ensures { result ≡ nodes_for given nodes asked }
 {
     if given { nodes } else { asked.unwrap_or(nodes) }
+}
+
+/// Returns a search through orders with the nodes that a text asks for, unless the words say how many.
+pub fn exploring_for<'w>(exploring: &Exploring<'w>, asked: Option<Nodes>) -> Exploring<'w>
+    ensures { result ≡ exploring_for exploring.now asked }
+{
+    let nodes = nodes_for(exploring.nodes_given, exploring.nodes, asked);
+    Exploring {
+        nodes,
+        ..*exploring
+    }
 }
 
 /// Returns a run with the nodes that a text asks for, unless the words say how many.

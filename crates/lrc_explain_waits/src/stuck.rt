@@ -172,7 +172,7 @@ fn stuck_lines(
 /// is told by what the text says of it.
 pub fn stuck_part(
     alloc: Global,
-    wording: &Wording<'_>,
+    wording: &Wording<'_, '_>,
     code: &Code<'_>,
     lines: &[u32],
     nodes: u8,

@@ -19,9 +19,9 @@ use std::alloc::{AllocError, Global};
 /// What a text says of words and locks by labels, and of a trap of each statement, in the order of the core's text, if it
 /// says something of statements.
 #[derive(Clone, Copy)]
-pub struct Wording<'a> {
-    pub labels: &'a [Label<'a>],
-    pub traps: Option<&'a [Trap<'a>]>,
+pub struct Wording<'a, 't> {
+    pub labels: &'a [Label<'t>],
+    pub traps: Option<&'a [Trap<'t>]>,
 }
 
 // The numbers from 0 to the last one. For a number that does not fit in 32 bits there is no memory.

@@ -24,7 +24,7 @@ use std::alloc::{AllocError, Global};
 /// end. The lines of nodes have the labels of words and locks. Fails as `explored` does.
 pub fn explored_ends(
     alloc: Global,
-    wording: &Wording<'_>,
+    wording: &Wording<'_, '_>,
     program: &Program,
     lines: &[u32],
     nodes: u32,
@@ -48,7 +48,7 @@ pub fn explored_ends(
 
 fn answer_told(
     alloc: Global,
-    wording: &Wording<'_>,
+    wording: &Wording<'_, '_>,
     program: &Program,
     lines: &[u32],
     nodes: u8,
@@ -73,7 +73,7 @@ fn answer_told(
 // What was found besides races.
 fn through_told(
     alloc: Global,
-    wording: &Wording<'_>,
+    wording: &Wording<'_, '_>,
     program: &Program,
     lines: &[u32],
     nodes: u8,
@@ -121,7 +121,7 @@ fn joined(before: Printout, section: Section) -> Result<Printout, AllocError>
 // What is said of ends.
 fn end_section(
     alloc: Global,
-    wording: &Wording<'_>,
+    wording: &Wording<'_, '_>,
     program: &Program,
     lines: &[u32],
     nodes: u8,
@@ -141,7 +141,7 @@ fn end_section(
 // That every order can end.
 fn all_end(
     alloc: Global,
-    wording: &Wording<'_>,
+    wording: &Wording<'_, '_>,
     program: &Program,
     lines: &[u32],
     nodes: u8,
@@ -160,7 +160,7 @@ fn all_end(
 // An order that can no longer end, and where it leaves the nodes.
 fn lost_told(
     alloc: Global,
-    wording: &Wording<'_>,
+    wording: &Wording<'_, '_>,
     program: &Program,
     lines: &[u32],
     nodes: u8,

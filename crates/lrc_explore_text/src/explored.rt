@@ -30,7 +30,7 @@ pub struct Printout {
 /// acts one after another. Fails if memory runs out.
 pub fn explored(
     alloc: Global,
-    wording: &Wording<'_>,
+    wording: &Wording<'_, '_>,
     program: &Program,
     lines: &[u32],
     nodes: u32,

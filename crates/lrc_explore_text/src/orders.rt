@@ -34,7 +34,7 @@ use std::alloc::{AllocError, Global};
 /// the labels of words and locks.
 pub(crate) fn orders_told(
     alloc: Global,
-    wording: &Wording<'_>,
+    wording: &Wording<'_, '_>,
     program: &Program,
     lines: &[u32],
     nodes: u32,
@@ -59,7 +59,7 @@ pub(crate) fn orders_told(
 /// have the labels of words and locks. Fails as `explored` does.
 pub fn findings_told(
     alloc: Global,
-    wording: &Wording<'_>,
+    wording: &Wording<'_, '_>,
     program: &Program,
     lines: &[u32],
     nodes: u32,
@@ -81,7 +81,7 @@ pub fn findings_told(
 
 fn verdict_told(
     alloc: Global,
-    wording: &Wording<'_>,
+    wording: &Wording<'_, '_>,
     program: &Program,
     lines: &[u32],
     nodes: u8,
@@ -117,7 +117,7 @@ pub(crate) struct Section {
 pub(crate) fn found_told(
     alloc: Global,
     head: &[u8],
-    wording: &Wording<'_>,
+    wording: &Wording<'_, '_>,
     program: &Program,
     lines: &[u32],
     nodes: u8,
@@ -180,7 +180,7 @@ pub(crate) fn line_alone(alloc: Global, line: &[u8]) -> Result<Section, AllocErr
 // What is said of stuck orders.
 fn stuck_section(
     alloc: Global,
-    wording: &Wording<'_>,
+    wording: &Wording<'_, '_>,
     program: &Program,
     lines: &[u32],
     nodes: u8,
@@ -201,7 +201,7 @@ fn stuck_section(
 // That no order gets stuck.
 fn none_stuck(
     alloc: Global,
-    wording: &Wording<'_>,
+    wording: &Wording<'_, '_>,
     program: &Program,
     lines: &[u32],
     nodes: u8,
@@ -220,7 +220,7 @@ fn none_stuck(
 // An order that gets stuck, and where it leaves the nodes.
 fn stuck_told(
     alloc: Global,
-    wording: &Wording<'_>,
+    wording: &Wording<'_, '_>,
     program: &Program,
     lines: &[u32],
     nodes: u8,
@@ -246,7 +246,7 @@ fn stuck_told(
 // What is said of traps.
 fn trap_section(
     alloc: Global,
-    wording: &Wording<'_>,
+    wording: &Wording<'_, '_>,
     program: &Program,
     lines: &[u32],
     nodes: u8,
@@ -266,7 +266,7 @@ fn trap_section(
 // That no node traps in any order.
 fn none_traps(
     alloc: Global,
-    wording: &Wording<'_>,
+    wording: &Wording<'_, '_>,
     program: &Program,
     lines: &[u32],
     nodes: u8,
@@ -285,7 +285,7 @@ fn none_traps(
 // An order in which a node traps, and the nodes that have trapped after it.
 fn trap_told(
     alloc: Global,
-    wording: &Wording<'_>,
+    wording: &Wording<'_, '_>,
     program: &Program,
     lines: &[u32],
     nodes: u8,
@@ -311,7 +311,7 @@ fn trap_told(
 // What the earliest race of an order comes of.
 pub(crate) fn race_told(
     alloc: Global,
-    wording: &Wording<'_>,
+    wording: &Wording<'_, '_>,
     program: &Program,
     lines: &[u32],
     nodes: u8,
@@ -332,7 +332,7 @@ pub(crate) fn race_told(
 // What an earliest race comes of, and its races.
 fn last_race_told(
     alloc: Global,
-    wording: &Wording<'_>,
+    wording: &Wording<'_, '_>,
     program: &Program,
     lines: &[u32],
     nodes: u8,
@@ -400,7 +400,7 @@ pub(crate) fn acts_of(
 // Where acts leave the nodes that are unfinished.
 pub(crate) fn ends_told(
     alloc: Global,
-    wording: &Wording<'_>,
+    wording: &Wording<'_, '_>,
     program: &Program,
     lines: &[u32],
     nodes: u8,

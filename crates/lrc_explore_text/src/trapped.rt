@@ -56,7 +56,7 @@ fn trapped_lines(
 // The same of the nodes of a program's code after acts.
 fn trapped_after(
     alloc: Global,
-    wording: &Wording<'_>,
+    wording: &Wording<'_, '_>,
     code: &Code<'_>,
     lines: &[u32],
     nodes: u8,
@@ -77,7 +77,7 @@ fn trapped_after(
 /// lines of the program's statements, and of the text's end behind them.
 pub(crate) fn trapped_part(
     alloc: Global,
-    wording: &Wording<'_>,
+    wording: &Wording<'_, '_>,
     program: &Program,
     lines: &[u32],
     nodes: u8,
