@@ -221,15 +221,7 @@ fn ends_asked(
     let nodes = exploring.nodes.count;
     let most = exploring.most.count;
     let races = !exploring.ignores_races;
-    match explored_ends(
-        alloc,
-        wording,
-        program,
-        lines,
-        nodes,
-        most as usize,
-        races,
-    ) {
+    match explored_ends(alloc, wording, program, lines, nodes, most as usize, races) {
         Ok(told) => Ok(Printout {
             parts: told.parts,
             status: told.status,

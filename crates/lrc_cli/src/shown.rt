@@ -20,11 +20,7 @@ fn takes_named(shape: Shape) -> bool
     ensures { result ≡ takes_named shape }
 {
     match shape {
-        Shape::Report
-        | Shape::Stats
-        | Shape::Trace(_)
-        | Shape::Chart(_)
-        | Shape::Explain => true,
+        Shape::Report | Shape::Stats | Shape::Trace(_) | Shape::Chart(_) | Shape::Explain => true,
         Shape::Step(_) | Shape::Why(_) => false,
     }
 }

@@ -33,7 +33,11 @@ pub fn line_of(lines: &[u32], token: u64) -> u32
 
 /// Returns on which lines the statements lie that come from these, and last the line of the last token; `lines` has the line
 /// of each token.
-pub fn told_lines(alloc: Global, lines: &[u32], origins: &[Origin<'_>]) -> Result<Vec<u32>, AllocError>
+pub fn told_lines(
+    alloc: Global,
+    lines: &[u32],
+    origins: &[Origin<'_>],
+) -> Result<Vec<u32>, AllocError>
     ensures { IfOk result (λ told. told.items ≡ lines_told lines.now (map origin_of origins.now)
         ++ last_of lines.now ∷ []) }
 {
