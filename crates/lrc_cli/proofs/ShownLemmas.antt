@@ -7,6 +7,7 @@ use Rattle.lrc_cli_args.specs.declared.choice.RunChoice.{RunChoice}
 use Rattle.lrc_cli_args.specs.declared.choice.Shape.{Shape}
 use Rattle.lrc_cli_runs.specs.Showing.{AnswersShowing, RefusesRun, ShowsRun}
 use Rattle.lrc_setting.specs.declared.setting.Nodes.{Nodes}
+use Rattle.lrc_source.specs.Telling.{ReadText, as_written}
 use Rattle.lrc_text.specs.Parts.{whole_text}
 use Rattle.lrc_cli.specs.Reading.{IsReadAs, IsUnread, run_for}
 use Rattle.lrc_cli.specs.Showing.{AnswersAsRead, RefusesAsRead, ShowsAsRead, takes_named}
@@ -18,42 +19,44 @@ refused_memory true run shape text events = inl tt
 refused_memory false run shape text events = inl tt
 
 -- what is told apart, in one
-pub one_answer : (run : RunChoice) (shape : Shape) (text : List ℕ) (events : Option (List ℕ)) (r : Result Printout Fault)
+pub one_answer : (run : RunChoice) (shape : Shape) (text : ReadText) (events : Option (List ℕ)) (r : Result Printout Fault)
     → IfOk r (λ printout. ShowsRun run shape text events (whole_text printout.parts.items) printout.status)
     → IfErr r (λ fault. RefusesRun run shape text events fault) → AnswersShowing run shape text events r
 one_answer run shape text events (Ok printout) ok err = ok
 one_answer run shape text events (Err fault) ok err = err
 
 -- where no named program is shown so
-pub as_written : (run : RunChoice) (shape : Shape) (text : List ℕ) (events : Option (List ℕ)) (r : Result Printout Fault)
-    → takes_named shape ≡ false → AnswersShowing run shape text events r → AnswersAsRead run shape text events r
-as_written run shape text events (Ok printout) none h =
-    subst (λ named. ShowsAsRead named run shape text events (whole_text printout.parts.items) printout.status) (sym none) h
-as_written run shape text events (Err fault) none h = subst (λ named. RefusesAsRead named run shape text events fault) (sym none) h
+pub just_so : (run : RunChoice) (shape : Shape) (text : List ℕ) (seen : ReadText) (events : Option (List ℕ)) (r : Result Printout Fault)
+    → takes_named shape ≡ false → seen ≡ as_written text → AnswersShowing run shape seen events r → AnswersAsRead run shape text events r
+just_so run shape text seen events (Ok printout) none is h =
+    subst (λ named. ShowsAsRead named run shape text events (whole_text printout.parts.items) printout.status) (sym none)
+    (subst (λ (t : ReadText). ShowsRun run shape t events (whole_text printout.parts.items) printout.status) is h)
+just_so run shape text seen events (Err fault) none is h =
+    subst (λ named. RefusesAsRead named run shape text events fault) (sym none) (subst (λ (t : ReadText). RefusesRun run shape t events fault) is h)
 
 -- where one is, and is read: what is shown of the run of this text is shown of the run that is made of it
-pub as_read : (run own : RunChoice) (shape : Shape) (text seen : List ℕ) (events : Option (List ℕ)) (r : Result Printout Fault) (nodes : Option Nodes)
-    (core : List ℕ) → takes_named shape ≡ true → IsReadAs text nodes core → own ≡ run_for run nodes → seen ≡ core
+pub as_read : (run own : RunChoice) (shape : Shape) (text : List ℕ) (seen : ReadText) (events : Option (List ℕ)) (r : Result Printout Fault)
+    (nodes : Option Nodes) (read : ReadText) → takes_named shape ≡ true → IsReadAs text nodes read → own ≡ run_for run nodes → seen ≡ read
     → AnswersShowing own shape seen events r → AnswersAsRead run shape text events r
-as_read run own shape text seen events (Ok printout) nodes core some read is same h =
+as_read run own shape text seen events (Ok printout) nodes read some is_read is same h =
     subst (λ named. ShowsAsRead named run shape text events (whole_text printout.parts.items) printout.status) (sym some)
     (record {
       nodes = nodes;
-      core = core;
       read = read;
+      is_read = is_read;
       holds =
-          subst (λ (o : RunChoice). ShowsRun o shape core events (whole_text printout.parts.items) printout.status) is
-          (subst (λ (t : List ℕ). ShowsRun own shape t events (whole_text printout.parts.items) printout.status) same h);
+          subst (λ (o : RunChoice). ShowsRun o shape read events (whole_text printout.parts.items) printout.status) is
+          (subst (λ (t : ReadText). ShowsRun own shape t events (whole_text printout.parts.items) printout.status) same h);
     })
-as_read run own shape text seen events (Err fault) nodes core some read is same h =
+as_read run own shape text seen events (Err fault) nodes read some is_read is same h =
     subst (λ named. RefusesAsRead named run shape text events fault) (sym some)
     (inr (record {
       nodes = nodes;
-      core = core;
       read = read;
+      is_read = is_read;
       holds =
-          subst (λ (o : RunChoice). RefusesRun o shape core events fault) is
-          (subst (λ (t : List ℕ). RefusesRun own shape t events fault) same h);
+          subst (λ (o : RunChoice). RefusesRun o shape read events fault) is
+          (subst (λ (t : ReadText). RefusesRun own shape t events fault) same h);
     }))
 
 -- where one is, and cannot be read

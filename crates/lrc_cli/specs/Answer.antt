@@ -3,8 +3,6 @@ use Rattle.std.specs.Prelude.{◌≡◌, ◌≢◌, ◌⊎◌, ◌&&◌, ℕ, Bo
 use Rattle.lrc_acts.specs.ActsText.{ReadsActs}
 use Rattle.lrc_acts.specs.declared.reading.ActsFault.TheVariants.{BadAct, TooLong}
 use Rattle.lrc_exec.specs.Rounds.{AreActsOfRounds}
-use Rattle.lrc_lang.specs.Lines.{HasLines}
-use Rattle.lrc_lang.specs.Tree.{program_of}
 use Rattle.lrc_lang.specs.declared.program.Program.{Program}
 use Rattle.lrc_trace.specs.declared.act.Act.{Act}
 use Rattle.lrc_text.specs.Parts.{whole_text}
@@ -13,7 +11,8 @@ use Rattle.lrc_explore_text.specs.Explored.{Explores, MeetsFew, MeetsTooMany}
 use Rattle.lrc_explore_text.specs.Ends.{TellsEnds}
 use Rattle.lrc_explore_text.specs.Orders.{TellsFindings}
 use Rattle.lrc_explore_text.specs.OutcomeRun.{HasFewerOutcomes, TellsNumberedRun}
-use Rattle.lrc_labels.specs.Reading.{Label}
+use Rattle.lrc_explain_waits.specs.Traps.{Wording}
+use Rattle.lrc_source.specs.Telling.{AreLines, ReadText, traps_of}
 use Rattle.lrc_judge_all.specs.JudgesAll.{JudgesAll}
 use Rattle.lrc_judge_text.specs.Judgement.{Judges}
 use Rattle.lrc_judge_text.specs.PairsTold.{HasItsRaces, told_text}
@@ -33,7 +32,7 @@ use Rattle.lrc_cli.specs.declared.answer.Answered.{Answered}
 use Rattle.lrc_cli.specs.declared.answer.Answered.TheVariants.{Printed, Judged}
 use Rattle.lrc_cli_args.specs.declared.choice.Choice.{Choice}
 use Rattle.lrc_cli_args.specs.declared.choice.Choice.TheVariants.{Check, Core, Plain, Show, Judge, Explore, Lint, WhyActs, ChartActs}
-use Rattle.lrc_cli.specs.Reading.{HoldsAsRead, IsFaultAsRead, nodes_for}
+use Rattle.lrc_cli.specs.Reading.{HoldsAsRead, IsFaultAsRead, exploring_for, nodes_for}
 use Rattle.lrc_cli.specs.Showing.{RefusesAsRead, ShowsAsRead, takes_named}
 use Rattle.lrc_cli_args.specs.declared.choice.Asking.{Asking}
 use Rattle.lrc_cli_args.specs.declared.choice.ChartedActs.{ChartedActs}
@@ -90,8 +89,8 @@ ShowsOutcome exploring program places number out status = TellsNumberedRun progr
     × FitsSettledNoted program exploring.nodes.count exploring.most.count
 
 -- the text and the status are what is said of every order, and the search met no more states than it may
-abbrev pub ShowsOrders : Exploring → List Label → Program → (places : List ℕ) → List ℕ → ℕ → Type 0
-ShowsOrders exploring labels program places out status = Explores labels program exploring.nodes.count places exploring.outcomes out status
+abbrev pub ShowsOrders : Exploring → Wording → Program → (places : List ℕ) → List ℕ → ℕ → Type 0
+ShowsOrders exploring wording program places out status = Explores wording program exploring.nodes.count places exploring.outcomes out status
     × MeetsFew program exploring.nodes.count exploring.most.count exploring.outcomes status
 
 -- how many runs at random are tried, if any are
@@ -110,50 +109,54 @@ ShowsLazyRun exploring program places number out status = TellsNumberedLazyRun p
 
 -- the text and the status are what is said of stuck orders and of traps, whether or not an order races, and the search met no more states
 -- than it may
-abbrev pub ShowsFindings : Exploring → List Label → Program → (places : List ℕ) → List ℕ → ℕ → Type 0
-ShowsFindings exploring labels program places out status = TellsFindings labels program exploring.nodes.count places out status
+abbrev pub ShowsFindings : Exploring → Wording → Program → (places : List ℕ) → List ℕ → ℕ → Type 0
+ShowsFindings exploring wording program places out status = TellsFindings wording program exploring.nodes.count places out status
     × FitsSettled program exploring.nodes.count exploring.most.count
 
 -- the text and the status are what is said of every order and of ends, where races are looked for or ignored, and the search met no more
 -- states than it may, unless it ended at a race, whose status is 3
-abbrev pub ShowsEnds : Exploring → List Label → Program → (places : List ℕ) → List ℕ → ℕ → Type 0
-ShowsEnds exploring labels program places out status =
-    TellsEnds labels program exploring.nodes.count places (not exploring.ignores_races) out status
+abbrev pub ShowsEnds : Exploring → Wording → Program → (places : List ℕ) → List ℕ → ℕ → Type 0
+ShowsEnds exploring wording program places out status =
+    TellsEnds wording program exploring.nodes.count places (not exploring.ignores_races) out status
     × (status ≢ 3 → FitsSettled program exploring.nodes.count exploring.most.count)
 
 -- of one flat memory: of the outcome that is asked for, of every order and of ends where they are asked for, of every order but for races
 -- where they are ignored, or of every order
-abbrev pub IsFlatAnswer : Option OutcomeNumber → (ends ignores_races : Bool) → Exploring → List Label → Program → (places : List ℕ) → List ℕ → ℕ → Type 0
-IsFlatAnswer (Some outcome) ends ignores_races exploring labels program places out status =
+abbrev pub IsFlatAnswer : Option OutcomeNumber → (ends ignores_races : Bool) → Exploring → Wording → Program → (places : List ℕ) → List ℕ → ℕ → Type 0
+IsFlatAnswer (Some outcome) ends ignores_races exploring wording program places out status =
     ShowsOutcome exploring program places outcome.number out status
-IsFlatAnswer None true ignores_races exploring labels program places out status = ShowsEnds exploring labels program places out status
-IsFlatAnswer None false true exploring labels program places out status = ShowsFindings exploring labels program places out status
-IsFlatAnswer None false false exploring labels program places out status = ShowsOrders exploring labels program places out status
+IsFlatAnswer None true ignores_races exploring wording program places out status = ShowsEnds exploring wording program places out status
+IsFlatAnswer None false true exploring wording program places out status = ShowsFindings exploring wording program places out status
+IsFlatAnswer None false false exploring wording program places out status = ShowsOrders exploring wording program places out status
 
 -- of any memory that keeps lazy reading: of the outcome that is asked for, of all outcomes, or else of every order, since races are the same
-abbrev pub IsLazyAnswer : Option OutcomeNumber → (outcomes : Bool) → Exploring → List Label → Program → (places : List ℕ) → List ℕ → ℕ → Type 0
-IsLazyAnswer (Some outcome) outcomes exploring labels program places out status = ShowsLazyRun exploring program places outcome.number out status
-IsLazyAnswer None true exploring labels program places out status = ShowsLazyOutcomes exploring program out status
-IsLazyAnswer None false exploring labels program places out status = ShowsOrders exploring labels program places out status
+abbrev pub IsLazyAnswer : Option OutcomeNumber → (outcomes : Bool) → Exploring → Wording → Program → (places : List ℕ) → List ℕ → ℕ → Type 0
+IsLazyAnswer (Some outcome) outcomes exploring wording program places out status = ShowsLazyRun exploring program places outcome.number out status
+IsLazyAnswer None true exploring wording program places out status = ShowsLazyOutcomes exploring program out status
+IsLazyAnswer None false exploring wording program places out status = ShowsOrders exploring wording program places out status
 
 -- of the memory that is asked for
-abbrev pub IsAnswerTo : Memory → Exploring → List Label → Program → (places : List ℕ) → List ℕ → ℕ → Type 0
-IsAnswerTo Flat exploring labels program places out status =
-    IsFlatAnswer exploring.outcome exploring.ends exploring.ignores_races exploring labels program places out status
-IsAnswerTo Lazy exploring labels program places out status =
-    IsLazyAnswer exploring.outcome exploring.outcomes exploring labels program places out status
+abbrev pub IsAnswerTo : Memory → Exploring → Wording → Program → (places : List ℕ) → List ℕ → ℕ → Type 0
+IsAnswerTo Flat exploring wording program places out status =
+    IsFlatAnswer exploring.outcome exploring.ends exploring.ignores_races exploring wording program places out status
+IsAnswerTo Lazy exploring wording program places out status =
+    IsLazyAnswer exploring.outcome exploring.outcomes exploring wording program places out status
 
--- The text and the status are what is said of the program that this text is of, with the labels of the text.
-abbrev pub IsSaid : Exploring → List ℕ → Program → List ℕ → ℕ → Type 0
-IsSaid exploring text program out status = (places : List ℕ) × HasLines text (program_of program) places
-    × IsAnswerTo exploring.memory exploring (labels_in text program) program places out status
+-- the labels of a text, and what it says of traps
+abbrev pub wording_in : ReadText → Program → Wording
+wording_in text program = record { labels = labels_in text.core program; traps = traps_of text.telling }
+
+-- The text and the status are what is said of the program that this text is of, in the words of the text.
+abbrev pub IsSaid : Exploring → ReadText → Program → List ℕ → ℕ → Type 0
+IsSaid exploring text program out status = (places : List ℕ) × AreLines text program places
+    × IsAnswerTo exploring.memory exploring (wording_in text program) program places out status
 
 -- Where events are asked for, they stand in place of all that is said.
-abbrev pub IsShown : Option Tell → Exploring → List ℕ → Program → List ℕ → ℕ → Type 0
+abbrev pub IsShown : Option Tell → Exploring → ReadText → Program → List ℕ → ℕ → Type 0
 IsShown (Some tell) exploring text program out status = IsEventsAnswer exploring.outcome exploring tell program out status
 IsShown None exploring text program out status = IsSaid exploring text program out status
 
-abbrev pub IsExploration : Exploring → List ℕ → Program → List ℕ → ℕ → Type 0
+abbrev pub IsExploration : Exploring → ReadText → Program → List ℕ → ℕ → Type 0
 IsExploration exploring text program out status = IsShown exploring.events exploring text program out status
 
 -- the text and the status are what `lint` says of the text of this file: that it is no program, or its warnings
@@ -189,14 +192,14 @@ IsJudged false pairs judging text out status =
 -- What is printed, with the status: `ok` where the text is a program's, the text of its core, the report of what the program does in rounds on
 -- the plain machine, what is shown of its run, a judgement of acts, or what every order of the program comes to.
 abbrev pub Prints : Choice → List ℕ → Option (List ℕ) → List ℕ → ℕ → Type 0
-Prints (Check file) text events_text out status = HoldsAsRead text (λ nodes core. IsChecked core out status)
-Prints (Core file) text events_text out status = HoldsAsRead text (λ nodes core. IsCored core out status)
-Prints (Plain run) text events_text out status = HoldsAsRead text (λ nodes core. (program : Program) × IsTextOf core program
+Prints (Check file) text events_text out status = HoldsAsRead text (λ nodes read. IsChecked read.core out status)
+Prints (Core file) text events_text out status = HoldsAsRead text (λ nodes read. IsCored read.core out status)
+Prints (Plain run) text events_text out status = HoldsAsRead text (λ nodes read. (program : Program) × IsTextOf read.core program
     × IsPrintoutOfRounds program (nodes_for run.nodes_given run.nodes nodes).count run.steps.count out status)
 Prints (Show run shape) text events_text out status = ShowsAsRead (takes_named shape) run shape text events_text out status
 Prints (Judge judging) text events_text out status = IsJudged judging.all judging.pairs judging text out status
-Prints (Explore exploring) text events_text out status =
-    (program : Program) × IsTextOf text program × IsExploration exploring text program out status
+Prints (Explore exploring) text events_text out status = HoldsAsRead text (λ nodes read. (program : Program) × IsTextOf read.core program
+    × IsExploration (exploring_for exploring nodes) read program out status)
 Prints (Lint file) text events_text out status = IsLinted file.now text out status
 Prints (WhyActs acts asking) text events_text out status = IsReasoned acts asking text out status
 Prints (ChartActs acts charting) text events_text out status = IsActsCharted acts charting text out status
@@ -289,13 +292,13 @@ IsSearchFault exploring program fault = IsFaultOfSearch exploring.events explori
 
 -- The first fault: of the text, then of the events, then of the run or the search, then of what is shown of the run. Memory may run out at any time.
 abbrev pub IsFault : Choice → List ℕ → Option (List ℕ) → Fault → Type 0
-IsFault (Check file) text events_text fault = IsFaultAsRead text fault (λ nodes core. IsTextFault core fault)
-IsFault (Core file) text events_text fault = IsFaultAsRead text fault (λ nodes core. IsTextFault core fault)
-IsFault (Plain run) text events_text fault = IsFaultAsRead text fault (λ nodes core. IsTextFault core fault)
+IsFault (Check file) text events_text fault = IsFaultAsRead text fault (λ nodes read. IsTextFault read.core fault)
+IsFault (Core file) text events_text fault = IsFaultAsRead text fault (λ nodes read. IsTextFault read.core fault)
+IsFault (Plain run) text events_text fault = IsFaultAsRead text fault (λ nodes read. IsTextFault read.core fault)
 IsFault (Show run shape) text events_text fault = RefusesAsRead (takes_named shape) run shape text events_text fault
 IsFault (Judge judging) text events_text fault = IsActsFault (judged_nodes judging) text fault
-IsFault (Explore exploring) text events_text fault = IsTextFault text fault
-    ⊎ ((program : Program) × IsTextOf text program × IsSearchFault exploring program fault)
+IsFault (Explore exploring) text events_text fault = IsFaultAsRead text fault (λ nodes read. IsTextFault read.core fault
+    ⊎ ((program : Program) × IsTextOf read.core program × IsSearchFault (exploring_for exploring nodes) program fault))
 IsFault (Lint file) text events_text fault = fault ≡ NoMemory
 IsFault (WhyActs acts asking) text events_text fault = IsWhyFault acts asking text fault
 IsFault (ChartActs acts charting) text events_text fault = IsActsChartFault acts charting text fault

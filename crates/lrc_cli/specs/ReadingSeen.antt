@@ -1,15 +1,17 @@
 -- What the code reads, as the definitions see it.
-use Rattle.std.specs.Prelude.{ℕ, List, Option, None}
+use Rattle.std.specs.Prelude.{Option, None, map}
 use Rattle.lrc_setting.specs.declared.setting.Nodes.{Nodes}
+use Rattle.lrc_named_core.specs.View.{trap_of}
+use Rattle.lrc_source.specs.Telling.{ReadText, as_translated, as_written}
 use Rattle.lrc_cli.specs.declared.reading.Reading.{Reading}
 use Rattle.lrc_cli.specs.declared.reading.Reading.TheVariants.{Written, Translated}
 
--- the text of the core that is read
-abbrev pub text_read : Reading → List ℕ
-text_read (Written text) = text.now
-text_read (Translated core) = core.text.items
+-- the text as it is read
+abbrev pub text_read : Reading → ReadText
+text_read (Written text) = as_written text.now
+text_read (Translated text core) = as_translated core.text.items text.now core.lines.items (map trap_of core.traps.items)
 
 -- how many nodes the text asks for, if it says so
 abbrev pub asked_by : Reading → Option Nodes
 asked_by (Written text) = None
-asked_by (Translated core) = core.nodes
+asked_by (Translated text core) = core.nodes

@@ -15,9 +15,9 @@ use std::alloc::Global;
 /// Answers the command `check`: whether the text is a program's, of the core or named.
 pub(crate) fn checked(alloc: Global, text: &[u8]) -> Result<Printout, Fault>
     ensures ok { IfOk result (λ printout. HoldsAsRead text.now
-        (λ nodes core. IsChecked core (whole_text printout.parts.items) printout.status)) }
+        (λ nodes read. IsChecked read.core (whole_text printout.parts.items) printout.status)) }
     ensures err { IfErr result (λ fault. IsFaultAsRead text.now fault
-        (λ nodes core. IsTextFault core fault)) }
+        (λ nodes read. IsTextFault read.core fault)) }
 {
     let reading = read(alloc, text)?;
     let core = reading.text();
@@ -30,9 +30,9 @@ pub(crate) fn checked(alloc: Global, text: &[u8]) -> Result<Printout, Fault>
 /// Answers the command `core`: the text of the core of a named program, and a text of the core as it stands.
 pub(crate) fn cored(alloc: Global, text: &[u8]) -> Result<Printout, Fault>
     ensures ok { IfOk result (λ printout. HoldsAsRead text.now
-        (λ nodes core. IsCored core (whole_text printout.parts.items) printout.status)) }
+        (λ nodes read. IsCored read.core (whole_text printout.parts.items) printout.status)) }
     ensures err { IfErr result (λ fault. IsFaultAsRead text.now fault
-        (λ nodes core. IsTextFault core fault)) }
+        (λ nodes read. IsTextFault read.core fault)) }
 {
     let reading = read(alloc, text)?;
     let core = reading.text();

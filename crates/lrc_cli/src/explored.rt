@@ -1,27 +1,30 @@
 // What the program answers to the command `explore`.
 
-ghost use Rattle.std.specs.Prelude.{◌≡◌, ◌≤◌, IfErr, IfOk, None};
-ghost use Rattle.lrc_cli.specs.Answer.{HasFindingsFault, HasLazyFault, HasLazyRunFault, HasOrdersFault, HasOutcomeFault, IsExploration, IsFault, IsFaultIn, IsFlatAnswer, IsFlatFault};
+ghost use Rattle.std.specs.Prelude.{◌≡◌, ◌≤◌, ◌⊎◌, IfErr, IfOk, None};
+ghost use Rattle.lrc_cli.specs.Answer.{HasFindingsFault, HasLazyFault, HasLazyRunFault, HasOrdersFault, HasOutcomeFault, IsAnswerTo, IsExploration, IsFault, IsFaultIn, IsFlatAnswer, IsFlatFault};
 ghost use Rattle.lrc_cli.specs.Answer.{IsLazyAnswer, IsLazyFault, IsSaid, IsSearchFault, Prints, ShowsEnds, ShowsFindings, ShowsLazyOutcomes, ShowsLazyRun, ShowsOrders, ShowsOutcome, tries_asked};
-ghost use Rattle.lrc_cli_answer.specs.Labels.{labels_in};
-ghost use Rattle.lrc_cli_answer.specs.Texts.{IsTextOf};
+ghost use Rattle.lrc_cli_answer.specs.Texts.{IsTextFault, IsTextOf};
+ghost use Rattle.lrc_explain_waits.specs.Traps.{wording_of};
+ghost use Rattle.lrc_lang.specs.declared.program.Program.{Program as AnyProgram};
 ghost use Rattle.lrc_text.specs.Parts.{whole_text};
 ghost use Rattle.lrc_cli_args.specs.declared.choice.Choice.TheVariants.{Explore};
 
 use crate::events::events_of;
+use crate::reading::{exploring_for, read};
 use lrc_cli_answer::fault::Fault;
 use lrc_cli_answer::printout::{Printout, in_one};
 use lrc_cli_args::choice::{Exploring, Memory};
+use lrc_explain_waits::Wording;
 use lrc_explore_text::ends::explored_ends;
 use lrc_explore_text::orders::findings_told;
 use lrc_explore_text::outcome_run::outcome_run_told;
 use lrc_labels::read_labels;
-use lrc_lang::lines::lines_of;
 use lrc_lang::parse;
 use lrc_lang::program::Program;
 use lrc_lazy_text::listed::lazy_outcomes_told;
 use lrc_lazy_text::one::lazy_run_told;
 use lrc_orders::search::ExploreFault;
+use lrc_source::read_text::ReadText;
 use std::alloc::Global;
 
 /// Answers the command `explore` for the text of a program.
@@ -34,7 +37,26 @@ pub(crate) fn explored(
         (whole_text printout.parts.items) printout.status) }
     ensures err { IfErr result (IsFault (Explore exploring.now) text.now None) }
 {
-    let program = parse(alloc, text)?;
+    let reading = read(alloc, text)?;
+    let told = reading.told();
+    let own = exploring_for(exploring, reading.nodes());
+    explored_as_read(alloc, &own, &told)
+}
+
+// The same of a text as it is read.
+fn explored_as_read(
+    alloc: Global,
+    exploring: &Exploring<'_>,
+    text: &ReadText<'_>,
+) -> Result<Printout, Fault>
+    ensures ok { IfOk result (λ printout. (program : AnyProgram) × IsTextOf text.now.core program
+        × IsExploration exploring.now text.now program
+        (whole_text printout.parts.items) printout.status) }
+    ensures err { IfErr result (λ fault. IsTextFault text.now.core fault
+        ⊎ ((program : AnyProgram) × IsTextOf text.now.core program
+        × IsSearchFault exploring.now program fault)) }
+{
+    let program = parse(alloc, text.core())?;
     answered(alloc, exploring, text, &program)
 }
 
@@ -42,10 +64,10 @@ pub(crate) fn explored(
 fn answered(
     alloc: Global,
     exploring: &Exploring<'_>,
-    text: &[u8],
+    text: &ReadText<'_>,
     program: &Program,
 ) -> Result<Printout, Fault>
-    requires { IsTextOf text.now program.now }
+    requires { IsTextOf text.now.core program.now }
     ensures ok { IfOk result (λ printout. IsExploration exploring.now text.now program.now
         (whole_text printout.parts.items) printout.status) }
     ensures err { IfErr result (IsSearchFault exploring.now program.now) }
@@ -56,22 +78,43 @@ fn answered(
     }
 }
 
-// What is said of the program that this text is of, with the labels of the text.
+// What is said of the program that this text is of, in the words of the text.
 fn all_orders(
     alloc: Global,
     exploring: &Exploring<'_>,
-    text: &[u8],
+    text: &ReadText<'_>,
     program: &Program,
 ) -> Result<Printout, Fault>
-    requires { IsTextOf text.now program.now }
+    requires { IsTextOf text.now.core program.now }
     ensures ok { IfOk result (λ printout. IsSaid exploring.now text.now program.now
         (whole_text printout.parts.items) printout.status) }
     ensures err { IfErr result (IsFaultIn exploring.now.memory exploring.now program.now) }
 {
-    let lines = lines_of(alloc, text)?;
+    let lines = text.lines(alloc)?;
+    let labels = read_labels(alloc, text.core(), program.words, program.locks)?;
+    let wording = Wording {
+        labels: &labels.said,
+        traps: text.traps(),
+    };
+    in_memory(alloc, exploring, &wording, program, &lines)
+}
+
+// What is said of the runs of the memory that is asked for.
+fn in_memory(
+    alloc: Global,
+    exploring: &Exploring<'_>,
+    wording: &Wording<'_, '_>,
+    program: &Program,
+    lines: &[u32],
+) -> Result<Printout, Fault>
+    ensures ok { IfOk result (λ printout.
+        IsAnswerTo exploring.now.memory exploring.now (wording_of wording.now) program.now lines.now
+        (whole_text printout.parts.items) printout.status) }
+    ensures err { IfErr result (IsFaultIn exploring.now.memory exploring.now program.now) }
+{
     match exploring.memory {
-        Memory::Flat => of_flat(alloc, exploring, text, program, &lines),
-        Memory::Lazy => of_lazy(alloc, exploring, text, program, &lines),
+        Memory::Flat => of_flat(alloc, exploring, wording, program, lines),
+        Memory::Lazy => of_lazy(alloc, exploring, wording, program, lines),
     }
 }
 
@@ -79,23 +122,22 @@ fn all_orders(
 fn of_flat(
     alloc: Global,
     exploring: &Exploring<'_>,
-    text: &[u8],
+    wording: &Wording<'_, '_>,
     program: &Program,
     lines: &[u32],
 ) -> Result<Printout, Fault>
-    requires { IsTextOf text.now program.now }
     ensures ok { IfOk result (λ printout.
         IsFlatAnswer exploring.now.outcome exploring.now.ends exploring.now.ignores_races exploring.now
-        (labels_in text.now program.now) program.now lines.now
+        (wording_of wording.now) program.now lines.now
         (whole_text printout.parts.items) printout.status) }
     ensures err { IfErr result (IsFlatFault exploring.now.outcome exploring.now.ends
         exploring.now.ignores_races exploring.now program.now) }
 {
     match exploring.outcome {
         Some(outcome) => one_outcome(alloc, exploring, program, lines, outcome.number),
-        None if exploring.ends => ends_asked(alloc, exploring, text, program, lines),
-        None if exploring.ignores_races => races_ignored(alloc, exploring, text, program, lines),
-        None => every_order(alloc, exploring, text, program, lines),
+        None if exploring.ends => ends_asked(alloc, exploring, wording, program, lines),
+        None if exploring.ignores_races => races_ignored(alloc, exploring, wording, program, lines),
+        None => every_order(alloc, exploring, wording, program, lines),
     }
 }
 
@@ -103,14 +145,13 @@ fn of_flat(
 fn of_lazy(
     alloc: Global,
     exploring: &Exploring<'_>,
-    text: &[u8],
+    wording: &Wording<'_, '_>,
     program: &Program,
     lines: &[u32],
 ) -> Result<Printout, Fault>
-    requires { IsTextOf text.now program.now }
     ensures ok { IfOk result (λ printout.
         IsLazyAnswer exploring.now.outcome exploring.now.outcomes exploring.now
-        (labels_in text.now program.now) program.now lines.now
+        (wording_of wording.now) program.now lines.now
         (whole_text printout.parts.items) printout.status) }
     ensures err { IfErr result (IsLazyFault exploring.now.outcome exploring.now.outcomes
         exploring.now program.now) }
@@ -118,7 +159,7 @@ fn of_lazy(
     match exploring.outcome {
         Some(outcome) => one_lazy_run(alloc, exploring, program, lines, outcome.number),
         None if exploring.outcomes => all_lazy_runs(alloc, exploring, program),
-        None => every_order(alloc, exploring, text, program, lines),
+        None => every_order(alloc, exploring, wording, program, lines),
     }
 }
 
@@ -126,23 +167,21 @@ fn of_lazy(
 fn every_order(
     alloc: Global,
     exploring: &Exploring<'_>,
-    text: &[u8],
+    wording: &Wording<'_, '_>,
     program: &Program,
     lines: &[u32],
 ) -> Result<Printout, Fault>
-    requires { IsTextOf text.now program.now }
     ensures ok { IfOk result (λ printout.
-        ShowsOrders exploring.now (labels_in text.now program.now) program.now lines.now
+        ShowsOrders exploring.now (wording_of wording.now) program.now lines.now
         (whole_text printout.parts.items) printout.status) }
     ensures err { IfErr result (HasOrdersFault exploring.now program.now) }
 {
-    let labels = read_labels(alloc, text, program.words, program.locks)?;
     let nodes = exploring.nodes.count;
     let most = exploring.most.count;
     let outcomes = exploring.outcomes;
     match lrc_explore_text::explored::explored(
         alloc,
-        &labels.said,
+        wording,
         program,
         lines,
         nodes,
@@ -163,20 +202,18 @@ fn every_order(
 fn races_ignored(
     alloc: Global,
     exploring: &Exploring<'_>,
-    text: &[u8],
+    wording: &Wording<'_, '_>,
     program: &Program,
     lines: &[u32],
 ) -> Result<Printout, Fault>
-    requires { IsTextOf text.now program.now }
     ensures ok { IfOk result (λ printout.
-        ShowsFindings exploring.now (labels_in text.now program.now) program.now lines.now
+        ShowsFindings exploring.now (wording_of wording.now) program.now lines.now
         (whole_text printout.parts.items) printout.status) }
     ensures err { IfErr result (HasFindingsFault exploring.now program.now) }
 {
-    let labels = read_labels(alloc, text, program.words, program.locks)?;
     let nodes = exploring.nodes.count;
     let most = exploring.most.count;
-    match findings_told(alloc, &labels.said, program, lines, nodes, most as usize) {
+    match findings_told(alloc, wording, program, lines, nodes, most as usize) {
         Ok(told) => Ok(Printout {
             parts: told.parts,
             status: told.status,
@@ -191,29 +228,19 @@ fn races_ignored(
 fn ends_asked(
     alloc: Global,
     exploring: &Exploring<'_>,
-    text: &[u8],
+    wording: &Wording<'_, '_>,
     program: &Program,
     lines: &[u32],
 ) -> Result<Printout, Fault>
-    requires { IsTextOf text.now program.now }
     ensures ok { IfOk result (λ printout.
-        ShowsEnds exploring.now (labels_in text.now program.now) program.now lines.now
+        ShowsEnds exploring.now (wording_of wording.now) program.now lines.now
         (whole_text printout.parts.items) printout.status) }
     ensures err { IfErr result (HasFindingsFault exploring.now program.now) }
 {
-    let labels = read_labels(alloc, text, program.words, program.locks)?;
     let nodes = exploring.nodes.count;
     let most = exploring.most.count;
     let races = !exploring.ignores_races;
-    match explored_ends(
-        alloc,
-        &labels.said,
-        program,
-        lines,
-        nodes,
-        most as usize,
-        races,
-    ) {
+    match explored_ends(alloc, wording, program, lines, nodes, most as usize, races) {
         Ok(told) => Ok(Printout {
             parts: told.parts,
             status: told.status,

@@ -1,15 +1,17 @@
-// How the text of a program is read: a text of the core as it stands, and a named program as its core.
+// How the text of a program is read: a text of the core as it stands, and a named program as its core, which the named
+// program tells.
 
 ghost use Rattle.std.specs.Prelude.{◌≡◌, IfErr, IfOk};
-ghost use Rattle.lrc_cli.specs.Reading.{IsReadAs, IsUnread, fault_of_named, nodes_for, run_for};
+ghost use Rattle.lrc_cli.specs.Reading.{IsReadAs, IsUnread, exploring_for, fault_of_named, nodes_for, run_for};
 ghost use Rattle.lrc_cli.specs.ReadingSeen.{asked_by, text_read};
 ghost use Rattle.lrc_named.specs.Named.{IsReadAsNamed};
 
 use lrc_cli_answer::fault::Fault;
-use lrc_cli_args::choice::{RunChoice, RunOptions};
+use lrc_cli_args::choice::{Exploring, RunChoice, RunOptions};
 use lrc_named::fault::NamedFault;
 use lrc_named::{CoreText, core_of_text, is_read_as_named};
 use lrc_setting::setting::Nodes;
+use lrc_source::read_text::ReadText;
 use std::alloc::Global;
 
 /// The text of a program, as it is read.
@@ -17,18 +19,30 @@ use std::alloc::Global;
 pub enum Reading<'t> {
     /// A text of the core, as it stands.
     Written(&'t [u8]),
-    /// The core of a named program.
-    Translated(CoreText),
+    /// A named program, and its core.
+    Translated(&'t [u8], CoreText<'t>),
 }
 
 impl Reading<'_> {
     /// Returns the text of the core that is read.
     pub fn text(&self) -> &[u8]
-        ensures { result.now ≡ text_read self.now }
+        ensures { result.now ≡ (text_read self.now).core }
     {
         match self {
             Reading::Written(text) => *text,
-            Reading::Translated(core) => &core.text,
+            Reading::Translated(_, core) => &core.text,
+        }
+    }
+
+    /// Returns the text of the core with what it is told by.
+    pub fn told(&self) -> ReadText<'_>
+        ensures { result ≡ text_read self.now }
+    {
+        match self {
+            Reading::Written(text) => ReadText::written(*text),
+            Reading::Translated(text, core) => {
+                ReadText::translated(&core.text, *text, &core.lines, &core.traps)
+            }
         }
     }
 
@@ -38,7 +52,7 @@ impl Reading<'_> {
     {
         match self {
             Reading::Written(_) => None,
-            Reading::Translated(core) => core.nodes,
+            Reading::Translated(_, core) => core.nodes,
         }
     }
 }
@@ -74,7 +88,7 @@ fn translated(alloc: Global, text: &[u8]) -> Result<Reading<'_>, Fault>
     ensures err { IfErr result (IsUnread text.now) }
 {
     match core_of_text(alloc, text) {
-        Ok(core) => Ok(Reading::Translated(core)),
+        Ok(core) => Ok(Reading::Translated(text, core)),
         Err(fault) => Err(fault_of(fault)),
     }
 }
@@ -84,6 +98,17 @@ pub fn nodes_for(given: bool, nodes: Nodes, asked: Option<Nodes>) -> Nodes
     ensures { result ≡ nodes_for given nodes asked }
 {
     if given { nodes } else { asked.unwrap_or(nodes) }
+}
+
+/// Returns a search through orders with the nodes that a text asks for, unless the words say how many.
+pub fn exploring_for<'w>(exploring: &Exploring<'w>, asked: Option<Nodes>) -> Exploring<'w>
+    ensures { result ≡ exploring_for exploring.now asked }
+{
+    let nodes = nodes_for(exploring.nodes_given, exploring.nodes, asked);
+    Exploring {
+        nodes,
+        ..*exploring
+    }
 }
 
 /// Returns a run with the nodes that a text asks for, unless the words say how many.

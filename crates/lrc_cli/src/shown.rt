@@ -10,19 +10,18 @@ use lrc_cli_answer::printout::Printout;
 use lrc_cli_args::choice::{RunChoice, Shape};
 use lrc_cli_runs::any::show_any;
 use lrc_cli_runs::shown::show;
+use lrc_source::read_text::ReadText;
 use std::alloc::Global;
 use std::sync::Wait;
 use std::thread::Threads;
 
-// Whether a named program is shown so: where lines and names of the text are not told.
+// Whether a named program is shown so: where names of the translation's own are not told as what they hold.
 fn takes_named(shape: Shape) -> bool
     ensures { result ≡ takes_named shape }
 {
     match shape {
-        Shape::Report | Shape::Stats => true,
-        Shape::Trace(_) | Shape::Explain | Shape::Chart(_) | Shape::Step(_) | Shape::Why(_) => {
-            false
-        }
+        Shape::Report | Shape::Stats | Shape::Trace(_) | Shape::Chart(_) | Shape::Explain => true,
+        Shape::Step(_) | Shape::Why(_) => false,
     }
 }
 
@@ -39,12 +38,12 @@ pub(crate) fn shown(
     ensures { AnswersAsRead run.now shape text.now (option_map (λ e. e.now) events.entry) result }
 {
     if !takes_named(shape) {
-        return show(alloc, run, shape, text, events);
+        return show(alloc, run, shape, &ReadText::written(text), events);
     }
     let reading = read(alloc, text)?;
-    let core = reading.text();
+    let told = reading.told();
     let own = run_for(run, reading.nodes());
-    show(alloc, &own, shape, core, events)
+    show(alloc, &own, shape, &told, events)
 }
 
 /// Answers a choice of a run, on threads or not, from its texts.
@@ -60,10 +59,10 @@ pub(crate) fn shown_any<R: Threads + Wait + Sync>(
     ensures { AnswersAsRead run.now shape text.now (option_map (λ e. e.now) events.entry) result }
 {
     if !takes_named(shape) {
-        return show_any(rt, alloc, run, shape, text, events);
+        return show_any(rt, alloc, run, shape, &ReadText::written(text), events);
     }
     let reading = read(alloc, text)?;
-    let core = reading.text();
+    let told = reading.told();
     let own = run_for(run, reading.nodes());
-    show_any(rt, alloc, &own, shape, core, events)
+    show_any(rt, alloc, &own, shape, &told, events)
 }

@@ -38,6 +38,7 @@ use Rattle.lrc_cli_args.specs.declared.misfit.Misfit.{Misfit}
 use Rattle.lrc_cli_args.specs.declared.misfit.Misfit.TheVariants.{Order, RunOrder, Page, Form as FormMisfit, Seed, Then as ThenMisfit, Followed as FollowedMisfit, Threads, Messages, Part as PartMisfit, Memory as MemoryMisfit, ExactMemory, ExactOption, Tries as TriesMisfit, IgnoredRaces, Ends as EndsMisfit, ExploreForm, Events, ToldOrder, Tell, Topic as TopicMisfit, TraceForm, Questions, Score, Reasons, ReasonLines, Witness, WitnessLines, Hide, TextSource, SameAct, Sources, NoSource, RunOption, ChartRunOption, Number}
 use Rattle.lrc_cli_args.specs.declared.races.Question.TheVariants.{Told, Scored, Reasoned, Witnessed}
 use Rattle.lrc_cli_words.specs.Commands.{is_command, treadmarks}
+use Rattle.clap.specs.Takes.{is_given}
 use Rattle.lrc_cli_args.specs.Options.{AreChartedActs, AreEventsChosen, AreForeignActs, AreLines, AreOptions, AreRunOptions, HasBadCount, HasBadExploreNumber, HasChartedActsMisfit, HasEventsMisfit, HasExactMisfit, HasForeignMisfit, HasFormMisfitIn, HasOptionsMisfit, HasRacesMisfit, HasValue, HasWayMisfitIn, IsAsking, IsChartTaken, IsHiding}
 use Rattle.lrc_cli_args.specs.Options.{IsExactChosen, IsExploreTaken, IsFlag, IsFormIn, IsJudgeTaken, IsMemory, IsPart, IsPicker, IsPlainTaken, IsQuestion, IsRacesTaken, IsRunTaken, IsShowingTaken, IsStepTaken}
 use Rattle.lrc_cli_args.specs.Options.{asks_outcomes, IsSimTaken, IsThreadsWayIn, IsTraceForm, IsTraceTaken, IsWayIn, IsWhyTaken, most_in, nodes_in, option_number, outcome_in, some_number_in, takes_tries, texts_of, tries_in}
@@ -136,6 +137,7 @@ pub record IsJudging (rows : List Row) (judging : Judging) : Type 0 where
 pub record IsExploring (rows : List Row) (exploring : Exploring) : Type 0 where
   pub file : first_of (codes "FILE") rows ≡ Some exploring.file.now
   pub nodes : nodes_in rows ≡ exploring.nodes.count
+  pub given : exploring.nodes_given ≡ is_given (codes "nodes") rows
   pub most : most_in rows ≡ exploring.most.count
   pub memory : IsMemory (first_of (codes "memory") rows) exploring.memory
   pub outcomes : IsFlag (codes "outcomes") exploring.outcomes rows

@@ -216,6 +216,8 @@ pub struct Exploring<'w> {
     /// The file of the program's text; `-` is standard input.
     pub file: &'w str,
     pub nodes: Nodes,
+    /// Whether the words say how many nodes.
+    pub nodes_given: bool,
     /// The most states that the search may meet.
     pub most: Most,
     /// The memory whose runs have the outcomes. The races are the same for both memories.

@@ -36,6 +36,7 @@ pub(crate) fn explore_choice<'w>(options: &ArgMatches<'w>) -> Result<Choice<'w>,
     Ok(Choice::Explore(Exploring {
         file: text_of(options, "FILE"),
         nodes: nodes_of(options)?,
+        nodes_given: is_given(options, "nodes"),
         most: most_of(options)?,
         memory,
         outcomes,

@@ -7,6 +7,7 @@ use Rattle.lrc_labels.specs.Reading.{Label}
 use Rattle.lrc_lang.specs.declared.program.Program.{Program}
 use Rattle.lrc_chart_build.specs.Course.{CourseRecord}
 use Rattle.lrc_run.specs.Run.{turns_of_nodes}
+use Rattle.lrc_source.specs.Telling.{ReadText}
 use Rattle.lrc_world.specs.declared.run.Run.{Run}
 use Rattle.lrc_trace.specs.declared.act.Act.{Act}
 use Rattle.lrc_turns_text.specs.Turns.{Made, turns_told}
@@ -23,11 +24,11 @@ use Rattle.lrc_cli_answer.specs.declared.fault.Fault.{Fault}
 use Rattle.lrc_cli_answer.specs.declared.fault.Fault.TheVariants.{LongActs, NoAct, Text, Names, Events, Acts, Worn, TooManyStates, NoOutcome, TooManyTurns, TooLong, Mismatch, NoMemory}
 
 -- what was found of a run's acts is known of the run
-pub course_of_run : (text : List ℕ) (program : Program) (options : RunOptions) (run : Run)
+pub course_of_run : (text : ReadText) (program : Program) (options : RunOptions) (run : Run)
     (turns : List Made) (acts : List Act) (lines : List ℕ) (times : List (List ℕ)) (pairs : List Pair) (labels : List Label) (waits : List (Option ℕ))
     → turns ≡ turns_told (turns_of_nodes run.report) (map (λ turn. turn.node) (turns_in program options run.events.items)) → acts ≡ run.report.acts.items
     → AreLinesIn text program options.nodes.count acts lines → KeepsTime options.nodes.count acts times → AreFirstPairs acts pairs
-    → labels ≡ labels_in text program → AreWaitsIn text program options acts waits
+    → labels ≡ labels_in text.core program → AreWaitsIn text program options acts waits
     → IsCourse text program options run (record {
       turns = turns;
       known = record { acts = acts; lines = lines; times = times; pairs = pairs; labels = labels };
@@ -44,7 +45,7 @@ course_of_run text program options run turns acts lines times pairs labels waits
 }
 
 -- why there is no chart of what is known of a run is why the run is not shown
-pub chart_unshown : (charting : Charting) (choice : RunChoice) (text : List ℕ) (program : Program) (run : Run)
+pub chart_unshown : (charting : Charting) (choice : RunChoice) (text : ReadText) (program : Program) (run : Run)
     (course : CourseRecord) (fault : Fault) → IsCourse text program choice.options run course → IsChartFault charting course fault
     → IsShowFault (Chart charting) choice text program run fault
 chart_unshown charting choice text program run course TooLong known long = (course, known, long)

@@ -7,6 +7,7 @@ use Rattle.lrc_cli_runs.specs.Runs.{IsRunOfWay}
 use Rattle.lrc_cli_runs.specs.Reasoned.{IsUntold, asked_of}
 use Rattle.lrc_cli_runs.specs.Showing.{AnswersShowing, RefusesRun, ShowsRun}
 use Rattle.lrc_cli_runs.specs.Shown.{IsShowFault, IsShown, keep_for, shown_status}
+use Rattle.lrc_source.specs.Telling.{ReadText}
 use Rattle.lrc_text.specs.Parts.{whole_text}
 use Rattle.lrc_cli_answer.specs.declared.printout.Printout.{Printout}
 use Rattle.lrc_cli_answer.specs.FaultLine.{fault_of_why}
@@ -19,15 +20,15 @@ use Rattle.lrc_cli_args.specs.declared.choice.Shape.{Shape}
 use Rattle.lrc_cli_answer.specs.declared.fault.Fault.{Fault}
 
 -- what holds of what is shown and of the fault, in one
-pub answers_of : (run : RunChoice) (shape : Shape) (text : List ℕ) (events : Option (List ℕ)) (r : Result Printout Fault)
+pub answers_of : (run : RunChoice) (shape : Shape) (text : ReadText) (events : Option (List ℕ)) (r : Result Printout Fault)
     → IfOk r (λ printout. ShowsRun run shape text events (whole_text printout.parts.items) printout.status)
     → IfErr r (λ fault. RefusesRun run shape text events fault) → AnswersShowing run shape text events r
 answers_of run shape text events (Ok printout) shows refuses = shows
 answers_of run shape text events (Err fault) shows refuses = refuses
 
 -- what is shown of a run of the program that the text is of is what is shown
-pub printed_of : (choice : RunChoice) (shape : Shape) (text : List ℕ) (events_text : Option (List ℕ)) (program : Program) (run : Run)
-    (r : Result Printout Fault) → IsTextOf text program → IsRunOfWay choice.way program choice.options events_text (keep_for shape) run
+pub printed_of : (choice : RunChoice) (shape : Shape) (text : ReadText) (events_text : Option (List ℕ)) (program : Program) (run : Run)
+    (r : Result Printout Fault) → IsTextOf text.core program → IsRunOfWay choice.way program choice.options events_text (keep_for shape) run
     → IfOk r (λ printout. IsShown shape choice text program run (whole_text printout.parts.items))
     → IfOk r (λ printout. printout.status ≡ shown_status shape run.report.first_race run.report.ends.items)
     → IfOk r (λ printout. ShowsRun choice shape text events_text (whole_text printout.parts.items) printout.status)
@@ -36,8 +37,8 @@ printed_of choice shape text events_text program run (Ok printout) is ran shown 
 printed_of choice shape text events_text program run (Err fault) is ran shown ended = tt
 
 -- and why it is not shown is the fault
-pub unshown_of : (choice : RunChoice) (shape : Shape) (text : List ℕ) (events_text : Option (List ℕ)) (program : Program) (run : Run)
-    (r : Result Printout Fault) → IsTextOf text program → IsRunOfWay choice.way program choice.options events_text (keep_for shape) run
+pub unshown_of : (choice : RunChoice) (shape : Shape) (text : ReadText) (events_text : Option (List ℕ)) (program : Program) (run : Run)
+    (r : Result Printout Fault) → IsTextOf text.core program → IsRunOfWay choice.way program choice.options events_text (keep_for shape) run
     → IfErr r (IsShowFault shape choice text program run) → IfErr r (RefusesRun choice shape text events_text)
 unshown_of choice shape text events_text program run (Ok printout) is ran unshown = tt
 unshown_of choice shape text events_text program run (Err fault) is ran unshown =

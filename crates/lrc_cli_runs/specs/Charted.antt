@@ -5,8 +5,6 @@ use Rattle.lrc_chart_svg.specs.Marks.{all_marks, is_space, named_once, attribute
 use Rattle.lrc_chart_svg.specs.Root.{IsRootOf}
 use Rattle.lrc_chart_svg.specs.Shown.{picture_marks}
 use Rattle.lrc_judge.specs.FirstPairs.{AreFirstPairs}
-use Rattle.lrc_lang.specs.Lines.{HasLines}
-use Rattle.lrc_lang.specs.Tree.{program_of}
 use Rattle.lrc_lang.specs.declared.program.Program.{Program}
 use Rattle.lrc_explain_waits.specs.Circles.{waits_of}
 use Rattle.lrc_explain_waits.specs.Stand.{stands_of}
@@ -18,6 +16,7 @@ use Rattle.lrc_chart_build.specs.declared.part.Part.{Part}
 use Rattle.lrc_run.specs.Run.{turns_of_nodes}
 use Rattle.lrc_world.specs.declared.run.Run.{Run}
 use Rattle.lrc_chart_text.specs.Sketch.{sketch_text}
+use Rattle.lrc_source.specs.Telling.{AreLines, ReadText, shown_text}
 use Rattle.lrc_svg.specs.Texts.{document_text}
 use Rattle.lrc_svg.specs.declared.element.Document.{Document}
 use Rattle.lrc_chart_title.specs.Title.{title_text}
@@ -32,20 +31,20 @@ use Rattle.lrc_cli_answer.specs.declared.fault.Fault.{Fault}
 use Rattle.lrc_cli_answer.specs.declared.fault.Fault.TheVariants.{NoMemory, TooLong}
 
 -- for whom each node waits when a run of the program that this text is of has made these acts
-abbrev pub AreWaitsIn : List ℕ → Program → RunOptions → List Act → List (Option ℕ) → Type 0
-AreWaitsIn text program options acts waits = (places : List ℕ) × HasLines text (program_of program) places
+abbrev pub AreWaitsIn : ReadText → Program → RunOptions → List Act → List (Option ℕ) → Type 0
+AreWaitsIn text program options acts waits = (places : List ℕ) × AreLines text program places
     × (waits ≡ waits_of (stands_of program options.nodes.count places (Some options.steps.count) acts))
 
 -- What is known of a run of the program that this text is of: the turns that its nodes made, one after another, its acts with their lines
 -- and their times, the first pairs of its races, the labels of the text, and for whom its nodes wait when it has ended.
-pub record IsCourse (text : List ℕ) (program : Program) (options : RunOptions) (run : Run)
+pub record IsCourse (text : ReadText) (program : Program) (options : RunOptions) (run : Run)
     (course : CourseRecord) : Type 0 where
   pub turns : course.turns ≡ turns_told (turns_of_nodes run.report) (map (λ turn. turn.node) (turns_in program options run.events.items))
   pub acts : course.known.acts ≡ run.report.acts.items
   pub lines : AreLinesIn text program options.nodes.count run.report.acts.items course.known.lines
   pub times : KeepsTime options.nodes.count run.report.acts.items course.known.times
   pub pairs : AreFirstPairs run.report.acts.items course.known.pairs
-  pub labels : course.known.labels ≡ labels_in text program
+  pub labels : course.known.labels ≡ labels_in text.core program
   pub waits : AreWaitsIn text program options run.report.acts.items course.waits
 
 -- which part of it a chart shows
@@ -77,9 +76,9 @@ pub record IsChart (charting : Charting) (title : List ℕ) (nodes : ℕ) (cours
   pub drawn : IsDrawn charting.text picture out
 
 -- a chart of a run of the program that this text is of, under the words by which it is had
-abbrev pub IsCharted : Charting → RunChoice → List ℕ → Program → Run → List ℕ → Type 0
+abbrev pub IsCharted : Charting → RunChoice → ReadText → Program → Run → List ℕ → Type 0
 IsCharted charting choice text program run out = (course : CourseRecord) × IsCourse text program choice.options run course
-    × IsChart charting (title_text choice charting) choice.options.nodes.count course text out
+    × IsChart charting (title_text choice charting) choice.options.nodes.count course (shown_text text) out
 
 -- why there is no chart of a run: it would have more rows than a chart may have
 abbrev pub IsChartFault : Charting → CourseRecord → Fault → Type 0
@@ -88,6 +87,6 @@ IsChartFault charting course NoMemory = Unit {0}
 IsChartFault charting course fault = ⊥
 
 -- a chart of the run of the program that this text is of would have more rows than a chart may have
-abbrev pub IsTooLong : Charting → RunOptions → List ℕ → Program → Run → Type 0
+abbrev pub IsTooLong : Charting → RunOptions → ReadText → Program → Run → Type 0
 IsTooLong charting options text program run =
     (course : CourseRecord) × IsCourse text program options run course × IsChartFault charting course TooLong

@@ -9,6 +9,7 @@ use Rattle.lrc_acts_text.specs.Rapid.{rapid_text}
 use Rattle.lrc_trace.specs.declared.end.End.{End}
 use Rattle.lrc_report.specs.ReportText.{run_status_of, run_text}
 use Rattle.lrc_run.specs.Run.{turns_of_nodes}
+use Rattle.lrc_source.specs.Telling.{ReadText}
 use Rattle.lrc_stats.specs.StatsText.{stats_text}
 use Rattle.lrc_world.specs.declared.keep.Keep.{Keep}
 use Rattle.lrc_world.specs.declared.keep.Keep.TheVariants.{All, Newest, Turns}
@@ -39,20 +40,20 @@ use Rattle.lrc_cli_answer.specs.declared.fault.Fault.TheVariants.{NoAct, NoMemor
 
 -- A run in one of the forms, where the acts are of these lines: its acts, also with the messages among them, or as JSON with the labels of
 -- the text and the time that its node has just after each, or as accesses and their order; or its events that are not skipped.
-abbrev pub IsWrittenAs : Form → List ℕ → Program → RunOptions → Run → (lines out : List ℕ) → Type 0
+abbrev pub IsWrittenAs : Form → ReadText → Program → RunOptions → Run → (lines out : List ℕ) → Type 0
 IsWrittenAs Acts text program options run lines out = out ≡ acts_text run.report.acts.items lines
 IsWrittenAs Messages text program options run lines out =
     out ≡ messages_text (turns_of_nodes run.report) (map (λ turn. turn.node) (turns_in program options run.events.items)) lines
 IsWrittenAs Events text program options run lines out = out ≡ events_text (map (λ turn. turn.event) (turns_in program options run.events.items))
 IsWrittenAs Json text program options run lines out =
-    (times : List (List ℕ)) × KeepsTime options.nodes.count run.report.acts.items times × (out ≡ json_of_acts (labels_in text program) run.report.acts.items lines times)
+    (times : List (List ℕ)) × KeepsTime options.nodes.count run.report.acts.items times × (out ≡ json_of_acts (labels_in text.core program) run.report.acts.items lines times)
 IsWrittenAs Rapid text program options run lines out =
     out ≡ rapid_text program.locks options.nodes.count run.report.acts.items lines
 IsWrittenAs (States part) text program options run lines out = ⊥
 IsWrittenAs (Bytes part) text program options run lines out = ⊥
 
 -- a trace of a run of the program that this text is of, in a form with these lines of its acts
-abbrev pub IsFormShown : Form → List ℕ → Program → RunOptions → Run → List ℕ → Type 0
+abbrev pub IsFormShown : Form → ReadText → Program → RunOptions → Run → List ℕ → Type 0
 IsFormShown form text program options run out =
     (lines : List ℕ) × AreLinesIn text program options.nodes.count run.report.acts.items lines
     × IsWrittenAs form text program options run lines out
@@ -64,19 +65,19 @@ IsBytes part report turned out =
     out ≡ bytes_text part.from part.to (map (λ turn. turn.event) turned) (turns_told (turns_of_nodes report) (map (λ turn. turn.node) turned))
 
 -- the same in any form: with the states of the nodes, or with the bytes of their messages, it is of turns
-abbrev pub IsTraceShown : Form → List ℕ → Program → RunOptions → Run → List ℕ → Type 0
+abbrev pub IsTraceShown : Form → ReadText → Program → RunOptions → Run → List ℕ → Type 0
 IsTraceShown (States part) text program options run out = IsStated part text program options run out
 IsTraceShown (Bytes part) text program options run out = IsBytes part run.report (turns_in program options run.events.items) out
 IsTraceShown form text program options run out = IsFormShown form text program options run out
 
 -- why there is none: too many turns are to be shown
-abbrev pub IsTraceFault : Form → List ℕ → Program → RunOptions → Run → Fault → Type 0
+abbrev pub IsTraceFault : Form → ReadText → Program → RunOptions → Run → Fault → Type 0
 IsTraceFault form text program options run TooManyTurns = IsFormTooLong form text program options run
 IsTraceFault form text program options run NoMemory = Unit {0}
 IsTraceFault form text program options run _ = ⊥
 
 -- what is shown of a run of that program
-abbrev pub IsShown : Shape → RunChoice → List ℕ → Program → Run → List ℕ → Type 0
+abbrev pub IsShown : Shape → RunChoice → ReadText → Program → Run → List ℕ → Type 0
 IsShown shapes.Report choice text program run out = out ≡ run_text run.report.acts.items run.report.ends.items run.report.races.items run.report.first_race
 IsShown (Trace form) choice text program run out = IsTraceShown form text program choice.options run out
 IsShown Explain choice text program run out = IsExplained text program choice.options run.report.acts.items run.report.first_race out
@@ -87,7 +88,7 @@ IsShown (Why asking) choice text program run out =
     AnswersRun text program choice.options.nodes.count choice.options.size run.report.acts.items (asked_of asking) out
 
 -- why a run that was made is not shown so: a chart of it would be too long, there are too many turns, or there is no act that is asked of
-abbrev pub IsShowFault : Shape → RunChoice → List ℕ → Program → Run → Fault → Type 0
+abbrev pub IsShowFault : Shape → RunChoice → ReadText → Program → Run → Fault → Type 0
 IsShowFault shape choice text program run NoMemory = Unit {0}
 IsShowFault (Chart charting) choice text program run TooLong = IsTooLong charting choice.options text program run
 IsShowFault (Trace form) choice text program run TooManyTurns = IsFormTooLong form text program choice.options run

@@ -6,6 +6,7 @@ use Rattle.lrc_cli_args.specs.declared.choice.Form.{Form}
 use Rattle.lrc_cli_args.specs.declared.choice.Form.TheVariants.{States}
 use Rattle.lrc_cli_args.specs.declared.choice.Part.{Part}
 use Rattle.lrc_cli_args.specs.declared.choice.RunOptions.{RunOptions}
+use Rattle.lrc_source.specs.Telling.{ReadText, shown_text}
 use Rattle.lrc_states.specs.States.{AreStates, IsUnshown, Told}
 use Rattle.lrc_states.specs.declared.fault.StatesFault.TheVariants.{TooLong}
 use Rattle.lrc_states.specs.declared.told.Range.{Range}
@@ -20,7 +21,7 @@ use Rattle.lrc_cli_runs.specs.Lines.{AreLinesIn}
 use Rattle.lrc_cli_runs.specs.Runs.{options_of}
 
 -- the run of which the turns are shown
-abbrev pub told_of : List ℕ → Program → RunOptions → Run → Told
+abbrev pub told_of : ReadText → Program → RunOptions → Run → Told
 told_of text program options run =
     record { text = text; program = program; nodes = options.nodes.count; options = options_of options; events = run.events.items }
 
@@ -29,21 +30,21 @@ abbrev pub range_of : Part → Range
 range_of part = record { from = part.from; to = part.to }
 
 -- the turns of the part with the states of the nodes
-abbrev pub IsStated : Part → List ℕ → Program → RunOptions → Run → List ℕ → Type 0
+abbrev pub IsStated : Part → ReadText → Program → RunOptions → Run → List ℕ → Type 0
 IsStated part text program options run out = AreStates (told_of text program options run) (range_of part) out
 
 -- the turns of the part are more than may be shown
-abbrev pub HasTooManyTurns : Part → List ℕ → Program → RunOptions → Run → Type 0
+abbrev pub HasTooManyTurns : Part → ReadText → Program → RunOptions → Run → Type 0
 HasTooManyTurns part text program options run = IsUnshown (told_of text program options run) (range_of part) TooLong
 
 -- why they are not shown
-abbrev pub IsStatesFault : Part → List ℕ → Program → RunOptions → Run → Fault → Type 0
+abbrev pub IsStatesFault : Part → ReadText → Program → RunOptions → Run → Fault → Type 0
 IsStatesFault part text program options run TooManyTurns = HasTooManyTurns part text program options run
 IsStatesFault part text program options run NoMemory = Unit {0}
 IsStatesFault part text program options run _ = ⊥
 
 -- they are more than may be shown in this form
-abbrev pub IsFormTooLong : Form → List ℕ → Program → RunOptions → Run → Type 0
+abbrev pub IsFormTooLong : Form → ReadText → Program → RunOptions → Run → Type 0
 IsFormTooLong (States part) text program options run = HasTooManyTurns part text program options run
 IsFormTooLong _ text program options run = ⊥
 
@@ -70,7 +71,7 @@ acts_shown part count = record { from = first_shown part.from count; until = end
 
 -- The document that shows the turns of a part of the run, under the name of the program's file: the states, the run with reasons, its races,
 -- and why the acts of the part are as they are.
-pub record IsStepped (name : List ℕ) (part : Part) (text : List ℕ) (program : Program) (options : RunOptions) (run : Run) (out : List ℕ) : Type 0 where
+pub record IsStepped (name : List ℕ) (part : Part) (text : ReadText) (program : Program) (options : RunOptions) (run : Run) (out : List ℕ) : Type 0 where
   pub states : List ℕ
   pub are_states : IsStated part text program options run states
   pub explained : List ℕ
@@ -81,4 +82,4 @@ pub record IsStepped (name : List ℕ) (part : Part) (text : List ℕ) (program 
   pub tells_races : TellsRaces run.report.acts.items lines (acts_shown part (length run.report.acts.items)) races
   pub reasons : List ℕ
   pub tells_whys : TellsWhys text program options.nodes.count options.size run.report.acts.items (acts_shown part (length run.report.acts.items)) reasons
-  pub whole : out ≡ document (run_lines name text states explained races reasons)
+  pub whole : out ≡ document (run_lines name (shown_text text) states explained races reasons)

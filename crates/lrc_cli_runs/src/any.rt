@@ -9,18 +9,19 @@ use crate::threads::show_on_threads;
 use lrc_cli_answer::fault::Fault;
 use lrc_cli_answer::printout::Printout;
 use lrc_cli_args::choice::{RunChoice, Shape, Way};
+use lrc_source::read_text::ReadText;
 use std::alloc::Global;
 use std::sync::Wait;
 use std::thread::Threads;
 
-/// Answers a choice of a run, on threads or not, from the program's text, and from the text of events if the choice
-/// names one.
+/// Answers a choice of a run, on threads or not, from the program's text as it is read, and from the text of events if
+/// the choice names one.
 pub fn show_any<R: Threads + Wait + Sync>(
     rt: &R,
     alloc: Global,
     choice: &RunChoice<'_>,
     shape: Shape,
-    text: &[u8],
+    text: &ReadText<'_>,
     events: Option<&[u8]>,
 ) -> Result<Printout, Fault>
     requires { is_some events ≡ is_some (events_along choice.now.way) }

@@ -49,7 +49,8 @@ pub(crate) fn charted(
     let nodes = choice.options.nodes.count as u8;
     let program = source.program();
     // The labels borrow the text that they are read from, and all that the course has is borrowed for one time: so they are read from a copy.
-    let bytes = Vec::from_slice(alloc, source.text())?;
+    let read = source.text();
+    let bytes = Vec::from_slice(alloc, read.core())?;
     let copied = bytes.as_slice();
     let labelling = read_labels(alloc, copied, program.words, program.locks)?;
     let labels = labelling.said.as_slice();
@@ -77,7 +78,7 @@ pub(crate) fn charted(
         waits,
     };
     let title = title_of(alloc, choice, &charting)?;
-    let part = chart_part(alloc, charting, &title, nodes, &course, source.text())?;
+    let part = chart_part(alloc, charting, &title, nodes, &course, read.shown())?;
     Ok(in_one(alloc, part)?)
 }
 

@@ -18,8 +18,10 @@ use lrc_cli_answer::fault::Fault;
 use lrc_cli_answer::printout::{Printout, in_one};
 use lrc_cli_args::choice::{Form, RunChoice, RunOptions, Shape};
 use lrc_explain::explain;
+use lrc_explain_waits::traps_told;
 use lrc_node::End;
 use lrc_report::report::{run_parts, status_after_run};
+use lrc_source::read_text::ReadText;
 use lrc_source::source::Source;
 use lrc_source::text::SourceText;
 use lrc_stats::stats_part;
@@ -28,12 +30,13 @@ use lrc_world::keep::Keep;
 use lrc_world::run::Run;
 use std::alloc::{AllocError, Global};
 
-/// Answers a choice of a run without threads, from its texts.
+/// Answers a choice of a run without threads, from the program's text as it is read, and from the text of events if the
+/// choice names one.
 pub fn show(
     alloc: Global,
     choice: &RunChoice<'_>,
     shape: Shape,
-    text: &[u8],
+    text: &ReadText<'_>,
     events: Option<&[u8]>,
 ) -> Result<Printout, Fault>
     requires threadless { is_on_threads choice.now.way ≡ false }
@@ -156,12 +159,15 @@ pub(crate) fn explained(
     ensures { IfOk result (λ parts. IsExplained source.now.text source.now.program options.now
         acts.now first_race (whole_text parts.items)) }
 {
+    let nodes = options.nodes.count as u8;
+    let traps = traps_told(alloc, source.code(), source.text().traps(), nodes, acts)?;
     explain(
         alloc,
         source.labels(),
+        &traps,
         source.code(),
         source.lines(),
-        options.nodes.count as u8,
+        nodes,
         options.steps.count,
         acts,
         first_race,

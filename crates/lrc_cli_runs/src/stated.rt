@@ -205,7 +205,7 @@ pub(crate) fn stepped(
     let races = races_text(alloc, part, source, options, run, &order)?;
     let reasons = reasons_text(alloc, part, source, options, run, &order)?;
     let name = name_of(alloc, options.file.as_bytes())?;
-    let text = source.text();
+    let text = source.text().shown();
     let document = step_document(alloc, &name, text, states, &explained, races, reasons)?;
     Ok(document)
 }

@@ -16,6 +16,7 @@ use lrc_cli_args::choice::{RunChoice, RunOptions, Shape};
 use lrc_envelope::Picker;
 use lrc_lang::program::Program;
 use lrc_run::{Halt, OpenGate, ThreadedRun, run_on_threads};
+use lrc_source::read_text::ReadText;
 use lrc_source::source::Source;
 use lrc_source::text::SourceText;
 use lrc_world::keep::Keep;
@@ -25,7 +26,7 @@ use std::mem;
 use std::sync::Wait;
 use std::thread::Threads;
 
-/// Answers a choice of a run whose nodes are on threads, from the program's text. `order` determines which message a
+/// Answers a choice of a run whose nodes are on threads, from the program's text as it is read. `order` determines which message a
 /// mailbox gives next.
 pub fn show_on_threads<R: Threads + Wait + Sync>(
     rt: &R,
@@ -33,7 +34,7 @@ pub fn show_on_threads<R: Threads + Wait + Sync>(
     choice: &RunChoice<'_>,
     order: Picker,
     shape: Shape,
-    text: &[u8],
+    text: &ReadText<'_>,
 ) -> Result<Printout, Fault>
     requires { choice.now.way ≡ OnThreads order }
     ensures ok { IfOk result (λ printout. ShowsRun choice.now shape text.now None

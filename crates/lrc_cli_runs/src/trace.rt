@@ -195,7 +195,7 @@ fn json_of(
     requires lined { length lines.now ≡ length run.now.report.acts.items }
     requires timed { length (times_in run.now.origins.times) ≡ length run.now.report.acts.items }
     ensures { IfOk result (λ part. part.items
-        ≡ json_of_acts (labels_in source.now.text source.now.program) run.now.report.acts.items
+        ≡ json_of_acts (labels_in source.now.text.core source.now.program) run.now.report.acts.items
         lines.now (times_in run.now.origins.times)) }
 {
     let acts = run.report.acts.as_slice();

@@ -10,10 +10,12 @@ use Rattle.lrc_judge.specs.declared.lanes.Pair.{Pair}
 use Rattle.lrc_text.specs.RaceText.{first_race_text}
 use Rattle.lrc_text.specs.Each.{each}
 use Rattle.lrc_labels.specs.Reading.{Label}
+use Rattle.lrc_named_core.specs.Tree.{Trap}
 use Rattle.lrc_explain_waits.specs.declared.stand.Stand.{Stand}
 use Rattle.lrc_explain_waits.specs.Circles.{deadlocks_text}
 use Rattle.lrc_explain_waits.specs.Stand.{stands_of}
 use Rattle.lrc_explain_waits.specs.Stuck.{end_text}
+use Rattle.lrc_explain_waits.specs.Traps.{trap_at}
 use Rattle.lrc_explain.specs.Access.{node_words}
 use Rattle.lrc_explain.specs.Groups.{groups_text}
 
@@ -29,14 +31,15 @@ print_of node act = if act.node == node then print_text node act.deed else []
 abbrev pub prints_text : (node : ℕ) → List Act → List ℕ
 prints_text node acts = flat_map (print_of node) acts
 
--- what each node printed, how it ended and why
-abbrev pub fates_text : List Label → List Act → List Stand → List ℕ
-fates_text labels acts stands = each (λ node stand. prints_text node acts ++ end_text labels stands node stand) stands
+-- what each node printed, how it ended and why; of a trap of the statement to which each has come the text says this
+abbrev pub fates_text : List Label → List Trap → List Act → List Stand → List ℕ
+fates_text labels traps acts stands = each (λ node stand. prints_text node acts ++ end_text labels (trap_at traps node) stands node stand) stands
 
 -- What is printed of the acts of a program whose statements, and the text's end behind them, have these lines: the lines of the nodes,
 -- those of the circles of waiting, the groups of these first pairs of races, and the first race. The labels of words and of locks
--- stand behind their numbers in what comes next of nodes and in the groups; the other lines name no word and no lock.
-abbrev pub explain_text : List Label → Program → (nodes : ℕ) → (lines : List ℕ) → (steps : ℕ) → List Act → List Pair → (first : Option ℕ) → List ℕ
-explain_text labels program nodes lines steps acts pairs first =
+-- stand behind their numbers in what comes next of nodes and in the groups; the other lines name no word and no lock. Of a trap of the
+-- statement to which each node has come the text says this.
+abbrev pub explain_text : List Label → List Trap → Program → (nodes : ℕ) → (lines : List ℕ) → (steps : ℕ) → List Act → List Pair → (first : Option ℕ) → List ℕ
+explain_text labels traps program nodes lines steps acts pairs first =
     let stands = stands_of program nodes lines (Some steps) acts in
-    fates_text labels acts stands ++ deadlocks_text stands ++ groups_text labels acts (act_lines program nodes lines acts) pairs ++ first_race_text first
+    fates_text labels traps acts stands ++ deadlocks_text stands ++ groups_text labels acts (act_lines program nodes lines acts) pairs ++ first_race_text first

@@ -5,6 +5,7 @@ ghost use Rattle.lrc_judge.specs.declared.TheConstants.{NODES};
 ghost use Rattle.lrc_judge.specs.declared.lanes.Pair.{Pair as PairRecord};
 ghost use Rattle.lrc_judge.specs.FirstPairs.{AreFirstPairs};
 ghost use Rattle.lrc_labels.specs.Reading.{label_seen};
+ghost use Rattle.lrc_named_core.specs.View.{trap_of};
 ghost use Rattle.lrc_text.specs.Parts.{whole_text};
 ghost use Rattle.lrc_text.specs.RaceText.{first_race_text};
 ghost use Rattle.lrc_explain.specs.Explain.{explain_text, fates_text, print_of, print_text, prints_text};
@@ -13,11 +14,12 @@ ghost use Rattle.lrc_explain_waits.specs.Circles.{deadlocks_text};
 use crate::access::push_node;
 use crate::groups::groups_part;
 use lrc_exec::code::Code;
-use lrc_explain_waits::{Stand, push_deadlocks, push_end, stands_of};
+use lrc_explain_waits::{Stand, push_deadlocks, push_end, stands_of, trap_at};
 use lrc_judge::NODES;
 use lrc_judge::first_pairs::first_pairs;
 use lrc_labels::label::Label;
 use lrc_lines::walks::follow_acts;
+use lrc_named_core::tree::Trap;
 use lrc_text::{first_race_part, push_number};
 use lrc_trace::act::{Act, Deed};
 use std::alloc::{AllocError, Global};
@@ -59,16 +61,18 @@ fn push_prints(text: &mut Vec<u8>, node: usize, acts: &[Act]) -> Result<(), Allo
 fn nodes_part(
     alloc: Global,
     labels: &[Label<'_>],
+    traps: &[Trap<'_>],
     acts: &[Act],
     stands: &[Stand],
 ) -> Result<Vec<u8>, AllocError>
     ensures { IfOk result (λ part. part.items
-        ≡ fates_text (map label_seen labels.now) acts.now stands.now) }
+        ≡ fates_text (map label_seen labels.now) (map trap_of traps.now) acts.now stands.now) }
 {
     let mut text = Vec::new(alloc);
     for node in 0..stands.len() {
         push_prints(&mut text, node, acts)?;
-        push_end(alloc, &mut text, labels, stands, node, stands[node])?;
+        let trap = trap_at(traps, node);
+        push_end(alloc, &mut text, labels, trap, stands, node, stands[node])?;
     }
     Ok(text)
 }
@@ -102,9 +106,11 @@ fn parts_of(
 /// Returns what is printed of a run with its reasons, in parts: for each node what it printed, how it ended and why;
 /// the circles of waiting; the races by groups; and the first race. `lines` has the lines of the program's statements,
 /// and of the text's end behind them. Each node has `steps` steps. The labels of words and locks follow their numbers.
+/// `traps` has, for each node, what the text says of a trap of the statement to which it has come; or it is empty.
 pub fn explain(
     alloc: Global,
     labels: &[Label<'_>],
+    traps: &[Trap<'_>],
     code: &Code<'_>,
     lines: &[u32],
     nodes: u8,
@@ -115,13 +121,13 @@ pub fn explain(
     requires { All (λ act. act.node < NODES) acts.now }
     ensures { IfOk result (λ parts. (pairs : List PairRecord) × AreFirstPairs acts.now pairs
         × (whole_text parts.items
-        ≡ explain_text (map label_seen labels.now) code.now nodes lines.now steps acts.now pairs
-        first_race)) }
+        ≡ explain_text (map label_seen labels.now) (map trap_of traps.now) code.now nodes lines.now
+        steps acts.now pairs first_race)) }
 {
     let followed = follow_acts(alloc, code, lines, nodes, acts)?;
     let stands = stands_of(alloc, &followed, nodes, Some(steps), acts)?;
     let pairs = first_pairs(alloc, acts)?;
-    let told = nodes_part(alloc, labels, acts, &stands)?;
+    let told = nodes_part(alloc, labels, traps, acts, &stands)?;
     let deadlocks = deadlocks_part(alloc, &stands)?;
     let groups = groups_part(alloc, labels, acts, &followed.lines, &pairs)?;
     let parts = parts_of(alloc, told, deadlocks, groups, first_race)?;

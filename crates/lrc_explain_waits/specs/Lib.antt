@@ -5,4 +5,5 @@ pub mod Holder
 pub mod Missing
 pub mod Stand
 pub mod Stuck
+pub mod Traps
 pub mod Words

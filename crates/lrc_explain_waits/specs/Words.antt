@@ -2,7 +2,8 @@
 use Rattle.std.specs.Prelude.{ℕ, List, [], ◌∷◌, ◌++◌, Option, Some, None, codes, decimal}
 use Rattle.std.specs.List.{flat_map}
 use Rattle.lrc_trace.specs.declared.act.Cause.{Cause}
-use Rattle.lrc_trace.specs.declared.act.Cause.TheVariants.{DivisionByZero, WordOutOfRange, LockOutOfRange, LockHeld, LockNotHeld}
+use Rattle.lrc_named_core.specs.Tree.{Trap as Said}
+use Rattle.lrc_trap_words.specs.Words.{cause_words}
 use Rattle.lrc_text.specs.ActText.{cause_number}
 use Rattle.lrc_labels.specs.Reading.{Label}
 use Rattle.lrc_labels.specs.Show.{numbered_lock, numbered_word}
@@ -15,16 +16,9 @@ use Rattle.lrc_explain_waits.specs.declared.stand.Fate.TheVariants.{Ended, Trapp
 use Rattle.lrc_explain_waits.specs.declared.stand.Stand.{Stand}
 use Rattle.lrc_explain_waits.specs.Missing.{missing_nodes}
 
--- why a statement traps
-abbrev pub cause_words : Cause → List ℕ
-cause_words DivisionByZero = codes "division by zero"
-cause_words WordOutOfRange = codes "word out of range"
-cause_words LockOutOfRange = codes "lock out of range"
-cause_words LockHeld = codes "lock held already"
-cause_words LockNotHeld = codes "lock not held"
-
-abbrev pub trap_words : Cause → List ℕ
-trap_words cause = codes "trap " ++ decimal (cause_number cause) ++ codes ", " ++ cause_words cause
+-- that a statement traps, of which the text says this, and why
+abbrev pub trap_words : Said → Cause → List ℕ
+trap_words trap cause = codes "trap " ++ decimal (cause_number cause) ++ codes ", " ++ cause_words trap cause
 
 -- who holds a lock
 unfoldable pub by_words : ℕ → List ℕ
@@ -60,15 +54,15 @@ abbrev pub barrier_words : List Missing → List ℕ
 barrier_words [] = codes ", reached by all others"
 barrier_words (first ∷ others) = codes ", without " ++ missing_words first ++ others_words others
 
--- what comes next of node `me`
-abbrev pub coming_words : List Label → List Stand → (me : ℕ) → Coming → List ℕ
-coming_words labels stands me StepsUsedUp = codes "steps used up"
-coming_words labels stands me (Trap cause) = trap_words cause
-coming_words labels stands me (Acquire lock holder) = acquire_words labels lock holder
-coming_words labels stands me (Barrier number) = codes "barrier " ++ decimal number ++ barrier_words (missing_nodes number me stands)
-coming_words labels stands me (Read word) = numbered_word labels (codes "read of word ") word
-coming_words labels stands me (Write word) = numbered_word labels (codes "write of word ") word
-coming_words labels stands me Print = codes "print"
-coming_words labels stands me (Release lock) = numbered_lock labels (codes "release ") lock
-coming_words labels stands me Quiet = codes "assignment or condition"
-coming_words labels stands me End = codes "end"
+-- what comes next of node `me`; of a trap of its statement the text says this
+abbrev pub coming_words : List Label → Said → List Stand → (me : ℕ) → Coming → List ℕ
+coming_words labels trap stands me StepsUsedUp = codes "steps used up"
+coming_words labels trap stands me (Trap cause) = trap_words trap cause
+coming_words labels trap stands me (Acquire lock holder) = acquire_words labels lock holder
+coming_words labels trap stands me (Barrier number) = codes "barrier " ++ decimal number ++ barrier_words (missing_nodes number me stands)
+coming_words labels trap stands me (Read word) = numbered_word labels (codes "read of word ") word
+coming_words labels trap stands me (Write word) = numbered_word labels (codes "write of word ") word
+coming_words labels trap stands me Print = codes "print"
+coming_words labels trap stands me (Release lock) = numbered_lock labels (codes "release ") lock
+coming_words labels trap stands me Quiet = codes "assignment or condition"
+coming_words labels trap stands me End = codes "end"

@@ -9,9 +9,11 @@ pub mod laws;
 mod missing;
 mod stand;
 mod stuck;
+mod traps;
 mod words;
 
 pub use circles::{circle_of, push_circle, push_deadlocks, waits_of};
 pub use holder::Holder;
 pub use stand::{Coming, Fate, Stand, stands_of};
 pub use stuck::{push_end, stuck_part};
+pub use traps::{Wording, trap_at, traps_told};

@@ -3,37 +3,28 @@
 ghost use Rattle.std.specs.Prelude.{◌≡◌, ◌∷◌, ◌++◌, OnErr, OnOk, codes, map};
 ghost use Rattle.lrc_text.specs.Front.{BeginsWith};
 ghost use Rattle.lrc_labels.specs.Reading.{label_seen};
-ghost use Rattle.lrc_explain_waits.specs.Words.{acquire_words, barrier_words, by_words, cause_words, coming_words, fate_mark, held_words, holder_words, missing_words, others_words, since_words, trap_words};
+ghost use Rattle.lrc_named_core.specs.View.{trap_of};
+ghost use Rattle.lrc_explain_waits.specs.Words.{acquire_words, barrier_words, by_words, coming_words, fate_mark, held_words, holder_words, missing_words, others_words, since_words, trap_words};
 
 use crate::holder::Holder;
 use crate::missing::{Missing, missing_nodes};
 use crate::stand::{Coming, Fate, Stand};
 use lrc_labels::label::Label;
 use lrc_labels::{push_numbered_lock, push_numbered_word};
+use lrc_named_core::tree::Trap;
 use lrc_text::push_number;
 use lrc_trace::act::Cause;
+use lrc_trap_words::push_cause;
 use std::alloc::{AllocError, Global};
 
-/// Returns the words that tell why a statement traps.
-pub(crate) fn words_of(cause: Cause) -> &'static [u8]
-    ensures { result.now ≡ cause_words cause }
-{
-    match cause {
-        Cause::DivisionByZero => b"division by zero",
-        Cause::WordOutOfRange => b"word out of range",
-        Cause::LockOutOfRange => b"lock out of range",
-        Cause::LockHeld => b"lock held already",
-        Cause::LockNotHeld => b"lock not held",
-    }
-}
-
-fn push_trap(text: &mut Vec<u8>, cause: Cause) -> Result<(), AllocError>
-    ensures ok { OnOk result (text.new.items ≡ text.old.items ++ trap_words cause) }
+fn push_trap(text: &mut Vec<u8>, trap: Trap<'_>, cause: Cause) -> Result<(), AllocError>
+    ensures ok { OnOk result (text.new.items
+        ≡ text.old.items ++ trap_words (trap_of trap.entry) cause) }
     ensures err { OnErr result (BeginsWith text.new.items text.old.items) }
 {
     push_number(text, b"trap ", u64::from(cause as u8))?;
     text.extend_from_slice(b", ")?;
-    text.extend_from_slice(words_of(cause))
+    push_cause(text, trap, cause)
 }
 
 fn push_by(text: &mut Vec<u8>, node: u64) -> Result<(), AllocError>
@@ -138,22 +129,24 @@ fn push_barrier(text: &mut Vec<u8>, missing: &[Missing]) -> Result<(), AllocErro
     }
 }
 
-/// Adds what comes next at node `me`.
+/// Adds what comes next at node `me`; of a trap of its statement the text says this.
 pub(crate) fn push_coming(
     alloc: Global,
     text: &mut Vec<u8>,
     labels: &[Label<'_>],
+    trap: Trap<'_>,
     stands: &[Stand],
     me: usize,
     coming: Coming,
 ) -> Result<(), AllocError>
     ensures ok { OnOk result (text.new.items
-        ≡ text.old.items ++ coming_words (map label_seen labels.now) stands.now me coming) }
+        ≡ text.old.items
+        ++ coming_words (map label_seen labels.now) (trap_of trap.entry) stands.now me coming) }
     ensures err { OnErr result (BeginsWith text.new.items text.old.items) }
 {
     match coming {
         Coming::StepsUsedUp => text.extend_from_slice(b"steps used up"),
-        Coming::Trap(cause) => push_trap(text, cause),
+        Coming::Trap(cause) => push_trap(text, trap, cause),
         Coming::Acquire(lock, holder) => push_acquire(text, labels, lock, holder),
         Coming::Barrier(number) => {
             let missing = missing_nodes(alloc, number, me, stands)?;

@@ -3,7 +3,7 @@ use Rattle.std.proofs.Common.{◌≡◌, ℕ, ◌+◌, ◌-◌, List, [], ◌++�
 use Rattle.std.specs.Prelude.{◌≢◌, IfErr, Some, codes}
 use Rattle.std.proofs.lemmas.Option.{same_Some}
 use Rattle.lrc_lang.specs.declared.program.Program.{Program}
-use Rattle.lrc_labels.specs.Reading.{Label}
+use Rattle.lrc_explain_waits.specs.Traps.{Wording}
 use Rattle.lrc_trace.specs.declared.act.Act.{Act}
 use Rattle.lrc_trace.specs.declared.race.Race.{Race}
 use Rattle.lrc_text.specs.Parts.{whole_text}
@@ -27,18 +27,18 @@ use Rattle.lrc_explore_text.proofs.Led.{plain_stuck, plain_traps}
 
 -- ---- either question
 
-module _ (labels : List Label) (program : Program) (nodes : ℕ) (lines : List ℕ) (outcomes : Bool) where
+module _ (wording : Wording) (program : Program) (nodes : ℕ) (lines : List ℕ) (outcomes : Bool) where
   pub of_outcomes : (r : Result Printout ExploreFault) → outcomes ≡ true → IfOk r (λ p. TellsOutcomes program nodes (whole_text p.parts.items))
-      → IfOk r (λ p. p.status ≡ 0) → IfOk r (λ p. Explores labels program nodes lines outcomes (whole_text p.parts.items) p.status)
+      → IfOk r (λ p. p.status ≡ 0) → IfOk r (λ p. Explores wording program nodes lines outcomes (whole_text p.parts.items) p.status)
   of_outcomes (Err fault) is text status = tt
   of_outcomes (Ok p) is text status =
-      subst (λ b. Explores labels program nodes lines b (whole_text p.parts.items) p.status) (sym is)
-      (subst (λ s. Explores labels program nodes lines true (whole_text p.parts.items) s) (sym status) (tells_outcomes text))
+      subst (λ b. Explores wording program nodes lines b (whole_text p.parts.items) p.status) (sym is)
+      (subst (λ s. Explores wording program nodes lines true (whole_text p.parts.items) s) (sym status) (tells_outcomes text))
 
-  pub of_orders : (r : Result Printout ExploreFault) → outcomes ≡ false → IfOk r (λ p. TellsOrders labels program nodes lines (whole_text p.parts.items) p.status)
-      → IfOk r (λ p. Explores labels program nodes lines outcomes (whole_text p.parts.items) p.status)
+  pub of_orders : (r : Result Printout ExploreFault) → outcomes ≡ false → IfOk r (λ p. TellsOrders wording program nodes lines (whole_text p.parts.items) p.status)
+      → IfOk r (λ p. Explores wording program nodes lines outcomes (whole_text p.parts.items) p.status)
   of_orders (Err fault) is text = tt
-  of_orders (Ok p) is text = subst (λ b. Explores labels program nodes lines b (whole_text p.parts.items) p.status) (sym is) (tells_orders text)
+  of_orders (Ok p) is text = subst (λ b. Explores wording program nodes lines b (whole_text p.parts.items) p.status) (sym is) (tells_orders text)
 
 module _ (program : Program) (nodes most : ℕ) (outcomes : Bool) (r : Result Printout ExploreFault) where
   pub fits_noted : outcomes ≡ true → IfOk r (λ p. FitsSettledNoted program nodes most) → IfOk r (λ p. MeetsFew program nodes most outcomes p.status)
@@ -54,52 +54,52 @@ module _ (program : Program) (nodes most : ℕ) (outcomes : Bool) (r : Result Pr
 
 -- ---- one order
 
-module _ (labels : List Label) (program : Program) (nodes : ℕ) (lines : List ℕ) (order : List ℕ) (acts : List Act) (led : plain program nodes order ≡ Some acts) where
+module _ (wording : Wording) (program : Program) (nodes : ℕ) (lines : List ℕ) (order : List ℕ) (acts : List Act) (led : plain program nodes order ≡ Some acts) where
   pub of_stuck : (gets : GetsStuck program nodes order) → (out : List ℕ)
-      → out ≡ codes "some order gets stuck:\n" ++ order_text program nodes lines acts ++ ends_text labels program nodes lines acts
-      → SaysStuck labels program nodes lines true out
+      → out ≡ codes "some order gets stuck:\n" ++ order_text program nodes lines acts ++ ends_text wording program nodes lines acts
+      → SaysStuck wording program nodes lines true out
   of_stuck gets out is =
       let same : acts ≡ gets.acts = same_Some acts gets.acts (sym led ∙ plain_stuck program nodes order gets) in
-      let whole = is ∙ ap (λ a. codes "some order gets stuck:\n" ++ order_text program nodes lines a ++ ends_text labels program nodes lines a) same in
-      subst (λ o. SaysStuck labels program nodes lines true o) (sym whole) (some_stuck gets)
+      let whole = is ∙ ap (λ a. codes "some order gets stuck:\n" ++ order_text program nodes lines a ++ ends_text wording program nodes lines a) same in
+      subst (λ o. SaysStuck wording program nodes lines true o) (sym whole) (some_stuck gets)
 
   pub of_trap : (traps : NodeTraps program nodes order) → (out : List ℕ)
-      → out ≡ codes "some order traps:\n" ++ order_text program nodes lines acts ++ trapped_text labels program nodes lines acts
-      → SaysTrap labels program nodes lines true out
+      → out ≡ codes "some order traps:\n" ++ order_text program nodes lines acts ++ trapped_text wording program nodes lines acts
+      → SaysTrap wording program nodes lines true out
   of_trap traps out is =
       let same : acts ≡ traps.acts = same_Some acts traps.acts (sym led ∙ plain_traps program nodes order traps) in
-      let whole = is ∙ ap (λ a. codes "some order traps:\n" ++ order_text program nodes lines a ++ trapped_text labels program nodes lines a) same in
-      subst (λ o. SaysTrap labels program nodes lines true o) (sym whole) (some_trap traps)
+      let whole = is ∙ ap (λ a. codes "some order traps:\n" ++ order_text program nodes lines a ++ trapped_text wording program nodes lines a) same in
+      subst (λ o. SaysTrap wording program nodes lines true o) (sym whole) (some_trap traps)
 
 -- ---- what is found besides races
 
 -- both sections behind a first line
-pub of_sections : (labels : List Label) (program : Program) (nodes : ℕ) (lines head first second : List ℕ) (stuck traps : Bool) (out : List ℕ) (status : ℕ)
-    → SaysStuck labels program nodes lines stuck first → SaysTrap labels program nodes lines traps second → out ≡ head ++ (first ++ second)
-    → status ≡ findings_status stuck traps → TellsBehind labels program nodes lines head out status
-of_sections labels program nodes lines head first second stuck traps out status s t is so = record {
+pub of_sections : (wording : Wording) (program : Program) (nodes : ℕ) (lines head first second : List ℕ) (stuck traps : Bool) (out : List ℕ) (status : ℕ)
+    → SaysStuck wording program nodes lines stuck first → SaysTrap wording program nodes lines traps second → out ≡ head ++ (first ++ second)
+    → status ≡ findings_status stuck traps → TellsBehind wording program nodes lines head out status
+of_sections wording program nodes lines head first second stuck traps out status s t is so = record {
   text = first ++ second;
   is = is;
-  tells = subst (λ n. TellsFindings labels program nodes lines (first ++ second) n) (sym so) (tells_findings s t);
+  tells = subst (λ n. TellsFindings wording program nodes lines (first ++ second) n) (sym so) (tells_findings s t);
 }
 
-module _ (labels : List Label) (program : Program) (nodes : ℕ) (lines : List ℕ) where
+module _ (wording : Wording) (program : Program) (nodes : ℕ) (lines : List ℕ) where
   pub of_free : HasNoRace program nodes → (out : List ℕ) (status : ℕ)
-      → TellsBehind labels program nodes lines (codes "race free in every order\n") out status → TellsOrders labels program nodes lines out status
-  of_free none out status b = subst (λ o. TellsOrders labels program nodes lines o status) (sym b.is) (free none b.tells)
+      → TellsBehind wording program nodes lines (codes "race free in every order\n") out status → TellsOrders wording program nodes lines out status
+  of_free none out status b = subst (λ o. TellsOrders wording program nodes lines o status) (sym b.is) (free none b.tells)
 
-  pub of_found : (out : List ℕ) (status : ℕ) → TellsBehind labels program nodes lines [] out status → TellsFindings labels program nodes lines out status
-  of_found out status b = subst (λ o. TellsFindings labels program nodes lines o status) (sym b.is) b.tells
+  pub of_found : (out : List ℕ) (status : ℕ) → TellsBehind wording program nodes lines [] out status → TellsFindings wording program nodes lines out status
+  of_found out status b = subst (λ o. TellsFindings wording program nodes lines o status) (sym b.is) b.tells
 
 -- what an earliest race comes of has its last act behind the other one
 last_place : (program : Program) (nodes : ℕ) (run told : List Act) (tells : TellsRace program nodes run told) → length told - 1 ≡ length tells.before + 1
 last_place program nodes run told tells =
     let long = ap (λ (l : List Act). length l) tells.ends.is ∙ length-append tells.before _ in omega (arith, long)
 
-pub of_race : (labels : List Label) (program : Program) (nodes : ℕ) (lines order : List ℕ) (run acts : List Act) → plain program nodes order ≡ Some run
+pub of_race : (wording : Wording) (program : Program) (nodes : ℕ) (lines order : List ℕ) (run acts : List Act) → plain program nodes order ≡ Some run
     → TellsRace program nodes run acts → (last : ℕ) (races : List Race) → last ≡ length acts - 1 → AreRacesAt acts last races → (out : List ℕ)
-    → out ≡ order_text program nodes lines acts ++ races_text races ++ first_race_text (Some last) → TellsOrders labels program nodes lines out 3
-of_race labels program nodes lines order run acts led tells last races at are out is =
+    → out ≡ order_text program nodes lines acts ++ races_text races ++ first_race_text (Some last) → TellsOrders wording program nodes lines out 3
+of_race wording program nodes lines order run acts led tells last races at are out is =
     let place : last ≡ length tells.before + 1 = at ∙ last_place program nodes run acts tells in
     let whole = is ∙ ap (λ n. order_text program nodes lines acts ++ races_text races ++ first_race_text (Some n)) place in
-    subst (λ o. TellsOrders labels program nodes lines o 3) (sym whole) (racy order led tells (subst (λ n. AreRacesAt acts n races) place are))
+    subst (λ o. TellsOrders wording program nodes lines o 3) (sym whole) (racy order led tells (subst (λ n. AreRacesAt acts n races) place are))

@@ -1,15 +1,15 @@
 -- What is printed of every order of a program, and the status after it.
 use Rattle.std.specs.Prelude.{◌≢◌, ℕ, Bool, true, false, List}
 use Rattle.lrc_lang.specs.declared.program.Program.{Program}
-use Rattle.lrc_labels.specs.Reading.{Label}
+use Rattle.lrc_explain_waits.specs.Traps.{Wording}
 use Rattle.lrc_explore.specs.Answers.{FitsSettled, FitsSettledNoted, MetTooMany}
 use Rattle.lrc_explore_text.specs.Orders.{TellsOrders}
 use Rattle.lrc_explore_text.specs.Outcomes.{TellsOutcomes}
 
 -- whether an order races or gets stuck, and whether a node traps in one; where outcomes are asked for, the outcomes
-pub data Explores (labels : List Label) (program : Program) (nodes : ℕ) (lines : List ℕ) : (outcomes : Bool) → (out : List ℕ) → (status : ℕ) → Type 0 where
-  tells_orders : {out : List ℕ} {status : ℕ} → TellsOrders labels program nodes lines out status → Explores labels program nodes lines false out status
-  tells_outcomes : {out : List ℕ} → TellsOutcomes program nodes out → Explores labels program nodes lines true out 0
+pub data Explores (wording : Wording) (program : Program) (nodes : ℕ) (lines : List ℕ) : (outcomes : Bool) → (out : List ℕ) → (status : ℕ) → Type 0 where
+  tells_orders : {out : List ℕ} {status : ℕ} → TellsOrders wording program nodes lines out status → Explores wording program nodes lines false out status
+  tells_outcomes : {out : List ℕ} → TellsOutcomes program nodes out → Explores wording program nodes lines true out 0
 
 -- the search met more states than it may, or looked at more acts; where outcomes are asked for, its states are told apart by their notes too
 abbrev pub MeetsTooMany : Program → (nodes most : ℕ) → (outcomes : Bool) → Type 0

@@ -1,7 +1,7 @@
 -- Texts of a line and of an order that shows what it says.
 use Rattle.std.specs.Prelude.{◌≡◌, ℕ, List, ◌++◌}
 use Rattle.lrc_lang.specs.declared.program.Program.{Program}
-use Rattle.lrc_labels.specs.Reading.{Label}
+use Rattle.lrc_explain_waits.specs.Traps.{Wording}
 use Rattle.lrc_explore_text.specs.declared.orders.Section.{Section}
 use Rattle.lrc_explore_text.specs.Orders.{TellsFindings}
 
@@ -10,7 +10,7 @@ abbrev pub section_text : Section → List ℕ
 section_text section = section.head.items ++ section.acts.items ++ section.ends.items
 
 -- behind a first line stands what is found besides races, and this is the status after it
-pub record TellsBehind (labels : List Label) (program : Program) (nodes : ℕ) (lines head out : List ℕ) (status : ℕ) : Type 0 where
+pub record TellsBehind (wording : Wording) (program : Program) (nodes : ℕ) (lines head out : List ℕ) (status : ℕ) : Type 0 where
   pub text : List ℕ
   pub is : out ≡ head ++ text
-  pub tells : TellsFindings labels program nodes lines text status
+  pub tells : TellsFindings wording program nodes lines text status

@@ -1,7 +1,7 @@
 // Whether every order of a program can end, as it is printed.
 
 ghost use Rattle.std.specs.Prelude.{◌≡◌, ◌≢◌, ◌++◌, false, IfErr, IfOk, map, option_map};
-ghost use Rattle.lrc_labels.specs.Reading.{label_seen};
+ghost use Rattle.lrc_explain_waits.specs.Traps.{wording_of};
 ghost use Rattle.lrc_text.specs.Parts.{whole_text};
 ghost use Rattle.lrc_exec.specs.Nodes.{AreNodes};
 ghost use Rattle.lrc_explore.specs.Answers.{FitsSettled, MetTooMany};
@@ -13,8 +13,8 @@ ghost use Rattle.lrc_orders_ends.specs.Ends.{CannotEnd, EveryOrderCanEnd, TellsE
 
 use crate::explored::Printout;
 use crate::orders::{Section, acts_of, acts_told, ends_told, found_told, line_alone, race_told};
+use lrc_explain_waits::Wording;
 use lrc_explore_ends::answers::{EndFindings, EndVerdict, explore_ends};
-use lrc_labels::label::Label;
 use lrc_lang::program::Program;
 use lrc_orders::search::ExploreFault;
 use std::alloc::{AllocError, Global};
@@ -24,7 +24,7 @@ use std::alloc::{AllocError, Global};
 /// end. The lines of nodes have the labels of words and locks. Fails as `explored` does.
 pub fn explored_ends(
     alloc: Global,
-    labels: &[Label<'_>],
+    wording: &Wording<'_, '_>,
     program: &Program,
     lines: &[u32],
     nodes: u32,
@@ -33,7 +33,7 @@ pub fn explored_ends(
 ) -> Result<Printout, ExploreFault>
     requires { AreNodes nodes }
     ensures ok { IfOk result (λ printout.
-        TellsEnds (map label_seen labels.now) program.now nodes lines.now races
+        TellsEnds (wording_of wording.now) program.now nodes lines.now races
         (whole_text printout.parts.items) printout.status) }
     ensures fits { IfOk result (λ printout. printout.status ≢ 3
         → FitsSettled program.now nodes most) }
@@ -42,13 +42,13 @@ pub fn explored_ends(
         → MetTooMany program.now nodes most false) }
 {
     let verdict = explore_ends(alloc, program, nodes, most, races)?;
-    let printout = answer_told(alloc, labels, program, lines, nodes as u8, races, &verdict)?;
+    let printout = answer_told(alloc, wording, program, lines, nodes as u8, races, &verdict)?;
     Ok(printout)
 }
 
 fn answer_told(
     alloc: Global,
-    labels: &[Label<'_>],
+    wording: &Wording<'_, '_>,
     program: &Program,
     lines: &[u32],
     nodes: u8,
@@ -58,22 +58,22 @@ fn answer_told(
     requires nodes { AreNodes nodes }
     requires verdict { IsEndAnswer program.now nodes races verdict.now }
     ensures ok { IfOk result (λ printout.
-        TellsEnds (map label_seen labels.now) program.now nodes lines.now races
+        TellsEnds (wording_of wording.now) program.now nodes lines.now races
         (whole_text printout.parts.items) printout.status) }
     ensures free { IfOk result (λ printout. printout.status ≢ 3 → GoesThrough verdict.now) }
 {
     match verdict {
         EndVerdict::Through(found) => {
-            through_told(alloc, labels, program, lines, nodes, races, found)
+            through_told(alloc, wording, program, lines, nodes, races, found)
         }
-        EndVerdict::Racy { order } => race_told(alloc, labels, program, lines, nodes, order),
+        EndVerdict::Racy { order } => race_told(alloc, wording, program, lines, nodes, order),
     }
 }
 
 // What was found besides races.
 fn through_told(
     alloc: Global,
-    labels: &[Label<'_>],
+    wording: &Wording<'_, '_>,
     program: &Program,
     lines: &[u32],
     nodes: u8,
@@ -83,12 +83,12 @@ fn through_told(
     requires nodes { AreNodes nodes }
     requires found { IsEndAnswer program.now nodes races (Through found.now) }
     ensures { IfOk result (λ printout.
-        TellsEnds (map label_seen labels.now) program.now nodes lines.now races
+        TellsEnds (wording_of wording.now) program.now nodes lines.now races
         (whole_text printout.parts.items) printout.status) }
 {
     let head = first_line(races);
-    let besides = found_told(alloc, head, labels, program, lines, nodes, &found.besides)?;
-    let ends = end_section(alloc, labels, program, lines, nodes, &found.lost)?;
+    let besides = found_told(alloc, head, wording, program, lines, nodes, &found.besides)?;
+    let ends = end_section(alloc, wording, program, lines, nodes, &found.lost)?;
     joined(besides, ends)
 }
 
@@ -121,7 +121,7 @@ fn joined(before: Printout, section: Section) -> Result<Printout, AllocError>
 // What is said of ends.
 fn end_section(
     alloc: Global,
-    labels: &[Label<'_>],
+    wording: &Wording<'_, '_>,
     program: &Program,
     lines: &[u32],
     nodes: u8,
@@ -129,30 +129,30 @@ fn end_section(
 ) -> Result<Section, AllocError>
     requires nodes { AreNodes nodes }
     requires lost { TellsEnd program.now nodes (option_map (λ order. order.items) lost.now) }
-    ensures { IfOk result (λ section. SaysEnds (map label_seen labels.now) program.now nodes
+    ensures { IfOk result (λ section. SaysEnds (wording_of wording.now) program.now nodes
         lines.now section.told (section_text section)) }
 {
     match lost {
-        None => all_end(alloc, labels, program, lines, nodes),
-        Some(order) => lost_told(alloc, labels, program, lines, nodes, order),
+        None => all_end(alloc, wording, program, lines, nodes),
+        Some(order) => lost_told(alloc, wording, program, lines, nodes, order),
     }
 }
 
 // That every order can end.
 fn all_end(
     alloc: Global,
-    labels: &[Label<'_>],
+    wording: &Wording<'_, '_>,
     program: &Program,
     lines: &[u32],
     nodes: u8,
 ) -> Result<Section, AllocError>
     requires { EveryOrderCanEnd program.now nodes }
-    ensures { IfOk result (λ section. SaysEnds (map label_seen labels.now) program.now nodes
+    ensures { IfOk result (λ section. SaysEnds (wording_of wording.now) program.now nodes
         lines.now section.told (section_text section)) }
 {
-    // For the proof: the lines are in range, and the labels are those of the others.
+    // For the proof: the lines are in range, and the wording is that of the others.
     let _lines = lines;
-    let _labels = labels;
+    let _wording = wording;
     let section = line_alone(alloc, b"every order can end\n")?;
     Ok(section)
 }
@@ -160,7 +160,7 @@ fn all_end(
 // An order that can no longer end, and where it leaves the nodes.
 fn lost_told(
     alloc: Global,
-    labels: &[Label<'_>],
+    wording: &Wording<'_, '_>,
     program: &Program,
     lines: &[u32],
     nodes: u8,
@@ -168,13 +168,13 @@ fn lost_told(
 ) -> Result<Section, AllocError>
     requires nodes { AreNodes nodes }
     requires lost { CannotEnd program.now nodes order.now }
-    ensures { IfOk result (λ section. SaysEnds (map label_seen labels.now) program.now nodes
+    ensures { IfOk result (λ section. SaysEnds (wording_of wording.now) program.now nodes
         lines.now section.told (section_text section)) }
 {
     let made = acts_of(alloc, program, nodes, order)?;
     let head = Vec::from_slice(alloc, b"some order can no longer end:\n")?;
     let acts = acts_told(alloc, program, lines, nodes, &made)?;
-    let ends = ends_told(alloc, labels, program, lines, nodes, &made)?;
+    let ends = ends_told(alloc, wording, program, lines, nodes, &made)?;
     Ok(Section {
         told: true,
         head,

@@ -1,14 +1,14 @@
 // What is printed of every order of a program.
 
 ghost use Rattle.std.specs.Prelude.{◌≡◌, ◌≢◌, IfErr, IfOk, map};
-ghost use Rattle.lrc_labels.specs.Reading.{label_seen};
+ghost use Rattle.lrc_explain_waits.specs.Traps.{wording_of};
 ghost use Rattle.lrc_text.specs.Parts.{whole_text};
 ghost use Rattle.lrc_exec.specs.Nodes.{AreNodes};
 ghost use Rattle.lrc_explore_text.specs.Explored.{Explores, MeetsFew, MeetsTooMany};
 
 use crate::orders::orders_told;
 use crate::outcomes::outcomes_told;
-use lrc_labels::label::Label;
+use lrc_explain_waits::Wording;
 use lrc_lang::program::Program;
 use lrc_orders::search::ExploreFault;
 use std::alloc::Global;
@@ -30,7 +30,7 @@ pub struct Printout {
 /// acts one after another. Fails if memory runs out.
 pub fn explored(
     alloc: Global,
-    labels: &[Label<'_>],
+    wording: &Wording<'_, '_>,
     program: &Program,
     lines: &[u32],
     nodes: u32,
@@ -39,7 +39,7 @@ pub fn explored(
 ) -> Result<Printout, ExploreFault>
     requires { AreNodes nodes }
     ensures ok { IfOk result (λ printout.
-        Explores (map label_seen labels.now) program.now nodes lines.now outcomes
+        Explores (wording_of wording.now) program.now nodes lines.now outcomes
         (whole_text printout.parts.items) printout.status) }
     ensures fits { IfOk result (λ printout.
         MeetsFew program.now nodes most outcomes printout.status) }
@@ -50,6 +50,6 @@ pub fn explored(
     if outcomes {
         outcomes_told(alloc, program, nodes, most)
     } else {
-        orders_told(alloc, labels, program, lines, nodes, most)
+        orders_told(alloc, wording, program, lines, nodes, most)
     }
 }

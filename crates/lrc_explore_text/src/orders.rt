@@ -2,7 +2,7 @@
 
 ghost use Rattle.std.specs.Prelude.{◌≡◌, ◌≢◌, ◌<◌, ◌-◌, ◌++◌, ℕ, List, IfErr, IfOk, IsSome, Some, All, false, length, map, option_map};
 ghost use Rattle.lrc_judge.specs.declared.TheConstants.{NODES};
-ghost use Rattle.lrc_labels.specs.Reading.{label_seen};
+ghost use Rattle.lrc_explain_waits.specs.Traps.{wording_of};
 ghost use Rattle.lrc_text.specs.Parts.{whole_text};
 ghost use Rattle.lrc_exec.specs.Plain.{plain};
 ghost use Rattle.lrc_exec.specs.Nodes.{AreNodes};
@@ -21,9 +21,8 @@ use crate::trapped::trapped_part;
 use lrc_acts_text::acts_part;
 use lrc_exec::code::Code;
 use lrc_exec::plain::plain_run;
-use lrc_explain_waits::stuck_part;
+use lrc_explain_waits::{Wording, stuck_part};
 use lrc_explore::answers::{explore, findings};
-use lrc_labels::label::Label;
 use lrc_lang::program::Program;
 use lrc_lines::walks::lines_of_acts;
 use lrc_orders::search::{ExploreFault, Findings, Verdict};
@@ -35,7 +34,7 @@ use std::alloc::{AllocError, Global};
 /// the labels of words and locks.
 pub(crate) fn orders_told(
     alloc: Global,
-    labels: &[Label<'_>],
+    wording: &Wording<'_, '_>,
     program: &Program,
     lines: &[u32],
     nodes: u32,
@@ -43,7 +42,7 @@ pub(crate) fn orders_told(
 ) -> Result<Printout, ExploreFault>
     requires { AreNodes nodes }
     ensures ok { IfOk result (λ printout.
-        TellsOrders (map label_seen labels.now) program.now nodes lines.now
+        TellsOrders (wording_of wording.now) program.now nodes lines.now
         (whole_text printout.parts.items) printout.status) }
     ensures fits { IfOk result (λ printout. printout.status ≢ 3
         → FitsSettled program.now nodes most) }
@@ -52,7 +51,7 @@ pub(crate) fn orders_told(
         → MetTooMany program.now nodes most false) }
 {
     let verdict = explore(alloc, program, nodes, most)?;
-    let printout = verdict_told(alloc, labels, program, lines, nodes as u8, &verdict)?;
+    let printout = verdict_told(alloc, wording, program, lines, nodes as u8, &verdict)?;
     Ok(printout)
 }
 
@@ -60,7 +59,7 @@ pub(crate) fn orders_told(
 /// have the labels of words and locks. Fails as `explored` does.
 pub fn findings_told(
     alloc: Global,
-    labels: &[Label<'_>],
+    wording: &Wording<'_, '_>,
     program: &Program,
     lines: &[u32],
     nodes: u32,
@@ -68,7 +67,7 @@ pub fn findings_told(
 ) -> Result<Printout, ExploreFault>
     requires { AreNodes nodes }
     ensures ok { IfOk result (λ printout.
-        TellsFindings (map label_seen labels.now) program.now nodes lines.now
+        TellsFindings (wording_of wording.now) program.now nodes lines.now
         (whole_text printout.parts.items) printout.status) }
     ensures fits { IfOk result (λ _. FitsSettled program.now nodes most) }
     ensures nodes { IfErr result (λ fault. fault ≢ ExploreFault.BadNodes) }
@@ -76,13 +75,13 @@ pub fn findings_told(
         → MetTooMany program.now nodes most false) }
 {
     let found = findings(alloc, program, nodes, most)?;
-    let printout = found_told(alloc, b"", labels, program, lines, nodes as u8, &found)?;
+    let printout = found_told(alloc, b"", wording, program, lines, nodes as u8, &found)?;
     Ok(printout)
 }
 
 fn verdict_told(
     alloc: Global,
-    labels: &[Label<'_>],
+    wording: &Wording<'_, '_>,
     program: &Program,
     lines: &[u32],
     nodes: u8,
@@ -91,16 +90,16 @@ fn verdict_told(
     requires nodes { AreNodes nodes }
     requires verdict { IsAnswer program.now nodes verdict.now }
     ensures ok { IfOk result (λ printout.
-        TellsOrders (map label_seen labels.now) program.now nodes lines.now
+        TellsOrders (wording_of wording.now) program.now nodes lines.now
         (whole_text printout.parts.items) printout.status) }
     ensures free { IfOk result (λ printout. printout.status ≢ 3 → FindsNoRace verdict.now) }
 {
     match verdict {
         Verdict::RaceFree(found) => {
             let head = b"race free in every order\n";
-            found_told(alloc, head, labels, program, lines, nodes, found)
+            found_told(alloc, head, wording, program, lines, nodes, found)
         }
-        Verdict::Racy { order } => race_told(alloc, labels, program, lines, nodes, order),
+        Verdict::Racy { order } => race_told(alloc, wording, program, lines, nodes, order),
     }
 }
 
@@ -118,7 +117,7 @@ pub(crate) struct Section {
 pub(crate) fn found_told(
     alloc: Global,
     head: &[u8],
-    labels: &[Label<'_>],
+    wording: &Wording<'_, '_>,
     program: &Program,
     lines: &[u32],
     nodes: u8,
@@ -127,11 +126,11 @@ pub(crate) fn found_told(
     requires nodes { AreNodes nodes }
     requires found { AreFindings program.now nodes found.now }
     ensures { IfOk result (λ printout.
-        TellsBehind (map label_seen labels.now) program.now nodes lines.now head.now
+        TellsBehind (wording_of wording.now) program.now nodes lines.now head.now
         (whole_text printout.parts.items) printout.status) }
 {
-    let stuck = stuck_section(alloc, labels, program, lines, nodes, &found.stuck)?;
-    let traps = trap_section(alloc, labels, program, lines, nodes, &found.trap)?;
+    let stuck = stuck_section(alloc, wording, program, lines, nodes, &found.stuck)?;
+    let traps = trap_section(alloc, wording, program, lines, nodes, &found.trap)?;
     let status = findings_status(stuck.told, traps.told);
     let parts = parts_of(alloc, head, stuck, traps)?;
     Ok(Printout { parts, status })
@@ -181,7 +180,7 @@ pub(crate) fn line_alone(alloc: Global, line: &[u8]) -> Result<Section, AllocErr
 // What is said of stuck orders.
 fn stuck_section(
     alloc: Global,
-    labels: &[Label<'_>],
+    wording: &Wording<'_, '_>,
     program: &Program,
     lines: &[u32],
     nodes: u8,
@@ -190,30 +189,30 @@ fn stuck_section(
     requires nodes { AreNodes nodes }
     requires stuck { TellsStuck program.now nodes
         (option_map (λ order. order.items) stuck.now) }
-    ensures { IfOk result (λ section. SaysStuck (map label_seen labels.now) program.now nodes
+    ensures { IfOk result (λ section. SaysStuck (wording_of wording.now) program.now nodes
         lines.now section.told (section_text section)) }
 {
     match stuck {
-        None => none_stuck(alloc, labels, program, lines, nodes),
-        Some(order) => stuck_told(alloc, labels, program, lines, nodes, order),
+        None => none_stuck(alloc, wording, program, lines, nodes),
+        Some(order) => stuck_told(alloc, wording, program, lines, nodes, order),
     }
 }
 
 // That no order gets stuck.
 fn none_stuck(
     alloc: Global,
-    labels: &[Label<'_>],
+    wording: &Wording<'_, '_>,
     program: &Program,
     lines: &[u32],
     nodes: u8,
 ) -> Result<Section, AllocError>
     requires { NeverStuck program.now nodes }
-    ensures { IfOk result (λ section. SaysStuck (map label_seen labels.now) program.now nodes
+    ensures { IfOk result (λ section. SaysStuck (wording_of wording.now) program.now nodes
         lines.now section.told (section_text section)) }
 {
-    // For the proof: the lines are in range, and the labels are those of the others.
+    // For the proof: the lines are in range, and the wording is that of the others.
     let _lines = lines;
-    let _labels = labels;
+    let _wording = wording;
     let section = line_alone(alloc, b"no order gets stuck\n")?;
     Ok(section)
 }
@@ -221,7 +220,7 @@ fn none_stuck(
 // An order that gets stuck, and where it leaves the nodes.
 fn stuck_told(
     alloc: Global,
-    labels: &[Label<'_>],
+    wording: &Wording<'_, '_>,
     program: &Program,
     lines: &[u32],
     nodes: u8,
@@ -229,13 +228,13 @@ fn stuck_told(
 ) -> Result<Section, AllocError>
     requires nodes { AreNodes nodes }
     requires stuck { GetsStuck program.now nodes order.now }
-    ensures { IfOk result (λ section. SaysStuck (map label_seen labels.now) program.now nodes
+    ensures { IfOk result (λ section. SaysStuck (wording_of wording.now) program.now nodes
         lines.now section.told (section_text section)) }
 {
     let made = acts_of(alloc, program, nodes, order)?;
     let head = Vec::from_slice(alloc, b"some order gets stuck:\n")?;
     let acts = acts_told(alloc, program, lines, nodes, &made)?;
-    let ends = ends_told(alloc, labels, program, lines, nodes, &made)?;
+    let ends = ends_told(alloc, wording, program, lines, nodes, &made)?;
     Ok(Section {
         told: true,
         head,
@@ -247,7 +246,7 @@ fn stuck_told(
 // What is said of traps.
 fn trap_section(
     alloc: Global,
-    labels: &[Label<'_>],
+    wording: &Wording<'_, '_>,
     program: &Program,
     lines: &[u32],
     nodes: u8,
@@ -255,30 +254,30 @@ fn trap_section(
 ) -> Result<Section, AllocError>
     requires nodes { AreNodes nodes }
     requires trap { TellsTrap program.now nodes (option_map (λ order. order.items) trap.now) }
-    ensures { IfOk result (λ section. SaysTrap (map label_seen labels.now) program.now nodes
+    ensures { IfOk result (λ section. SaysTrap (wording_of wording.now) program.now nodes
         lines.now section.told (section_text section)) }
 {
     match trap {
-        None => none_traps(alloc, labels, program, lines, nodes),
-        Some(order) => trap_told(alloc, labels, program, lines, nodes, order),
+        None => none_traps(alloc, wording, program, lines, nodes),
+        Some(order) => trap_told(alloc, wording, program, lines, nodes, order),
     }
 }
 
 // That no node traps in any order.
 fn none_traps(
     alloc: Global,
-    labels: &[Label<'_>],
+    wording: &Wording<'_, '_>,
     program: &Program,
     lines: &[u32],
     nodes: u8,
 ) -> Result<Section, AllocError>
     requires { NeverTraps program.now nodes }
-    ensures { IfOk result (λ section. SaysTrap (map label_seen labels.now) program.now nodes
+    ensures { IfOk result (λ section. SaysTrap (wording_of wording.now) program.now nodes
         lines.now section.told (section_text section)) }
 {
-    // For the proof: the lines are in range, and the labels are those of the others.
+    // For the proof: the lines are in range, and the wording is that of the others.
     let _lines = lines;
-    let _labels = labels;
+    let _wording = wording;
     let section = line_alone(alloc, b"no node traps\n")?;
     Ok(section)
 }
@@ -286,7 +285,7 @@ fn none_traps(
 // An order in which a node traps, and the nodes that have trapped after it.
 fn trap_told(
     alloc: Global,
-    labels: &[Label<'_>],
+    wording: &Wording<'_, '_>,
     program: &Program,
     lines: &[u32],
     nodes: u8,
@@ -294,13 +293,13 @@ fn trap_told(
 ) -> Result<Section, AllocError>
     requires nodes { AreNodes nodes }
     requires traps { NodeTraps program.now nodes order.now }
-    ensures { IfOk result (λ section. SaysTrap (map label_seen labels.now) program.now nodes
+    ensures { IfOk result (λ section. SaysTrap (wording_of wording.now) program.now nodes
         lines.now section.told (section_text section)) }
 {
     let made = acts_of(alloc, program, nodes, order)?;
     let head = Vec::from_slice(alloc, b"some order traps:\n")?;
     let acts = acts_told(alloc, program, lines, nodes, &made)?;
-    let ends = trapped_part(alloc, labels, program, lines, nodes, &made)?;
+    let ends = trapped_part(alloc, wording, program, lines, nodes, &made)?;
     Ok(Section {
         told: true,
         head,
@@ -312,7 +311,7 @@ fn trap_told(
 // What the earliest race of an order comes of.
 pub(crate) fn race_told(
     alloc: Global,
-    labels: &[Label<'_>],
+    wording: &Wording<'_, '_>,
     program: &Program,
     lines: &[u32],
     nodes: u8,
@@ -321,19 +320,19 @@ pub(crate) fn race_told(
     requires nodes { AreNodes nodes }
     requires ends { EndsInRace program.now nodes order.now }
     ensures ok { IfOk result (λ printout.
-        TellsOrders (map label_seen labels.now) program.now nodes lines.now
+        TellsOrders (wording_of wording.now) program.now nodes lines.now
         (whole_text printout.parts.items) printout.status) }
     ensures status { IfOk result (λ printout. printout.status ≡ 3) }
 {
     let raced = acts_of(alloc, program, nodes, order)?;
     let acts = lrc_explore_causes::told::race_told(alloc, program, nodes, &raced)?;
-    last_race_told(alloc, labels, program, lines, nodes, &acts)
+    last_race_told(alloc, wording, program, lines, nodes, &acts)
 }
 
 // What an earliest race comes of, and its races.
 fn last_race_told(
     alloc: Global,
-    labels: &[Label<'_>],
+    wording: &Wording<'_, '_>,
     program: &Program,
     lines: &[u32],
     nodes: u8,
@@ -343,7 +342,7 @@ fn last_race_told(
     requires tells { (order : List ℕ) × (run : List ActType)
         × (plain program.now nodes order ≡ Some run) × TellsRace program.now nodes run acts.now }
     ensures ok { IfOk result (λ printout.
-        TellsOrders (map label_seen labels.now) program.now nodes lines.now
+        TellsOrders (wording_of wording.now) program.now nodes lines.now
         (whole_text printout.parts.items) printout.status) }
     ensures status { IfOk result (λ printout. printout.status ≡ 3) }
 {
@@ -401,17 +400,17 @@ pub fn acts_of(
 // Where acts leave the nodes that are unfinished.
 pub(crate) fn ends_told(
     alloc: Global,
-    labels: &[Label<'_>],
+    wording: &Wording<'_, '_>,
     program: &Program,
     lines: &[u32],
     nodes: u8,
     acts: &[Act],
 ) -> Result<Vec<u8>, AllocError>
     ensures { IfOk result (λ text. text.items
-        ≡ ends_text (map label_seen labels.now) program.now nodes lines.now acts.now) }
+        ≡ ends_text (wording_of wording.now) program.now nodes lines.now acts.now) }
 {
     let code = Code::new(alloc, program)?;
-    stuck_part(alloc, labels, &code, lines, nodes, None, acts)
+    stuck_part(alloc, wording, &code, lines, nodes, None, acts)
 }
 
 /// Returns a line for each act of an order.

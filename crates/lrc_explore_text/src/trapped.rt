@@ -3,13 +3,16 @@
 ghost use Rattle.std.specs.Prelude.{◌≡◌, ◌++◌, IfOk, None, OnOk, map};
 ghost use Rattle.lrc_labels.specs.Reading.{label_seen};
 ghost use Rattle.lrc_explain_waits.specs.Stand.{stands_of};
+ghost use Rattle.lrc_explain_waits.specs.Traps.{traps_told, wording_of};
+ghost use Rattle.lrc_named_core.specs.View.{trap_of};
 ghost use Rattle.lrc_explore_text.specs.Trapped.{trapped_line, trapped_lines, trapped_text};
 
 use lrc_exec::code::Code;
-use lrc_explain_waits::{Fate, Stand, push_end, stands_of};
+use lrc_explain_waits::{Fate, Stand, Wording, push_end, stands_of, trap_at, traps_told};
 use lrc_labels::label::Label;
 use lrc_lang::program::Program;
 use lrc_lines::walks::follow_acts;
+use lrc_named_core::tree::Trap;
 use lrc_trace::act::Act;
 use std::alloc::{AllocError, Global};
 
@@ -18,15 +21,17 @@ fn push_trapped(
     alloc: Global,
     text: &mut Vec<u8>,
     labels: &[Label<'_>],
+    trap: Trap<'_>,
     stands: &[Stand],
     me: usize,
     stand: Stand,
 ) -> Result<(), AllocError>
     ensures { OnOk result (text.new.items
-        ≡ text.old.items ++ trapped_line (map label_seen labels.now) stands.now me stand) }
+        ≡ text.old.items
+        ++ trapped_line (map label_seen labels.now) (trap_of trap.entry) stands.now me stand) }
 {
     match stand.fate {
-        Fate::Trapped(_) => push_end(alloc, text, labels, stands, me, stand),
+        Fate::Trapped(_) => push_end(alloc, text, labels, trap, stands, me, stand),
         _ => Ok(()),
     }
 }
@@ -34,14 +39,16 @@ fn push_trapped(
 fn trapped_lines(
     alloc: Global,
     labels: &[Label<'_>],
+    traps: &[Trap<'_>],
     stands: &[Stand],
 ) -> Result<Vec<u8>, AllocError>
     ensures { IfOk result (λ part. part.items
-        ≡ trapped_lines (map label_seen labels.now) stands.now) }
+        ≡ trapped_lines (map label_seen labels.now) (map trap_of traps.now) stands.now) }
 {
     let mut text = Vec::new(alloc);
     for me in 0..stands.len() {
-        push_trapped(alloc, &mut text, labels, stands, me, stands[me])?;
+        let trap = trap_at(traps, me);
+        push_trapped(alloc, &mut text, labels, trap, stands, me, stands[me])?;
     }
     Ok(text)
 }
@@ -49,34 +56,36 @@ fn trapped_lines(
 // The same of the nodes of a program's code after acts.
 fn trapped_after(
     alloc: Global,
-    labels: &[Label<'_>],
+    wording: &Wording<'_, '_>,
     code: &Code<'_>,
     lines: &[u32],
     nodes: u8,
     acts: &[Act],
 ) -> Result<Vec<u8>, AllocError>
     ensures { IfOk result (λ part. part.items
-        ≡ trapped_lines (map label_seen labels.now)
+        ≡ trapped_lines (wording_of wording.now).labels
+        (traps_told (wording_of wording.now).traps code.now nodes acts.now)
         (stands_of code.now nodes lines.now None acts.now)) }
 {
     let followed = follow_acts(alloc, code, lines, nodes, acts)?;
     let stands = stands_of(alloc, &followed, nodes, None, acts)?;
-    trapped_lines(alloc, labels, &stands)
+    let traps = traps_told(alloc, code, wording.traps, nodes, acts)?;
+    trapped_lines(alloc, wording.labels, &traps, &stands)
 }
 
 /// Returns what is printed of the nodes that have trapped after acts, ascending: two lines for each. `lines` has the
 /// lines of the program's statements, and of the text's end behind them.
 pub(crate) fn trapped_part(
     alloc: Global,
-    labels: &[Label<'_>],
+    wording: &Wording<'_, '_>,
     program: &Program,
     lines: &[u32],
     nodes: u8,
     acts: &[Act],
 ) -> Result<Vec<u8>, AllocError>
     ensures { IfOk result (λ text. text.items
-        ≡ trapped_text (map label_seen labels.now) program.now nodes lines.now acts.now) }
+        ≡ trapped_text (wording_of wording.now) program.now nodes lines.now acts.now) }
 {
     let code = Code::new(alloc, program)?;
-    trapped_after(alloc, labels, &code, lines, nodes, acts)
+    trapped_after(alloc, wording, &code, lines, nodes, acts)
 }

@@ -13,14 +13,16 @@ use Rattle.lrc_named_expression_faults.specs.declared.fault.Fault.{Fault}
 use Rattle.lrc_named_expression_faults.specs.Fault.{IsFirstOf}
 use Rattle.lrc_named_faults.specs.declared.layout.Layout as code_layout
 use Rattle.lrc_named_faults.specs.Program.{IsFaultOf}
+use Rattle.lrc_named_core.specs.Tree.{Origin, Trap}
 use Rattle.lrc_named_limits.specs.declared.excess.Excess.{Excess}
+use Rattle.lrc_named_origins.specs.Origins.{lines_told, traps_told}
 use Rattle.lrc_named_check.specs.Program.{IsClean}
 use Rattle.lrc_named_written.specs.Written.{IsCoreLong, IsCoreOver}
 use Rattle.lrc_named_written.specs.Written as written
 use Rattle.lrc_named.specs.declared.fault.NamedFault.TheVariants.{Names, Text}
 use Rattle.lrc_named.specs.Faults.{fault_of_kind}
-use Rattle.lrc_named.specs.Lines.{lines_of}
-use Rattle.lrc_named.specs.Named.{IsCoreText, IsFaultless, IsNamedFault}
+use Rattle.lrc_named.specs.Lines.{last_of, lines_of}
+use Rattle.lrc_named.specs.Named.{IsCoreTextOn, IsFaultless, IsNamedFault}
 
 -- ---- the faults of the text as such, and of its names
 
@@ -59,16 +61,25 @@ faultless : (text : List ℕ) (t : List Located) (tree : NamedTree) (layout : co
 faultless text t tree layout parsed clean = record { parsed = parsed; faultless = clean.no_fault; are_declared = clean.declared }
 
 pub core_found : (text : List ℕ) (t : List Located) (tree : NamedTree) (layout : code_layout.Layout) (lines : List ℕ) (nodes : Option ℕ) (core : List ℕ)
-    → IsNamed text t tree → IsClean tree layout → lines ≡ lines_of t → nodes ≡ layout.nodes → written.IsCoreText (declared_of layout.names) lines tree core
-    → IsCoreText text nodes core
-core_found text t tree layout lines nodes core parsed clean are asked found = record {
-  tokens = t;
-  tree = tree;
-  declared = declared_of layout.names;
-  is = faultless text t tree layout parsed clean;
-  asked = asked ∙ clean.nodes;
-  core_is = subst (λ l. written.IsCoreText (declared_of layout.names) l tree core) are found;
-}
+    (origins : List Origin) (told : List ℕ) (traps : List Trap) → IsNamed text t tree → IsClean tree layout → lines ≡ lines_of t → nodes ≡ layout.nodes
+    → written.IsCoreTextFrom (declared_of layout.names) lines tree core origins → told ≡ lines_told lines origins ++ last_of lines ∷ []
+    → traps ≡ traps_told origins → IsCoreTextOn text nodes core told traps
+core_found text t tree layout lines nodes core origins told traps parsed clean are asked found lie said =
+    let so : written.IsCoreTextFrom (declared_of layout.names) (lines_of t) tree core origins =
+    subst (λ l. written.IsCoreTextFrom (declared_of layout.names) l tree core origins) are found in
+    record {
+      is = record {
+        tokens = t;
+        tree = tree;
+        declared = declared_of layout.names;
+        is = faultless text t tree layout parsed clean;
+        asked = asked ∙ clean.nodes;
+        core_is = so.is;
+      };
+      traps_are = said ∙ ap traps_told so.origins_are;
+      told_are = lie ∙ ap (λ l. lines_told l origins ++ last_of l ∷ []) are
+          ∙ ap (λ o. lines_told (lines_of t) o ++ last_of (lines_of t) ∷ []) so.origins_are;
+    }
 
 pub over_found : (text : List ℕ) (t : List Located) (tree : NamedTree) (layout : code_layout.Layout) (lines : List ℕ) (line : ℕ) (x : Excess)
     → IsNamed text t tree → IsClean tree layout → lines ≡ lines_of t → line ≡ slice_index lines x.at → IsCoreOver (declared_of layout.names) tree x

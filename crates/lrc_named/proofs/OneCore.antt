@@ -1,5 +1,5 @@
 -- A text has one core.
-use Rattle.std.proofs.Common.{◌≡◌, ◌≤◌, ℕ, zero, suc, codes, List, [], Option, Some, None, length, refl, sym, subst, ap, ◌∙◌, arith, inl, inr}
+use Rattle.std.proofs.Common.{◌≡◌, ◌≤◌, ◌++◌, ◌∷◌, ℕ, zero, suc, codes, List, [], Option, Some, None, length, refl, sym, subst, ap, ◌∙◌, arith, inl, inr}
 use Rattle.lrc_lang.specs.declared.fault.FaultKind.{FaultKind as TextKind}
 use Rattle.lrc_lang.specs.declared.fault.FaultKind.TheVariants as kinds
 use Rattle.lrc_named_tokens.specs.Token.{Located, Place}
@@ -15,20 +15,21 @@ use Rattle.lrc_named_expression_faults.specs.Fault.{IsFirstOf, IsNone, fault_at,
 use Rattle.lrc_named_faults.specs.Checked.{counted_in}
 use Rattle.lrc_named_faults.specs.Program.{IsFaultOf}
 use Rattle.lrc_named_faults.proofs.Declared.{one_table}
-use Rattle.lrc_named_core.specs.Tree.{Block}
+use Rattle.lrc_named_core.specs.Tree.{Block, Trap}
 use Rattle.lrc_named_limits.specs.declared.excess.Excess.{Excess}
 use Rattle.lrc_named_limits.specs.Limits.{ComesFirst}
 use Rattle.lrc_named_program.specs.Program.{IsCoreOf}
 use Rattle.lrc_named_statements_laws.proofs.Unique.{cores_unique}
 use Rattle.lrc_named_text.specs.Statements.{core_text}
+use Rattle.lrc_named_origins.specs.Origins.{lines_told, origins_of, traps_told}
 use Rattle.lrc_named_written.specs.Privates.{privates}
 use Rattle.lrc_named_written.specs.Written.{AreOver, IsCoreLong, IsCoreOver}
 use Rattle.lrc_named_written.specs.Written as written
 use Rattle.lrc_named.specs.declared.fault.NamedFault.{NamedFault}
 use Rattle.lrc_named.specs.declared.fault.NamedFault.TheVariants.{Text, Names, NoMemory}
-use Rattle.lrc_named.specs.Lines.{line_at, lines_of}
+use Rattle.lrc_named.specs.Lines.{last_of, line_at, lines_of}
 use Rattle.lrc_named.specs.Faults.{AreToldAlike}
-use Rattle.lrc_named.specs.Named.{IsCoreFault, IsCoreFaultOf, IsCoreText, IsFaultless, IsNameFault, IsNamedFault}
+use Rattle.lrc_named.specs.Named.{IsCoreFault, IsCoreFaultOf, IsCoreText, IsCoreTextOn, IsFaultless, IsNameFault, IsNamedFault}
 
 -- ---- one core of a program that declares this
 
@@ -105,6 +106,32 @@ one_count text nodes other core own a b =
     a.asked
     ∙ ap (λ (r : NamedTree). counted_in None r.declarations) (same_program text a.tokens b.tokens a.tree b.tree a.declared b.declared a.is b.is).tree
     ∙ sym b.asked
+
+one_block : (text : List ℕ) (nodes other : Option ℕ) (core own : List ℕ) (a : IsCoreText text nodes core) (b : IsCoreText text other own)
+    → a.core_is.statements ≡ b.core_is.statements
+one_block text nodes other core own a b =
+    let same = same_program text a.tokens b.tokens a.tree b.tree a.declared b.declared a.is b.is in
+    let theirs : IsCoreOf a.declared a.tree b.core_is.words b.core_is.locks b.core_is.statements =
+    moved (λ t r d. IsCoreOf d r b.core_is.words b.core_is.locks b.core_is.statements) a.tokens b.tokens a.tree b.tree a.declared b.declared same
+    b.core_is.translated in
+    cores_unique a.core_is.translated.translated theirs.translated
+
+pub one_trapping : (text : List ℕ) (nodes other : Option ℕ) (core own told said : List ℕ) (traps more : List Trap)
+    → IsCoreTextOn text nodes core told traps → IsCoreTextOn text other own said more → traps ≡ more
+one_trapping text nodes other core own told said traps more one two =
+    one.traps_are ∙ ap (λ (s : Block). traps_told (origins_of s)) (one_block text nodes other core own one.is two.is) ∙ sym two.traps_are
+
+pub one_telling : (text : List ℕ) (nodes other : Option ℕ) (core own told said : List ℕ) (traps more : List Trap)
+    → IsCoreTextOn text nodes core told traps → IsCoreTextOn text other own said more → told ≡ said
+one_telling text nodes other core own told said traps more one two =
+    let a = one.is in
+    let b = two.is in
+    let same = same_program text a.tokens b.tokens a.tree b.tree a.declared b.declared a.is b.is in
+    let statements = one_block text nodes other core own a b in
+    one.told_are
+    ∙ ap (λ (t : List Located). lines_told (lines_of t) (origins_of a.core_is.statements) ++ last_of (lines_of t) ∷ []) same.tokens
+    ∙ ap (λ (s : Block). lines_told (lines_of b.tokens) (origins_of s) ++ last_of (lines_of b.tokens) ∷ []) statements
+    ∙ sym two.told_are
 
 -- ---- no fault where there is a core
 

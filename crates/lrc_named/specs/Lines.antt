@@ -1,5 +1,5 @@
 -- The lines of tokens.
-use Rattle.std.specs.Prelude.{ℕ, List, map, slice_index}
+use Rattle.std.specs.Prelude.{ℕ, ◌-◌, List, length, map, slice_index}
 use Rattle.lrc_named_tokens.specs.Token.{Located}
 
 -- the line of each token
@@ -9,3 +9,7 @@ lines_of tokens = map (λ (found : Located). found.place.line) tokens
 -- the line of the token of this number, counted from 0
 abbrev pub line_at : List Located → ℕ → ℕ
 line_at tokens at = slice_index (lines_of tokens) at
+
+-- the line of the last token, which is the text's end
+abbrev pub last_of : (lines : List ℕ) → ℕ
+last_of lines = slice_index lines (length lines - 1)

@@ -5,15 +5,17 @@ ghost use Rattle.lrc_named_tokens.specs.Token.{Located as LocatedSeen};
 ghost use Rattle.lrc_named_tokens.specs.View.{located_of};
 ghost use Rattle.lrc_named_tree.specs.View.{program_of};
 ghost use Rattle.lrc_named_check.specs.Program.{IsClean};
+ghost use Rattle.lrc_named_core.specs.View.{trap_of};
 ghost use Rattle.lrc_named_parse.specs.Faults.{IsNamed};
 ghost use Rattle.lrc_named.specs.Lines.{lines_of};
-ghost use Rattle.lrc_named.specs.Named.{IsCoreText, IsNamedFault};
+ghost use Rattle.lrc_named.specs.Named.{IsCoreTextOn, IsNamedFault};
 
 use crate::fault::NamedFault;
-use crate::lines::{line_of, lines_of};
+use crate::lines::{line_of, lines_of, told_lines, told_traps};
 use crate::nodes::nodes_asked;
 use lrc_lang::fault::FaultKind;
 use lrc_named_check::names_of;
+use lrc_named_core::tree::Trap;
 use lrc_named_faults::layout::Layout;
 use lrc_named_faults::values::Found;
 use lrc_named_parse::{Parsed, parse};
@@ -25,18 +27,24 @@ use std::alloc::Global;
 
 /// The core of a named program.
 #[derive(Drop)]
-pub struct CoreText {
+pub struct CoreText<'t> {
     /// The text of the core.
     pub text: Vec<u8>,
     /// How many nodes the named program asks for, if it does.
     pub nodes: Option<Nodes>,
+    /// On which line of the named program's text each statement of the core lies, in the order of the core's text, and
+    /// last the line of the named text's end.
+    pub lines: Vec<u32>,
+    /// What the named program says of a trap of each statement of the core, in the same order.
+    pub traps: Vec<Trap<'t>>,
 }
 
 /// Returns the core of the named program that this text is. It fails if the text is none, with the first fault, or if
 /// memory runs out.
-pub fn core_of_text(alloc: Global, text: &[u8]) -> Result<CoreText, NamedFault>
-    ensures core { IfOk result (λ core. IsCoreText text.now
-        (option_map (λ nodes. nodes.count) core.nodes) core.text.items) }
+pub fn core_of_text(alloc: Global, text: &[u8]) -> Result<CoreText<'_>, NamedFault>
+    ensures core { IfOk result (λ core. IsCoreTextOn text.now
+        (option_map (λ nodes. nodes.count) core.nodes) core.text.items core.lines.items
+        (map trap_of core.traps.items)) }
     ensures fault { IfErr result (IsNamedFault text.now) }
 {
     let parsed = parse(alloc, text)?;
@@ -46,10 +54,15 @@ pub fn core_of_text(alloc: Global, text: &[u8]) -> Result<CoreText, NamedFault>
 }
 
 // The core of what this text is parsed to.
-fn of_parsed<'p>(alloc: Global, text: &[u8], parsed: &'p Parsed<'p>) -> Result<CoreText, NamedFault>
+fn of_parsed<'p>(
+    alloc: Global,
+    text: &[u8],
+    parsed: &'p Parsed<'p>,
+) -> Result<CoreText<'p>, NamedFault>
     requires { IsNamed text.now (map located_of parsed.now.tokens.items) (program_of parsed.now.program) }
-    ensures core { IfOk result (λ core. IsCoreText text.now
-        (option_map (λ nodes. nodes.count) core.nodes) core.text.items) }
+    ensures core { IfOk result (λ core. IsCoreTextOn text.now
+        (option_map (λ nodes. nodes.count) core.nodes) core.text.items core.lines.items
+        (map trap_of core.traps.items)) }
     ensures fault { IfErr result (IsNamedFault text.now) }
 {
     of_program(alloc, text, &parsed.tokens, &parsed.program)
@@ -61,10 +74,11 @@ fn of_program<'p>(
     text: &[u8],
     tokens: &[Located<'_>],
     program: &'p NamedProgram<'p>,
-) -> Result<CoreText, NamedFault>
+) -> Result<CoreText<'p>, NamedFault>
     requires { IsNamed text.now (map located_of tokens.now) (program_of program.now) }
-    ensures core { IfOk result (λ core. IsCoreText text.now
-        (option_map (λ nodes. nodes.count) core.nodes) core.text.items) }
+    ensures core { IfOk result (λ core. IsCoreTextOn text.now
+        (option_map (λ nodes. nodes.count) core.nodes) core.text.items core.lines.items
+        (map trap_of core.traps.items)) }
     ensures fault { IfErr result (IsNamedFault text.now) }
 {
     let lines = lines_of(alloc, tokens)?;
@@ -82,18 +96,28 @@ fn of_names<'p>(
     lines: &[u32],
     program: &'p NamedProgram<'p>,
     layout: &Layout<'p>,
-) -> Result<CoreText, NamedFault>
+) -> Result<CoreText<'p>, NamedFault>
     requires clean { IsClean (program_of program.now) layout.now }
     requires tokens { (tokens : List LocatedSeen)
         × IsNamed text.now tokens (program_of program.now) × (lines.now ≡ lines_of tokens) }
-    ensures core { IfOk result (λ core. IsCoreText text.now
-        (option_map (λ nodes. nodes.count) core.nodes) core.text.items) }
+    ensures core { IfOk result (λ core. IsCoreTextOn text.now
+        (option_map (λ nodes. nodes.count) core.nodes) core.text.items core.lines.items
+        (map trap_of core.traps.items)) }
     ensures fault { IfErr result (IsNamedFault text.now) }
 {
     let nodes = nodes_asked(program, layout);
     let written = core_text(alloc, &layout.names, lines, program)?;
     match written {
-        Written::Core(text) => Ok(CoreText { text, nodes }),
+        Written::Core(text, origins) => {
+            let lines = told_lines(alloc, lines, &origins)?;
+            let traps = told_traps(alloc, &origins)?;
+            Ok(CoreText {
+                text,
+                nodes,
+                lines,
+                traps,
+            })
+        }
         Written::Over(excess) => {
             let line = line_of(lines, u64::from(excess.at));
             Err(NamedFault::Text(line, FaultKind::OverLimit))

@@ -1,8 +1,10 @@
 -- The core of a named program as a text, within the limits.
-use Rattle.std.specs.Prelude.{◌≡◌, ◌≤◌, ◌<◌, ℕ, None, Some, List, length}
+use Rattle.std.specs.Prelude.{◌≡◌, ◌≤◌, ◌<◌, ℕ, None, Some, List, length, map}
 use Rattle.lrc_named_tree.specs.Tree.{NamedTree}
 use Rattle.lrc_named_names.specs.Names.{Declared}
-use Rattle.lrc_named_core.specs.Tree.{Block}
+use Rattle.lrc_named_core.specs.Tree.{Block, Origin}
+use Rattle.lrc_named_core.specs.View.{origin_of}
+use Rattle.lrc_named_origins.specs.Origins.{origins_of}
 use Rattle.lrc_named_program.specs.Program.{IsCoreOf}
 use Rattle.lrc_named_text.specs.Statements.{core_text}
 use Rattle.lrc_named_limits.specs.Limits.{IsFirstOf, IsOverInBlock}
@@ -25,6 +27,11 @@ pub record IsCoreText (declared : List Declared) (lines : List ℕ) (tree : Name
   pub written : text ≡ core_text words locks declared lines statements
   pub fits : length text ≤ 65536
 
+-- and its statements come from these
+pub record IsCoreTextFrom (declared : List Declared) (lines : List ℕ) (tree : NamedTree) (text : List ℕ) (origins : List Origin) : Type 0 where
+  pub is : IsCoreText declared lines tree text
+  pub origins_are : origins ≡ origins_of is.statements
+
 -- this is the first of its core over a limit
 pub record IsCoreOver (declared : List Declared) (tree : NamedTree) (x : Excess) : Type 0 where
   pub words : ℕ
@@ -43,22 +50,23 @@ pub record IsCoreLong (declared : List Declared) (lines : List ℕ) (tree : Name
   pub long : 65536 < length (core_text words locks declared lines statements)
 
 abbrev pub IsWritten : List Declared → (lines : List ℕ) → NamedTree → Written → Type 0
-IsWritten declared lines tree (Core text) = IsCoreText declared lines tree text.items
+IsWritten declared lines tree (Core text origins) = IsCoreTextFrom declared lines tree text.items (map origin_of origins.items)
 IsWritten declared lines tree (Over x) = IsCoreOver declared tree x
 IsWritten declared lines tree TooLong = IsCoreLong declared lines tree
 
 -- ---- on the way
 
--- a text, unless it is too long
-abbrev pub IsTextOf : (text : List ℕ) → Written → Type 0
-IsTextOf text (Core found) = (found.items ≡ text) × (length text ≤ 65536)
-IsTextOf text (Over x) = ⊥
-IsTextOf text TooLong = 65536 < length text
+-- a text, with what these statements come from, unless it is too long
+abbrev pub IsTextOf : (text : List ℕ) → Block → Written → Type 0
+IsTextOf text statements (Core found origins) =
+    (found.items ≡ text) × (length text ≤ 65536) × (map origin_of origins.items ≡ origins_of statements)
+IsTextOf text statements (Over x) = ⊥
+IsTextOf text statements TooLong = 65536 < length text
 
 -- what a core with these words, locks and statements comes to, where the program has so many private names
 abbrev pub ComesTo : (privates words locks : ℕ) → List Declared → (lines : List ℕ) → Block → Written → Type 0
 ComesTo privates words locks declared lines statements (Over x) = IsFirstOf (AreOver privates statements) (Some x)
-ComesTo privates words locks declared lines statements (Core text) =
-    IsFirstOf (AreOver privates statements) None × IsTextOf (core_text words locks declared lines statements) (Core text)
+ComesTo privates words locks declared lines statements (Core text origins) =
+    IsFirstOf (AreOver privates statements) None × IsTextOf (core_text words locks declared lines statements) statements (Core text origins)
 ComesTo privates words locks declared lines statements TooLong =
-    IsFirstOf (AreOver privates statements) None × IsTextOf (core_text words locks declared lines statements) TooLong
+    IsFirstOf (AreOver privates statements) None × IsTextOf (core_text words locks declared lines statements) statements TooLong

@@ -11,9 +11,11 @@ ghost use Rattle.lrc_named_text.specs.Statements.{core_text};
 ghost use Rattle.lrc_named_written.specs.Written.{ComesTo, IsTextOf, IsWritten};
 
 use crate::privates::privates;
+use lrc_named_core::tree::Origin;
 use lrc_named_limits::excess::Excess;
 use lrc_named_limits::first_excess;
 use lrc_named_names::names::Names;
+use lrc_named_origins::origins_of;
 use lrc_named_program::{CoreProgram, core_of};
 use lrc_named_text::push_core;
 use lrc_named_tree::tree::NamedProgram;
@@ -24,9 +26,9 @@ pub const MOST_BYTES: usize = 65_536;
 
 /// What the core of a named program comes to.
 #[derive(Drop)]
-pub enum Written {
-    /// A text.
-    Core(Vec<u8>),
+pub enum Written<'p> {
+    /// A text, and what each of its statements comes from, in the order of the text.
+    Core(Vec<u8>, Vec<Origin<'p>>),
     /// The first statement whose core is over a limit.
     Over(Excess),
     /// Nothing is over a limit, but the text would have more than 65,536 bytes.
@@ -34,13 +36,13 @@ pub enum Written {
 }
 
 /// Returns the text of the core of a named program that declares this, that uses names as what they are, and whose tokens
-/// stand on these lines; or why there is none. It fails only if memory runs out.
+/// stand on these lines, with what its statements come from; or why there is none. It fails only if memory runs out.
 pub fn core_text<'p>(
     alloc: Global,
     names: &Names<'p>,
     lines: &[u32],
     program: &NamedProgram<'p>,
-) -> Result<Written, AllocError>
+) -> Result<Written<'p>, AllocError>
     requires table { IsSound (declared_of names.now) }
     requires well { IsWellBlock (declared_of names.now) (program_of program.now).statements }
     requires few_words { words_in (declared_of names.now) ≤ 65536 }
@@ -53,13 +55,13 @@ pub fn core_text<'p>(
 }
 
 // What a core comes to, where the program has so many private names.
-fn of_core(
+fn of_core<'p>(
     alloc: Global,
     names: &Names<'_>,
     lines: &[u32],
     privates: u32,
-    core: &CoreProgram<'_>,
-) -> Result<Written, AllocError>
+    core: &CoreProgram<'p>,
+) -> Result<Written<'p>, AllocError>
     ensures { IfOk result (ComesTo privates core.now.words core.now.locks (declared_of names.now) lines.now
         (block_of core.now.statements.items)) }
 {
@@ -69,15 +71,15 @@ fn of_core(
     }
 }
 
-// The text of a core, unless it is too long.
-fn text_of(
+// The text of a core, and what its statements come from, unless it is too long.
+fn text_of<'p>(
     alloc: Global,
     names: &Names<'_>,
     lines: &[u32],
-    core: &CoreProgram<'_>,
-) -> Result<Written, AllocError>
+    core: &CoreProgram<'p>,
+) -> Result<Written<'p>, AllocError>
     ensures { IfOk result (IsTextOf (core_text core.now.words core.now.locks (declared_of names.now) lines.now
-        (block_of core.now.statements.items))) }
+        (block_of core.now.statements.items)) (block_of core.now.statements.items)) }
 {
     let mut text = Vec::new(alloc);
     push_core(
@@ -92,6 +94,7 @@ fn text_of(
     if text.len() > MOST_BYTES {
         Ok(Written::TooLong)
     } else {
-        Ok(Written::Core(text))
+        let origins = origins_of(alloc, &core.statements)?;
+        Ok(Written::Core(text, origins))
     }
 }

@@ -1,8 +1,8 @@
-//! The source of a run: a text that is a program, the program and its flat code, for each statement its line and what it
-//! comes from, the labels, the private names, and the number of nodes that the text asks for.
+//! The source of a run: a text of the core as it is read, by itself or by the named program that it is the core of; the
+//! program and its flat code; and the line of each statement, the labels and the private names.
 #![tactic(auto)]
 
 pub mod laws;
-pub mod origin;
+pub mod read_text;
 pub mod source;
 pub mod text;

@@ -1,19 +1,18 @@
 // A text that is a program, with its flat code.
 
-ghost use Rattle.std.specs.Prelude.{◌≡◌, IfOk, map, option_map};
+ghost use Rattle.std.specs.Prelude.{◌≡◌, IfOk, map};
 ghost use Rattle.lrc_lang.specs.Faults.{IsText};
-ghost use Rattle.lrc_lang.specs.Lines.{HasLines};
 ghost use Rattle.lrc_lang.specs.Tree.{program_of};
 ghost use Rattle.lrc_labels.specs.Reading.{label_seen};
 ghost use Rattle.lrc_private_names.specs.Spelling.{AreNamesOf};
-ghost use Rattle.lrc_source.specs.Sources.{labels_in, written_for};
+ghost use Rattle.lrc_source.specs.Sources.{labels_in};
+ghost use Rattle.lrc_source.specs.Telling.{AreLines};
 
-use crate::origin::Origin;
+use crate::read_text::ReadText;
 use crate::text::SourceText;
 use lrc_exec::code::Code;
 use lrc_labels::label::Label;
 use lrc_lang::program::Program;
-use lrc_setting::setting::Nodes;
 use std::alloc::{AllocError, Global};
 use std::marker::Model;
 
@@ -49,8 +48,8 @@ impl<'s> Source<'s> {
         Ok(Source { text, code })
     }
 
-    /// Returns the text.
-    pub fn text(&self) -> &'s [u8]
+    /// Returns the text as it is read.
+    pub fn text(&self) -> &'s ReadText<'s>
         ensures { result.now ≡ self.now.text }
     {
         self.text.text()
@@ -59,7 +58,7 @@ impl<'s> Source<'s> {
     /// Returns the program of the text.
     pub fn program(&self) -> &'s Program
         ensures program { result.now ≡ self.now.program }
-        ensures text { IsText self.now.text (program_of self.now.program) }
+        ensures text { IsText self.now.text.core (program_of self.now.program) }
     {
         self.text.program()
     }
@@ -71,42 +70,27 @@ impl<'s> Source<'s> {
         &self.code
     }
 
-    /// Returns the line of each statement, in the order of the text, and last that of the text's end.
+    /// Returns the line of each statement, in the order of the core's text, and last that of the text's end.
     pub fn lines(&self) -> &'s [u32]
         ensures lines { result.now ≡ self.now.lines }
-        ensures text { HasLines self.now.text (program_of self.now.program) self.now.lines }
+        ensures text { AreLines self.now.text self.now.program self.now.lines }
     {
         self.text.lines()
-    }
-
-    /// Returns what each statement comes from, in the same order.
-    pub fn origins(&self) -> &'s [Origin]
-        ensures origins { result.now ≡ self.now.origins }
-        ensures written { self.now.origins ≡ written_for self.now.lines }
-    {
-        self.text.origins()
     }
 
     /// Returns the labels, in the order of the text.
     pub fn labels(&self) -> &'s [Label<'s>]
         ensures labels { map label_seen result.now ≡ self.now.labels }
-        ensures text { self.now.labels ≡ labels_in self.now.text self.now.program }
+        ensures text { self.now.labels ≡ labels_in self.now.text.core self.now.program }
     {
         self.text.labels()
     }
 
-    /// Returns the private names, each at the place of its number.
+    /// Returns the private names of the core, each at the place of its number.
     pub fn names(&self) -> &'s [&'s [u8]]
         ensures names { map (λ name. name.now) result.now ≡ self.now.names }
-        ensures text { AreNamesOf self.now.text self.now.names }
+        ensures text { AreNamesOf self.now.text.core self.now.names }
     {
         self.text.names()
-    }
-
-    /// Returns how many nodes the text asks for, or none if it does not say.
-    pub fn nodes(&self) -> Option<Nodes>
-        ensures { option_map (λ nodes. nodes.count) result ≡ self.now.nodes }
-    {
-        self.text.nodes()
     }
 }

@@ -13,12 +13,10 @@ use Rattle.lrc_replay.specs.Acts.{Plan}
 use Rattle.lrc_replay.specs.Courses.{IsCourse, plan_of}
 use Rattle.lrc_states.specs.Objects.{message_object, truth_text}
 use Rattle.lrc_lang.specs.declared.program.Program.{Program}
-use Rattle.lrc_lang.specs.Lines.{HasLines}
 use Rattle.lrc_lang.specs.Symbol.{Names}
-use Rattle.lrc_lang.specs.Tree.{program_of}
 use Rattle.lrc_labels.specs.Reading.{Label}
-use Rattle.lrc_private_names.specs.Spelling.{AreNamesOf}
-use Rattle.lrc_states.specs.States.{labels_in, Told, turn_line, turn_lines}
+use Rattle.lrc_source.specs.Telling.{AreLines}
+use Rattle.lrc_states.specs.States.{AreNamesTold, labels_in, Told, turn_line, turn_lines}
 use Rattle.lrc_text.specs.Parts.{whole_text}
 
 -- all stands as in this world, behind so many turns
@@ -70,6 +68,6 @@ plan_with program nodes lines names = record { program = program; nodes = nodes;
 pub record IsSetting (told : Told) (plan : Plan) (labels : List Label) : Type 0 where
   pub program_is : plan.program ≡ told.program
   pub nodes_are : plan.nodes ≡ told.nodes
-  pub lines_are : HasLines told.text (program_of told.program) plan.lines
-  pub names_are : AreNamesOf told.text plan.names
+  pub lines_are : AreLines told.text told.program plan.lines
+  pub names_are : AreNamesTold told.text plan.names
   pub labels_are : labels ≡ labels_in told

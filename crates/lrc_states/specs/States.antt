@@ -4,8 +4,7 @@ use Rattle.std.specs.List.{enumerate_from, flat_map}
 use Rattle.std.specs.Option.{option_to_list}
 use Rattle.lrc_trace.specs.declared.act.Act.{Act}
 use Rattle.lrc_lang.specs.declared.program.Program.{Program}
-use Rattle.lrc_lang.specs.Lines.{HasLines}
-use Rattle.lrc_lang.specs.Tree.{program_of}
+use Rattle.lrc_lang.specs.Symbol.{Names}
 use Rattle.lrc_labels.specs.declared.cut.Divider.TheVariants.{LineFeed}
 use Rattle.lrc_labels.specs.Cut.{cut, divides}
 use Rattle.lrc_labels.specs.Reading.{Label, labels_of}
@@ -21,6 +20,7 @@ use Rattle.lrc_protocol.specs.Run.{event_on, Logged, run_of, World}
 use Rattle.lrc_state_text.specs.Intervals.{StoredInterval, stored_in}
 use Rattle.lrc_state_text.specs.State.{state_text}
 use Rattle.lrc_text.specs.Each.{each}
+use Rattle.lrc_source.specs.Telling.{AreLines, ReadText, names_told}
 use Rattle.lrc_states.specs.declared.told.Range.{Range}
 use Rattle.lrc_states.specs.declared.told.Told as code_told
 use Rattle.lrc_replay.specs.Acts.{last_notes, notes_behind, Plan, spot_behind}
@@ -142,7 +142,7 @@ most_turns = 2000
 
 -- what the lines are told of: the run of these events of a program
 pub record Told : Type 0 where
-  pub text : List ℕ
+  pub text : ReadText
   pub program : Program
   pub nodes : ℕ
   pub options : OptionsRecord
@@ -152,15 +152,19 @@ abbrev pub told_seen : code_told.Told → Told
 told_seen told = record { text = told.source.now.text; program = told.source.now.program; nodes = told.nodes; options = told.options; events = told.events.now }
 
 abbrev pub labels_in : Told → List Label
-labels_in told = labels_of told.program.words told.program.locks (cut (divides LineFeed) told.text)
+labels_in told = labels_of told.program.words told.program.locks (cut (divides LineFeed) told.text.core)
+
+-- the private names that are told of those of the text
+abbrev pub AreNamesTold : ReadText → Names → Type 0
+AreNamesTold text told = (names : Names) × AreNamesOf text.core names × (told ≡ names_told text.telling names)
 
 -- the lines, and how many turns they show
 pub record IsShown (told : Told) (range : Range) (count : ℕ) (out : List ℕ) : Type 0 where
   pub plan : Plan
   pub program_is : plan.program ≡ told.program
   pub nodes_are : plan.nodes ≡ told.nodes
-  pub lines_are : HasLines told.text (program_of told.program) plan.lines
-  pub names_are : AreNamesOf told.text plan.names
+  pub lines_are : AreLines told.text told.program plan.lines
+  pub names_are : AreNamesTold told.text plan.names
   pub before : List Event
   pub rest : List Event
   pub world : World

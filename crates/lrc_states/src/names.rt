@@ -7,7 +7,7 @@ ghost use Rattle.lrc_states.specs.Names.{is_set, names_set};
 use lrc_state_text::NamedValue;
 use std::alloc::{AllocError, Global};
 
-/// Returns the private names whose value is not 0.
+/// Returns the private names whose value is not 0. One in whose place nothing stands is not told.
 pub(crate) fn names_set<'t>(
     alloc: Global,
     names: &[&'t [u8]],
@@ -23,13 +23,13 @@ pub(crate) fn names_set<'t>(
     Ok(set)
 }
 
-// Keeps a name with its value, if that is not 0.
+// Keeps a name with its value, if something stands in its place and the value is not 0.
 fn keep_set<'t>(set: &mut Vec<NamedValue<'t>>, name: &'t [u8], value: u64) -> Result<(), AllocError>
     ensures { OnOk result (map named_seen set.new.items
         ≡ map named_seen set.old.items
         ++ filter is_set (record { name = name.entry.now; value = value } ∷ [])) }
 {
-    if value != 0 {
+    if !name.is_empty() && value != 0 {
         set.push(NamedValue { name, value })?;
     }
     Ok(())

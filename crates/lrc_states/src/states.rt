@@ -41,13 +41,14 @@ pub fn states_parts(
         → IfErr result (IsUnshown (told_seen told.now) range) }
 {
     let source = told.source;
+    let names = source.text().names_told(alloc, source.names())?;
     parts_of(
         alloc,
         told,
         range,
         source.code(),
         source.lines(),
-        source.names(),
+        &names,
         source.labels(),
     )
 }

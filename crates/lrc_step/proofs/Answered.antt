@@ -11,17 +11,18 @@ use Rattle.lrc_text.specs.Parts.{texts_of}
 use Rattle.lrc_why.specs.Spread.{OfEach}
 use Rattle.lrc_why_text.specs.declared.asked.Asked.{Asked}
 use Rattle.lrc_why_run.specs.Answers.{AnswersRun}
+use Rattle.lrc_source.specs.Telling.{ReadText}
 use Rattle.lrc_step.specs.ReasonLines.{asked_alone}
 
 abbrev bytes_of : Vec ℕ Global → List ℕ
 bytes_of part = part.items
 
 -- each of these is answered
-abbrev pub AreAnswers : List ℕ → Program → ℕ → Size → List Act → List Asked → List (Vec ℕ Global) → Type 0
+abbrev pub AreAnswers : ReadText → Program → ℕ → Size → List Act → List Asked → List (Vec ℕ Global) → Type 0
 AreAnswers text program nodes page acts asked parts = OfEach (length asked) (λ place part. (one : Asked) → slice_get asked place ≡ Some one
     → AnswersRun text program nodes page acts one part.items) parts
 
-pub answered : (text : List ℕ) (program : Program) (nodes : ℕ) (page : Size) (acts : List Act) (positions : List ℕ) (asked : List Asked)
+pub answered : (text : ReadText) (program : Program) (nodes : ℕ) (page : Size) (acts : List Act) (positions : List ℕ) (asked : List Asked)
     (parts : List (Vec ℕ Global)) → asked ≡ map asked_alone positions → AreAnswers text program nodes page acts asked parts
     → (place position : ℕ) → slice_get positions place ≡ Some position
     → AnswersRun text program nodes page acts (asked_alone position) (slice_index_or (texts_of parts) place [])

@@ -6,6 +6,7 @@ use Rattle.lrc_page.specs.declared.size.Size.{Size}
 use Rattle.lrc_why_chains.specs.Writes.{AreExactly}
 use Rattle.lrc_text.specs.Each.{each}
 use Rattle.lrc_why_text.specs.declared.asked.Asked.{Asked}
+use Rattle.lrc_source.specs.Telling.{ReadText}
 use Rattle.lrc_why_run.specs.Answers.{AnswersRun}
 use Rattle.lrc_step.specs.Lines.{lines_in, why_line}
 use Rattle.lrc_step.specs.declared.shown.Part.{Part}
@@ -20,7 +21,7 @@ abbrev pub whys_text : (positions : List ℕ) → (printed : List (List ℕ)) �
 whys_text positions printed = each (λ place position. why_line position (lines_in (slice_index_or printed place []))) positions
 
 -- The text has a line for each act of which it is told why it is as it is, ascending, with the lines that `why` prints of it.
-pub record TellsWhys (text : List ℕ) (program : Program) (nodes : ℕ) (page : Size) (acts : List Act) (part : Part) (told : List ℕ) : Type 0 where
+pub record TellsWhys (text : ReadText) (program : Program) (nodes : ℕ) (page : Size) (acts : List Act) (part : Part) (told : List ℕ) : Type 0 where
   pub positions : List ℕ
   pub are_told : AreExactly (IsTold acts part) positions
   pub printed : List (List ℕ)

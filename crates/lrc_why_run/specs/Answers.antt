@@ -1,8 +1,6 @@
 -- What `why` prints of the acts of a run.
 use Rattle.std.specs.Prelude.{◌≡◌, ◌≢◌, ℕ, IfSome, List, [], Option, Some, None, length, map}
-use Rattle.lrc_lang.specs.Lines.{HasLines}
 use Rattle.lrc_lang.specs.Symbol.{Names}
-use Rattle.lrc_lang.specs.Tree.{program_of}
 use Rattle.lrc_lang.specs.declared.program.Program.{Program}
 use Rattle.lrc_trace.specs.declared.act.Act.{Act}
 use Rattle.lrc_page.specs.declared.size.Size.{Size}
@@ -21,13 +19,14 @@ use Rattle.lrc_why_text.specs.declared.fault.WhyFault.TheVariants.{NoAct, NoMemo
 use Rattle.lrc_why_run.specs.Private.{private_text}
 use Rattle.lrc_private_names.specs.Spelling.{AreNamesOf}
 use Rattle.lrc_private_names.specs.Standing.{AreLastSets, thread_before}
+use Rattle.lrc_source.specs.Telling.{AreLines, ReadText}
 
 -- the acts with their intervals, each with the line of the text that it is of, and the labels of the text
-pub record IsShownFrom (shown : Shown) (text : List ℕ) (program : Program) (nodes : ℕ) (lines : List ℕ) (acts : List Act) : Type 0 where
+pub record IsShownFrom (shown : Shown) (text : ReadText) (program : Program) (nodes : ℕ) (lines : List ℕ) (acts : List Act) : Type 0 where
   pub acts_are : shown.acts.now ≡ acts
   pub lines_are : shown.lines.now ≡ act_lines program nodes lines acts
   pub intervals : AreIntervals acts (length acts) shown.intervals.now
-  pub labels_are : map label_seen shown.labels.now ≡ labels_of program.words program.locks (cut (divides LineFeed) text)
+  pub labels_are : map label_seen shown.labels.now ≡ labels_of program.words program.locks (cut (divides LineFeed) text.core)
 
 -- the text tells the private names that the statement of the act at the position reads, and what a quiet does
 pub record TellsPrivate (shown : Shown) (names : Names) (program : Program) (nodes : ℕ) (lines : List ℕ) (position : ℕ) (text : List ℕ) : Type 0 where
@@ -54,12 +53,12 @@ Tells shown names program nodes page asked text = (lines : List ℕ) → (behind
 
 -- What is printed of the acts of a run of the program that this text is of: the answer to what is asked, where each act stands on the line
 -- of its statement, with the labels of the text.
-pub record AnswersRun (text : List ℕ) (program : Program) (nodes : ℕ) (page : Size) (acts : List Act) (asked : Asked) (out : List ℕ) : Type 0 where
+pub record AnswersRun (text : ReadText) (program : Program) (nodes : ℕ) (page : Size) (acts : List Act) (asked : Asked) (out : List ℕ) : Type 0 where
   pub there : IsThere asked.act asked.and (length acts)
   pub lines : List ℕ
-  pub has_lines : HasLines text (program_of program) lines
+  pub are_lines : AreLines text program lines
   pub names : Names
-  pub are_names : AreNamesOf text names
+  pub are_names : AreNamesOf text.core names
   pub shown : Shown
   pub is_shown : IsShownFrom shown text program nodes lines acts
   pub behind : List ℕ

@@ -3,7 +3,7 @@
 use lrc_acts::reading::acts_of;
 use lrc_exec::code::Code;
 use lrc_explain::explain;
-use lrc_explain_waits::stuck_part;
+use lrc_explain_waits::{Wording, stuck_part};
 use lrc_labels::label::Label;
 use lrc_labels::read_labels;
 use lrc_lang::lines::lines_of;
@@ -55,6 +55,7 @@ fn is_explained_of(
     match explain(
         alloc,
         labels,
+        &[],
         code,
         lines,
         case.nodes,
@@ -75,7 +76,11 @@ fn is_told_of(
     acts: &[Act],
     case: &Case,
 ) -> bool {
-    match stuck_part(alloc, labels, code, lines, case.nodes, None, acts) {
+    let wording = Wording {
+        labels,
+        traps: None,
+    };
+    match stuck_part(alloc, &wording, code, lines, case.nodes, None, acts) {
         Ok(part) => part.as_slice() == case.told,
         Err(_) => false,
     }

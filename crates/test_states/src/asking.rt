@@ -3,6 +3,7 @@
 use crate::checks::Mistake;
 use lrc_node::Options;
 use lrc_protocol::Event;
+use lrc_source::read_text::ReadText;
 use lrc_source::source::Source;
 use lrc_source::text::SourceText;
 use lrc_states::{Range, Told, states_parts};
@@ -28,7 +29,18 @@ pub struct Run<'a> {
 
 /// The lines of those turns of a run that are in a range.
 pub fn lines_of(alloc: Global, run: &Run<'_>, range: Range) -> Result<Vec<Vec<u8>>, Mistake> {
-    let read = SourceText::read(alloc, run.text)?;
+    let text = ReadText::written(run.text);
+    lines_of_text(alloc, &text, run, range)
+}
+
+// The same of the text.
+fn lines_of_text(
+    alloc: Global,
+    text: &ReadText<'_>,
+    run: &Run<'_>,
+    range: Range,
+) -> Result<Vec<Vec<u8>>, Mistake> {
+    let read = SourceText::read(alloc, text)?;
     lines_of_read(alloc, &read, run, range)
 }
 

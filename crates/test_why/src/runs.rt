@@ -4,6 +4,7 @@ use crate::checks::passes;
 use lrc_acts::reading::acts_of;
 use lrc_judge::are_in_range;
 use lrc_page::Size;
+use lrc_source::read_text::ReadText;
 use lrc_source::source::Source;
 use lrc_source::text::SourceText;
 use lrc_why_run::why_run;
@@ -207,6 +208,19 @@ fn is_text(parts: &[Vec<u8>], text: &[u8]) -> bool {
 fn answer(
     alloc: Global,
     text: &[u8],
+    acts: &[u8],
+    nodes: u8,
+    page: Size,
+    asked: Asked,
+) -> Option<Result<Vec<Vec<u8>>, WhyFault>> {
+    let text = ReadText::written(text);
+    answer_to(alloc, &text, acts, nodes, page, asked)
+}
+
+// The same of the text.
+fn answer_to(
+    alloc: Global,
+    text: &ReadText<'_>,
     acts: &[u8],
     nodes: u8,
     page: Size,

@@ -1,10 +1,11 @@
-use Rattle.std.proofs.Common.{inr, subst, sym}
+use Rattle.std.proofs.Common.{inr, map, refl, subst, sym}
+use Rattle.lrc_named_core.specs.View.{trap_of}
 use Rattle.lrc_cli.specs.Reading.{IsUnread}
 use Rattle.lrc_cli.proofs.ReadingLemmas.{unread_named}
 use Rattle.lrc_cli.proofs.reading.translated.Goals as goal
 
 pub returns-in-Ok-clause-ok : goal.returns-in-Ok-clause-ok
-returns-in-Ok-clause-ok c = inr (c.requires, c.in-Ok.ensures.core)
+returns-in-Ok-clause-ok c = inr (c.requires, (c.in-Ok.core.lines.items, (map trap_of c.in-Ok.core.traps.items, (c.in-Ok.ensures.core, refl))))
 
 pub returns-in-Err-clause-err : goal.returns-in-Err-clause-err
 returns-in-Err-clause-err c =

@@ -3,15 +3,15 @@ use Rattle.std.proofs.Common.{rules, ◌≡◌, ◌∙◌, false, true, List, �
 use Rattle.std.specs.Borrow.{Bor}
 use Rattle.lrc_cli.specs.Reading.{run_for}
 use Rattle.lrc_cli.specs.Showing.{takes_named}
-use Rattle.lrc_cli.proofs.ShownLemmas.{as_read, as_written, one_answer, unread}
+use Rattle.lrc_cli.proofs.ShownLemmas.{as_read, just_so, one_answer, unread}
 use Rattle.lrc_cli.proofs.shown.shown.Goals as goal
 
 pub returns-then-not-takes_named : goal.returns-then-not-takes_named
 returns-then-not-takes_named c =
     let events : _ = option_map (λ (e : Bor (List ℕ)). e.now) c.args.events in
     let none : takes_named c.args.shape ≡ false = search rules in
-    as_written c.args.run.now c.args.shape c.args.text.now events c.show.result none
-    (one_answer c.args.run.now c.args.shape c.args.text.now events c.show.result c.show.ensures.ok c.show.ensures.err)
+    just_so c.args.run.now c.args.shape c.args.text.now c.written.result events c.show.result none c.written.ensures
+    (one_answer c.args.run.now c.args.shape c.written.result events c.show.result c.show.ensures.ok c.show.ensures.err)
 
 pub returns-in_err-reading : goal.returns-in_err-reading
 returns-in_err-reading c =
@@ -24,6 +24,6 @@ pub returns : goal.returns
 returns c =
     let events : _ = option_map (λ (e : Bor (List ℕ)). e.now) c.args.events in
     let some : takes_named c.args.shape ≡ true = search rules in
-    as_read c.args.run.now c.run_for-own.result c.args.shape c.args.text.now c.text-core.result.now events c.show-2.result _ _ some
-    c.in_ok-reading.ensures.ok (c.run_for-own.ensures ∙ ap (run_for c.args.run.now) c.nodes.ensures) c.text-core.ensures
-    (one_answer c.run_for-own.result c.args.shape c.text-core.result.now events c.show-2.result c.show-2.ensures.ok c.show-2.ensures.err)
+    as_read c.args.run.now c.run_for-own.result c.args.shape c.args.text.now c.told.result events c.show-2.result _ _ some
+    c.in_ok-reading.ensures.ok (c.run_for-own.ensures ∙ ap (run_for c.args.run.now) c.nodes.ensures) c.told.ensures
+    (one_answer c.run_for-own.result c.args.shape c.told.result events c.show-2.result c.show-2.ensures.ok c.show-2.ensures.err)

@@ -3,14 +3,14 @@ use Rattle.std.proofs.Common.{rules, ◌≡◌, ◌∙◌, false, true, List, �
 use Rattle.std.specs.Borrow.{Bor}
 use Rattle.lrc_cli.specs.Reading.{run_for}
 use Rattle.lrc_cli.specs.Showing.{takes_named}
-use Rattle.lrc_cli.proofs.ShownLemmas.{as_read, as_written, unread}
+use Rattle.lrc_cli.proofs.ShownLemmas.{as_read, just_so, unread}
 use Rattle.lrc_cli.proofs.shown.shown_any.Goals as goal
 
 pub returns-then-not-takes_named : goal.returns-then-not-takes_named
 returns-then-not-takes_named g c =
     let events : _ = option_map (λ (e : Bor (List ℕ)). e.now) c.args.events in
     let none : takes_named c.args.shape ≡ false = search rules in
-    as_written c.args.run.now c.args.shape c.args.text.now events c.show_any.result none
+    just_so c.args.run.now c.args.shape c.args.text.now c.written.result events c.show_any.result none c.written.ensures
     c.show_any.ensures
 
 pub returns-in_err-reading : goal.returns-in_err-reading
@@ -24,5 +24,5 @@ pub returns : goal.returns
 returns g c =
     let events : _ = option_map (λ (e : Bor (List ℕ)). e.now) c.args.events in
     let some : takes_named c.args.shape ≡ true = search rules in
-    as_read c.args.run.now c.run_for-own.result c.args.shape c.args.text.now c.text-core.result.now events c.show_any-2.result _ _ some
-    c.in_ok-reading.ensures.ok (c.run_for-own.ensures ∙ ap (run_for c.args.run.now) c.nodes.ensures) c.text-core.ensures c.show_any-2.ensures
+    as_read c.args.run.now c.run_for-own.result c.args.shape c.args.text.now c.told.result events c.show_any-2.result _ _ some
+    c.in_ok-reading.ensures.ok (c.run_for-own.ensures ∙ ap (run_for c.args.run.now) c.nodes.ensures) c.told.ensures c.show_any-2.ensures

@@ -10,6 +10,7 @@ use Rattle.lrc_timeline.specs.Timeline.{times_in}
 use Rattle.lrc_turns_text.specs.Turns.{turns_told}
 use Rattle.lrc_cli_args.specs.declared.choice.Shape.TheVariants.{Chart}
 use Rattle.lrc_chart_title.specs.Title.{title_text}
+use Rattle.lrc_source.specs.Telling.{ReadText, shown_text}
 use Rattle.lrc_world.specs.declared.keep.Keep.TheVariants.{All as Whole}
 use Rattle.lrc_cli_runs.specs.Charted.{AreWaitsIn, IsChart, IsCourse}
 use Rattle.lrc_cli_runs.specs.Lines.{AreLinesIn}
@@ -41,7 +42,7 @@ returns-in_err-part-clause-err c =
     (subst (λ (pairs : List Pair). AreFirstPairs acts pairs) (sym c.as_slice-pairs.ensures.value) c.in_ok-found.ensures)
     (ap (map label_seen) c.as_slice-labels.ensures.value ∙ c.in_ok-labelling.ensures.said
     ∙ ap₂ (λ (program : Program) (text : List ℕ). labels_in text program) c.program-program.ensures.program
-    (c.as_slice-copied.ensures.value ∙ c.in_ok-bytes.ensures.items ∙ c.text.ensures))
+    (c.as_slice-copied.ensures.value ∙ c.in_ok-bytes.ensures.items ∙ c.core.ensures ∙ ap (λ (text : ReadText). text.core) c.text-read.ensures))
     (subst (λ (waits : List (Option ℕ)). AreWaitsIn c.args.source.now.text c.args.source.now.program options acts waits) (sym c.as_slice-waits.ensures.value)
     c.in_ok-standing.ensures) in
     fault_up c.from_residual-in_err-part.result c.in_err-part.field-0.0
@@ -74,15 +75,15 @@ returns-clause-ok c =
     (subst (λ (pairs : List Pair). AreFirstPairs acts pairs) (sym c.as_slice-pairs.ensures.value) c.in_ok-found.ensures)
     (ap (map label_seen) c.as_slice-labels.ensures.value ∙ c.in_ok-labelling.ensures.said
     ∙ ap₂ (λ (program : Program) (text : List ℕ). labels_in text program) c.program-program.ensures.program
-    (c.as_slice-copied.ensures.value ∙ c.in_ok-bytes.ensures.items ∙ c.text.ensures))
+    (c.as_slice-copied.ensures.value ∙ c.in_ok-bytes.ensures.items ∙ c.core.ensures ∙ ap (λ (text : ReadText). text.core) c.text-read.ensures))
     (subst (λ (waits : List (Option ℕ)). AreWaitsIn c.args.source.now.text c.args.source.now.program options acts waits) (sym c.as_slice-waits.ensures.value)
     c.in_ok-standing.ensures) in (
       course,
       known,
-      subst (λ (out : List ℕ). IsChart c.args.charting (title_text c.args.choice.now c.args.charting) options.nodes.count course c.args.source.now.text out)
+      subst (λ (out : List ℕ). IsChart c.args.charting (title_text c.args.choice.now c.args.charting) options.nodes.count course (shown_text c.args.source.now.text) out)
           (sym c.in_ok-in_one.ensures)
-          (subst (λ (title : List ℕ). IsChart c.args.charting title options.nodes.count course c.args.source.now.text c.in_ok-part.part.items)
+          (subst (λ (title : List ℕ). IsChart c.args.charting title options.nodes.count course (shown_text c.args.source.now.text) c.in_ok-part.part.items)
           (c.deref-4.ensures.value ∙ c.in_ok-title.ensures)
           (subst (λ (text : List ℕ). IsChart c.args.charting c.deref-4.result.now options.nodes.count course text c.in_ok-part.part.items)
-          c.text-2.ensures c.in_ok-part.ensures.ok)),
+          (c.shown.ensures ∙ ap shown_text c.text-read.ensures) c.in_ok-part.ensures.ok)),
     )

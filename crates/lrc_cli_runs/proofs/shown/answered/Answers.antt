@@ -2,6 +2,7 @@ use Rattle.std.proofs.Common.{◌≡◌, IfErr, IfOk, ℕ, List, ap, inl, inr, o
 use Rattle.std.specs.Borrow.{Bor}
 use Rattle.lrc_lang.specs.declared.program.Program.{Program}
 use Rattle.lrc_source.specs.Sources.{SourceRecord}
+use Rattle.lrc_source.specs.Telling.{ReadText}
 use Rattle.lrc_text.specs.Parts.{whole_text}
 use Rattle.lrc_world.specs.declared.keep.Keep.{Keep}
 use Rattle.lrc_cli_answer.specs.Texts.{IsTextOf}
@@ -16,8 +17,8 @@ pub returns-in_err-run-clause-err : goal.returns-in_err-run-clause-err
 returns-in_err-run-clause-err c =
     let source = c.in_ok-source.source in
     let same : source.text ≡ c.args.read.now.text = ap (λ (s : SourceRecord). s.text) c.in_ok-source.ensures in
-    let is : IsTextOf c.args.read.now.text c.program.result.now =
-    subst (IsTextOf c.args.read.now.text) (sym c.program.ensures.program) (subst (λ (text : List ℕ). IsTextOf text source.program) same c.program.ensures.text) in
+    let is : IsTextOf c.args.read.now.text.core c.program.result.now =
+    subst (IsTextOf c.args.read.now.text.core) (sym c.program.ensures.program) (subst (λ (text : ReadText). IsTextOf text.core source.program) same c.program.ensures.text) in
     fault_up c.from_residual-in_err-run.result _ _ c.from_residual-in_err-run.ensures.1
     (inr (c.program.result.now, is, inl c.in_err-run.ensures.err))
 
@@ -36,12 +37,12 @@ returns-clause-ok c =
     let events : _ = option_map (λ (e : Bor (List ℕ)). e.now) c.args.events in
     let source = c.in_ok-source.source in
     let same : source.text ≡ c.args.read.now.text = ap (λ (s : SourceRecord). s.text) c.in_ok-source.ensures in
-    let is : IsTextOf c.args.read.now.text source.program = subst (λ (text : List ℕ). IsTextOf text source.program) same c.program.ensures.text in
+    let is : IsTextOf c.args.read.now.text.core source.program = subst (λ (text : ReadText). IsTextOf text.core source.program) same c.program.ensures.text in
     printed_of c.args.choice.now c.args.shape c.args.read.now.text events source.program c.in_ok-run.run' c.shown.result is
     (subst (λ (program : Program). IsRunOfWay c.args.choice.now.way program c.args.choice.now.options events (keep_for c.args.shape) c.in_ok-run.run') c.program.ensures.program
     (subst (λ (keep : Keep). IsRunOfWay c.args.choice.now.way c.program.result.now c.args.choice.now.options events keep c.in_ok-run.run')
     c.keep_for.ensures c.in_ok-run.ensures.ok))
-    (subst (λ (text : List ℕ). IfOk c.shown.result
+    (subst (λ (text : ReadText). IfOk c.shown.result
     (λ printout. IsShown c.args.shape c.args.choice.now text source.program c.in_ok-run.run' (whole_text printout.parts.items))) same c.shown.ensures.text)
     c.shown.ensures.status
 
@@ -50,10 +51,10 @@ returns-clause-err c =
     let events : _ = option_map (λ (e : Bor (List ℕ)). e.now) c.args.events in
     let source = c.in_ok-source.source in
     let same : source.text ≡ c.args.read.now.text = ap (λ (s : SourceRecord). s.text) c.in_ok-source.ensures in
-    let is : IsTextOf c.args.read.now.text source.program = subst (λ (text : List ℕ). IsTextOf text source.program) same c.program.ensures.text in
+    let is : IsTextOf c.args.read.now.text.core source.program = subst (λ (text : ReadText). IsTextOf text.core source.program) same c.program.ensures.text in
     unshown_of c.args.choice.now c.args.shape c.args.read.now.text events source.program c.in_ok-run.run' c.shown.result is
     (subst (λ (program : Program). IsRunOfWay c.args.choice.now.way program c.args.choice.now.options events (keep_for c.args.shape) c.in_ok-run.run') c.program.ensures.program
     (subst (λ (keep : Keep). IsRunOfWay c.args.choice.now.way c.program.result.now c.args.choice.now.options events keep c.in_ok-run.run')
     c.keep_for.ensures c.in_ok-run.ensures.ok))
-    (subst (λ (text : List ℕ). IfErr c.shown.result (IsShowFault c.args.shape c.args.choice.now text source.program c.in_ok-run.run')) same
+    (subst (λ (text : ReadText). IfErr c.shown.result (IsShowFault c.args.shape c.args.choice.now text source.program c.in_ok-run.run')) same
     c.shown.ensures.err)

@@ -1,5 +1,6 @@
 use Rattle.std.proofs.Common.{IfErr, IfOk, ℕ, List, inl, option_map, subst}
 use Rattle.std.specs.Borrow.{Bor}
+use Rattle.lrc_source.specs.Telling.{ReadText}
 use Rattle.lrc_text.specs.Parts.{whole_text}
 use Rattle.lrc_cli_answer.proofs.FaultLemmas.{fault_up, text_fault}
 use Rattle.lrc_cli_runs.specs.Showing.{RefusesRun, ShowsRun}
@@ -8,17 +9,17 @@ use Rattle.lrc_cli_runs.proofs.shown.show.Goals as goal
 pub returns-in_err-read-clause-err : goal.returns-in_err-read-clause-err
 returns-in_err-read-clause-err c =
     fault_up c.from_residual.result _ _ c.from_residual.ensures.1
-    (inl (text_fault c.args.text.now c.in_err-read.field-0.0 c.in_err-read.ensures.fault))
+    (inl (text_fault c.args.text.now.core c.in_err-read.field-0.0 c.in_err-read.ensures.fault))
 
 pub returns-clause-ok : goal.returns-clause-ok
 returns-clause-ok c =
     let events : _ = option_map (λ (e : Bor (List ℕ)). e.now) c.args.events in
-    subst (λ (text : List ℕ). IfOk c.answered.result
+    subst (λ (text : ReadText). IfOk c.answered.result
     (λ printout. ShowsRun c.args.choice.now c.args.shape text events (whole_text printout.parts.items) printout.status)) c.in_ok-read.ensures.source.text_is
     c.answered.ensures.ok
 
 pub returns-clause-err : goal.returns-clause-err
 returns-clause-err c =
     let events : _ = option_map (λ (e : Bor (List ℕ)). e.now) c.args.events in
-    subst (λ (text : List ℕ). IfErr c.answered.result (RefusesRun c.args.choice.now c.args.shape text events)) c.in_ok-read.ensures.source.text_is
+    subst (λ (text : ReadText). IfErr c.answered.result (RefusesRun c.args.choice.now c.args.shape text events)) c.in_ok-read.ensures.source.text_is
     c.answered.ensures.err

@@ -3,6 +3,7 @@ use Rattle.lrc_lang.specs.declared.program.Program.{Program}
 use Rattle.lrc_protocol.specs.Node.{OptionsRecord}
 use Rattle.lrc_protocol.specs.Run.{World, run_of}
 use Rattle.lrc_protocol.specs.declared.event.Event.{Event}
+use Rattle.lrc_source.specs.Telling.{ReadText}
 use Rattle.lrc_states.specs.States.{AreStates, IsUnshown, Told}
 use Rattle.lrc_states.specs.declared.fault.StatesFault.TheVariants.{TooLong}
 use Rattle.lrc_states.specs.declared.told.Range.{Range}
@@ -16,7 +17,7 @@ use Rattle.lrc_cli_runs.specs.Stated.{range_of, told_of}
 use Rattle.lrc_cli_runs.proofs.stated.stated.Goals as goal
 
 -- what is told of a run that was made, by these options and events, is told of the run
-of_run : (P : Told → Range → Type 0) (text : List ℕ) (program : Program) (options : RunOptions) (keep : Keep) (run : Run) (part : Part)
+of_run : (P : Told → Range → Type 0) (text : ReadText) (program : Program) (options : RunOptions) (keep : Keep) (run : Run) (part : Part)
     (made_by : OptionsRecord) (events : List Event) (range : Range) → IsRunWith program options keep run
     → made_by ≡ options_of options → events ≡ run.events.items → range ≡ range_of part
     → ((made : World) → run_of program options.nodes.count made_by events ≡ Some made

@@ -2,6 +2,7 @@ use Rattle.std.proofs.Common.{◌<◌, ◌∙◌, ℕ, All, List, ap, ap₂, sub
 use Rattle.lrc_trace.specs.declared.act.Act.{Act}
 use Rattle.lrc_judge.specs.Order.{IsOrderOf}
 use Rattle.lrc_text.specs.Parts.{whole_text}
+use Rattle.lrc_source.specs.Telling.{shown_text}
 use Rattle.lrc_step.specs.Lines.{document, run_lines}
 use Rattle.lrc_cli_runs.specs.Stated.{IsStatesFault, name_of}
 use Rattle.lrc_cli_answer.proofs.FaultLemmas.{fault_up}
@@ -42,7 +43,7 @@ returns-clause-ok c = record {
   whole =
       c.in_ok-document.ensures
       ∙ ap (λ (text : List ℕ). document (run_lines c.deref-2.result.now text (whole_text c.in_ok-states.states.items) c.deref-3.result.now c.in_ok-races.races.items c.in_ok-reasons.reasons.items))
-      c.text-text.ensures
-      ∙ ap₂ (λ (name explained : List ℕ). document (run_lines name c.args.source.now.text (whole_text c.in_ok-states.states.items) explained c.in_ok-races.races.items c.in_ok-reasons.reasons.items))
+      (c.shown-text.ensures ∙ ap shown_text c.text.ensures)
+      ∙ ap₂ (λ (name explained : List ℕ). document (run_lines name (shown_text c.args.source.now.text) (whole_text c.in_ok-states.states.items) explained c.in_ok-races.races.items c.in_ok-reasons.reasons.items))
       (c.deref-2.ensures.value ∙ c.in_ok-name.ensures ∙ ap name_of c.as_bytes.ensures.value) c.deref-3.ensures.value;
 }

@@ -1,6 +1,7 @@
 use Rattle.std.proofs.Common.{◌≡◌, IfErr, IfOk, ℕ, List, None, ap, sym, subst, inl, inr}
 use Rattle.lrc_lang.specs.declared.program.Program.{Program}
 use Rattle.lrc_source.specs.Sources.{SourceRecord}
+use Rattle.lrc_source.specs.Telling.{ReadText}
 use Rattle.lrc_text.specs.Parts.{whole_text}
 use Rattle.lrc_world.specs.declared.keep.Keep.{Keep}
 use Rattle.lrc_cli_args.specs.declared.choice.Way.{Way}
@@ -17,9 +18,9 @@ pub returns-in_err-run-clause-err : goal.returns-in_err-run-clause-err
 returns-in_err-run-clause-err g c =
     let source = c.in_ok-source.source in
     let same : source.text ≡ c.args.read.now.text = ap (λ (s : SourceRecord). s.text) c.in_ok-source.ensures in
-    let is : IsTextOf c.args.read.now.text c.program-program.result.now =
-    subst (IsTextOf c.args.read.now.text) (sym c.program-program.ensures.program)
-    (subst (λ (text : List ℕ). IsTextOf text source.program) same c.program-program.ensures.text) in
+    let is : IsTextOf c.args.read.now.text.core c.program-program.result.now =
+    subst (IsTextOf c.args.read.now.text.core) (sym c.program-program.ensures.program)
+    (subst (λ (text : ReadText). IsTextOf text.core source.program) same c.program-program.ensures.text) in
     fault_up c.from_residual-in_err-run.result _ _ c.from_residual-in_err-run.ensures.1
     (inr (
       c.program-program.result.now,
@@ -43,14 +44,14 @@ pub returns-clause-ok : goal.returns-clause-ok
 returns-clause-ok g c =
     let source = c.in_ok-source.source in
     let same : source.text ≡ c.args.read.now.text = ap (λ (s : SourceRecord). s.text) c.in_ok-source.ensures in
-    let is : IsTextOf c.args.read.now.text source.program = subst (λ (text : List ℕ). IsTextOf text source.program) same c.program-program.ensures.text in
+    let is : IsTextOf c.args.read.now.text.core source.program = subst (λ (text : ReadText). IsTextOf text.core source.program) same c.program-program.ensures.text in
     printed_of c.args.choice.now c.args.shape c.args.read.now.text None source.program c.in_ok-run.run' c.shown-printout.result is
     (subst (λ (way : Way). IsRunOfWay way source.program c.args.choice.now.options None (keep_for c.args.shape) c.in_ok-run.run')
     (sym c.requires) (subst (λ (program : Program). IsRunOfWay (Threads c.args.order) program c.args.choice.now.options None (keep_for c.args.shape) c.in_ok-run.run')
     c.program-program.ensures.program
     (subst (λ (keep : Keep). IsRunOfWay (Threads c.args.order) c.program-program.result.now c.args.choice.now.options None keep c.in_ok-run.run')
     c.keep_for.ensures c.in_ok-run.ensures.run)))
-    (subst (λ (text : List ℕ). IfOk c.shown-printout.result
+    (subst (λ (text : ReadText). IfOk c.shown-printout.result
     (λ printout. IsShown c.args.shape c.args.choice.now text source.program c.in_ok-run.run' (whole_text printout.parts.items))) same
     c.shown-printout.ensures.text)
     c.shown-printout.ensures.status
@@ -59,12 +60,12 @@ pub returns-clause-err : goal.returns-clause-err
 returns-clause-err g c =
     let source = c.in_ok-source.source in
     let same : source.text ≡ c.args.read.now.text = ap (λ (s : SourceRecord). s.text) c.in_ok-source.ensures in
-    let is : IsTextOf c.args.read.now.text source.program = subst (λ (text : List ℕ). IsTextOf text source.program) same c.program-program.ensures.text in
+    let is : IsTextOf c.args.read.now.text.core source.program = subst (λ (text : ReadText). IsTextOf text.core source.program) same c.program-program.ensures.text in
     unshown_of c.args.choice.now c.args.shape c.args.read.now.text None source.program c.in_ok-run.run' c.shown-printout.result is
     (subst (λ (way : Way). IsRunOfWay way source.program c.args.choice.now.options None (keep_for c.args.shape) c.in_ok-run.run')
     (sym c.requires) (subst (λ (program : Program). IsRunOfWay (Threads c.args.order) program c.args.choice.now.options None (keep_for c.args.shape) c.in_ok-run.run')
     c.program-program.ensures.program
     (subst (λ (keep : Keep). IsRunOfWay (Threads c.args.order) c.program-program.result.now c.args.choice.now.options None keep c.in_ok-run.run')
     c.keep_for.ensures c.in_ok-run.ensures.run)))
-    (subst (λ (text : List ℕ). IfErr c.shown-printout.result (IsShowFault c.args.shape c.args.choice.now text source.program c.in_ok-run.run')) same
+    (subst (λ (text : ReadText). IfErr c.shown-printout.result (IsShowFault c.args.shape c.args.choice.now text source.program c.in_ok-run.run')) same
     c.shown-printout.ensures.err)

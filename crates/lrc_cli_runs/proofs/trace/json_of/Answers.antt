@@ -10,7 +10,7 @@ pub returns : goal.returns
 returns c =
     let run = c.args.run.now in
     let times = times_in run.origins.times in
-    let said : map label_seen c.labels.result.now ≡ labels_in c.args.source.now.text c.args.source.now.program =
+    let said : map label_seen c.labels.result.now ≡ labels_in c.args.source.now.text.core c.args.source.now.program =
     c.labels.ensures.labels ∙ c.labels.ensures.text in
     IfOk-weaker c.json_part.result _ _
     (λ part is.

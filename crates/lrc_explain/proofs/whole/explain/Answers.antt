@@ -8,6 +8,8 @@ use Rattle.lrc_explain_waits.specs.Circles.{deadlocks_text}
 use Rattle.lrc_explain_waits.specs.Followed.{AreFollowed}
 use Rattle.lrc_explain_waits.specs.Stand.{stands_of}
 use Rattle.lrc_text.specs.RaceText.{first_race_text}
+use Rattle.lrc_named_core.specs.Tree.{Trap}
+use Rattle.lrc_named_core.specs.View.{trap_of}
 use Rattle.lrc_explain.specs.Explain.{fates_text}
 use Rattle.lrc_explain.specs.Groups.{groups_text, IsWithin}
 use Rattle.lrc_explain.proofs.Earlier.{pairs_within}
@@ -21,6 +23,7 @@ groups_part-requires-clause-within c =
 pub returns : goal.returns
 returns c =
     let labels : List Label = map label_seen c.args.labels.now in
+    let traps : List Trap = map trap_of c.args.traps.now in
     let program = c.args.code.now in
     let nodes = c.args.nodes in
     let lines = c.args.lines.now in
@@ -37,8 +40,8 @@ returns c =
     } in
     let stands = stands_of program nodes lines (Some c.args.steps) acts in
     let stands_are : c.in_ok-stands.stands.items ≡ stands = c.in_ok-stands.ensures program lines are in
-    let told_is : told ≡ fates_text labels acts stands =
-    c.in_ok-told.ensures ∙ ap (λ (s : List Stand). fates_text labels acts s) (c.deref.ensures.value ∙ stands_are) in
+    let told_is : told ≡ fates_text labels traps acts stands =
+    c.in_ok-told.ensures ∙ ap (λ (s : List Stand). fates_text labels traps acts s) (c.deref.ensures.value ∙ stands_are) in
     let deadlocks_are : deadlocks ≡ deadlocks_text stands =
     c.in_ok-deadlocks.ensures ∙ ap (λ (s : List Stand). deadlocks_text s) (c.deref-2.ensures.value ∙ stands_are) in
     let groups_are : c.in_ok-groups.groups.items ≡ groups_text labels acts (act_lines program nodes lines acts) pairs =
@@ -47,6 +50,6 @@ returns c =
       pairs,
       c.in_ok-pairs.ensures,
       c.in_ok-parts.ensures ∙ ap (λ t. t ++ deadlocks ++ c.in_ok-groups.groups.items ++ first) told_is
-          ∙ ap (λ t. fates_text labels acts stands ++ t ++ c.in_ok-groups.groups.items ++ first) deadlocks_are
-          ∙ ap (λ t. fates_text labels acts stands ++ deadlocks_text stands ++ t ++ first) groups_are,
+          ∙ ap (λ t. fates_text labels traps acts stands ++ t ++ c.in_ok-groups.groups.items ++ first) deadlocks_are
+          ∙ ap (λ t. fates_text labels traps acts stands ++ deadlocks_text stands ++ t ++ first) groups_are,
     )

@@ -1,5 +1,5 @@
 use Rattle.std.proofs.Common.{map, subst, sym}
-use Rattle.lrc_labels.specs.Reading.{label_seen}
+use Rattle.lrc_explain_waits.specs.Traps.{wording_of}
 use Rattle.lrc_orders.specs.Verdict.{EndsInRace}
 use Rattle.lrc_explore_ends.specs.Answers.{IsEndAnswer}
 use Rattle.lrc_explore_text.proofs.Ending.{of_raced}
@@ -16,5 +16,5 @@ race_told-requires-clause-ends c =
 pub returns-in-Racy-clause-ok : goal.returns-in-Racy-clause-ok
 returns-in-Racy-clause-ok c =
     let is = subst (IsEndAnswer c.args.program.now c.args.nodes c.args.races) c.in-Racy.is c.requires.verdict in
-    of_raced (map label_seen c.args.labels.now) c.args.program.now c.args.nodes c.args.lines.now c.args.races is.0 c.race_told.result c.race_told.ensures.ok
+    of_raced (wording_of c.args.wording.now) c.args.program.now c.args.nodes c.args.lines.now c.args.races is.0 c.race_told.result c.race_told.ensures.ok
     c.race_told.ensures.status

@@ -1,16 +1,16 @@
 use Rattle.std.specs.Prelude.{false, map, true}
-use Rattle.lrc_labels.specs.Reading.{label_seen}
+use Rattle.lrc_explain_waits.specs.Traps.{wording_of}
 use Rattle.lrc_explore_text.proofs.Telling.{fits_in, fits_noted, gives_up, of_orders, of_outcomes}
 use Rattle.lrc_explore_text.proofs.explored.explored.Goals as goal
 
 pub returns-then-outcomes-clause-ok : goal.returns-then-outcomes-clause-ok
 returns-then-outcomes-clause-ok c =
-    of_outcomes (map label_seen c.args.labels.now) c.args.program.now c.args.nodes c.args.lines.now c.args.outcomes c.outcomes_told.result c.if-outcomes.true
+    of_outcomes (wording_of c.args.wording.now) c.args.program.now c.args.nodes c.args.lines.now c.args.outcomes c.outcomes_told.result c.if-outcomes.true
     c.outcomes_told.ensures.text c.outcomes_told.ensures.status
 
 pub returns-else-outcomes-clause-ok : goal.returns-else-outcomes-clause-ok
 returns-else-outcomes-clause-ok c =
-    of_orders (map label_seen c.args.labels.now) c.args.program.now c.args.nodes c.args.lines.now c.args.outcomes c.orders_told.result c.if-outcomes.false
+    of_orders (wording_of c.args.wording.now) c.args.program.now c.args.nodes c.args.lines.now c.args.outcomes c.orders_told.result c.if-outcomes.false
     c.orders_told.ensures.ok
 
 pub returns-then-outcomes-clause-fits : goal.returns-then-outcomes-clause-fits

@@ -3,7 +3,7 @@ use Rattle.std.specs.Prelude.{None, Vec, map}
 use Rattle.std.specs.declared.alloc.Global.{Global}
 use Rattle.std.proofs.lemmas.Result.{IfOk-weaker}
 use Rattle.lrc_lang.specs.declared.program.Program.{Program}
-use Rattle.lrc_labels.specs.Reading.{label_seen}
+use Rattle.lrc_explain_waits.specs.Traps.{traps_told, wording_of}
 use Rattle.lrc_explain_waits.specs.Stand.{stands_of}
 use Rattle.lrc_explain_waits.specs.Stuck.{stuck_text}
 use Rattle.lrc_explore_text.specs.Orders.{ends_text}
@@ -11,10 +11,11 @@ use Rattle.lrc_explore_text.proofs.orders.ends_told.Goals as goal
 
 pub returns : goal.returns
 returns c =
-    let labels = map label_seen c.args.labels.now in
+    let wording = wording_of c.args.wording.now in
     let nodes = c.args.nodes in
     let lines = c.args.lines.now in
     let acts = c.args.acts.now in
-    let is = ap (λ (p : Program). stuck_text labels (stands_of p nodes lines None acts)) c.in_ok-code.ensures in
-    IfOk-weaker c.stuck_part.result (λ (text : Vec ℕ Global). text.items ≡ stuck_text labels (stands_of c.in_ok-code.code nodes lines None acts))
-    (λ text. text.items ≡ ends_text labels c.args.program.now nodes lines acts) (λ text e. e ∙ is) c.stuck_part.ensures
+    let told = λ (p : Program). stuck_text wording.labels (traps_told wording.traps p nodes acts) (stands_of p nodes lines None acts) in
+    let is = ap told c.in_ok-code.ensures in
+    IfOk-weaker c.stuck_part.result (λ (text : Vec ℕ Global). text.items ≡ told c.in_ok-code.code)
+    (λ text. text.items ≡ ends_text wording c.args.program.now nodes lines acts) (λ text e. e ∙ is) c.stuck_part.ensures

@@ -1,6 +1,6 @@
 use Rattle.std.proofs.Common.{◌∙◌, ◌++◌, ℕ, List, ap, map}
 use Rattle.lrc_trace.specs.declared.race.Race.{Race}
-use Rattle.lrc_labels.specs.Reading.{label_seen}
+use Rattle.lrc_explain_waits.specs.Traps.{wording_of}
 use Rattle.lrc_text.specs.Parts.{whole_text}
 use Rattle.lrc_text.specs.RaceText.{races_text}
 use Rattle.lrc_explore_text.specs.Orders.{order_text}
@@ -19,7 +19,7 @@ returns-clause-ok c =
     let named = c.in_ok-named.named.items in
     let first = c.in_ok-first.first.items in
     let named_is = c.in_ok-named.ensures ∙ ap (λ (rs : List Race). races_text rs) c.deref.ensures.value in
-    of_race (map label_seen c.args.labels.now) program nodes lines order run acts led tells last races c.last_of-last.ensures c.in_ok-races.ensures
+    of_race (wording_of c.args.wording.now) program nodes lines order run acts led tells last races c.last_of-last.ensures c.in_ok-races.ensures
     (whole_text c.in_ok-parts.parts.items)
     (c.in_ok-parts.ensures ∙ ap (λ (t : List ℕ). t ++ named ++ first) c.in_ok-told.ensures
     ∙ ap (λ (n : List ℕ). order_text program nodes lines acts ++ n ++ first) named_is

@@ -1,11 +1,11 @@
-use Rattle.std.proofs.Common.{◌≡◌, ◌∙◌, List, [], ◌∷◌, Ok, ap, fold, map, refl, subst, sym}
-use Rattle.lrc_lang.specs.Lines.{HasLines}
+use Rattle.std.proofs.Common.{◌≡◌, ◌∙◌, ℕ, List, [], ◌∷◌, Ok, ap, fold, map, refl, subst, sym}
 use Rattle.lrc_lang.specs.Faults.{IsText}
 use Rattle.lrc_lang.specs.FirstFault.{placed}
 use Rattle.lrc_lang.specs.Positions.{Located}
 use Rattle.lrc_lang.specs.Symbol.{Names}
 use Rattle.lrc_lang.specs.Token.{Placed}
 use Rattle.lrc_lang.specs.Tree.{ProgramTree, program_of}
+use Rattle.lrc_lang.specs.declared.program.Program.{Program}
 use Rattle.lrc_lang.proofs.Beginnings.{lines_same}
 use Rattle.lrc_lang.proofs.LexemesUnique.{unique}
 use Rattle.lrc_lang.proofs.Located.{lexed_located}
@@ -14,18 +14,15 @@ use Rattle.lrc_labels.specs.declared.cut.Divider.TheVariants.{LineFeed}
 use Rattle.lrc_labels.specs.Cut.{cut, divides}
 use Rattle.lrc_labels.specs.Reading.{labels_of}
 use Rattle.lrc_private_names.specs.Spelling.{AreNamesOf, names_through}
-use Rattle.lrc_source.specs.Sources.{IsSource, SourceRecord, written_for}
+use Rattle.lrc_source.specs.Sources.{IsSource, SourceRecord}
+use Rattle.lrc_source.specs.Telling.{AreLines, AreLinesBy, ReadText, Telling, translated, written}
+use Rattle.lrc_source.proofs.Lines.{lines_of_one}
 use Rattle.lrc_source.proofs.laws.a_text_has_one_source.Goals as goal
 
 one_program : (one other : SourceRecord) → IsSource one → IsSource other → one.text ≡ other.text → program_of one.program ≡ program_of other.program
 one_program one other is are same =
-    of_program one.text (Ok one.program) is.is_text tt (program_of other.program)
-    (subst (λ text. IsText text (program_of other.program)) (sym same) are.is_text)
-
-one_list : (one other : SourceRecord) → IsSource one → IsSource other → one.text ≡ other.text → one.lines ≡ other.lines
-one_list one other is are same =
-    lines_same one.text (program_of one.program) (program_of other.program) one.lines other.lines is.has_lines
-    (subst (λ text. HasLines text (program_of other.program) other.lines) (sym same) are.has_lines)
+    of_program one.text.core (Ok one.program) is.is_text tt (program_of other.program)
+    (subst (λ (text : ReadText). IsText text.core (program_of other.program)) (sym same) are.is_text)
 
 -- names are found by what stands in a text, wherever it stands
 by_lexemes : (names : Names) (all : List Located)
@@ -37,26 +34,22 @@ pub returns-clause-program : goal.returns-clause-program
 returns-clause-program c = one_program
 
 pub returns-clause-lines : goal.returns-clause-lines
-returns-clause-lines c = one_list
-
-pub returns-clause-origins : goal.returns-clause-origins
-returns-clause-origins c = λ one other is are same. is.origins_are ∙ ap written_for (one_list one other is are same) ∙ sym are.origins_are
+returns-clause-lines c = λ one other is are same.
+    lines_of_one one.text.telling one.text.core one.program other.program one.lines other.lines (one_program one other is are same) is.are_lines
+    (subst (λ (text : ReadText). AreLines text other.program other.lines) (sym same) are.are_lines)
 
 pub returns-clause-labels : goal.returns-clause-labels
 returns-clause-labels c = λ one other is are same.
     let trees = one_program one other is are same in
     is.labels_are
-    ∙ ap (λ (tree : ProgramTree). labels_of tree.words tree.locks (cut (divides LineFeed) one.text)) trees
-    ∙ ap (λ text. labels_of other.program.words other.program.locks (cut (divides LineFeed) text)) same
+    ∙ ap (λ (tree : ProgramTree). labels_of tree.words tree.locks (cut (divides LineFeed) one.text.core)) trees
+    ∙ ap (λ (text : ReadText). labels_of other.program.words other.program.locks (cut (divides LineFeed) text.core)) same
     ∙ sym are.labels_are
 
 pub returns-clause-names : goal.returns-clause-names
 returns-clause-names c = λ one other is are same.
     let mine = is.are_names in
-    let theirs = subst (λ text. AreNamesOf text other.names) (sym same) are.are_names in
+    let theirs = subst (λ (text : ReadText). AreNamesOf text.core other.names) (sym same) are.are_names in
     mine.each ∙ by_lexemes [] mine.all
     ∙ ap (fold (λ found (one : Placed). names_through found one.lexeme) []) (unique (lexed_located mine.are) (lexed_located theirs.are))
     ∙ sym (by_lexemes [] theirs.all) ∙ sym theirs.each
-
-pub returns-clause-nodes : goal.returns-clause-nodes
-returns-clause-nodes c = λ one other is are. is.no_nodes ∙ sym are.no_nodes

@@ -8,11 +8,12 @@ use Rattle.lrc_page.specs.declared.size.Size.{Size}
 use Rattle.lrc_text.specs.Parts.{whole_text}
 use Rattle.lrc_why.specs.Spread.{OfEach}
 use Rattle.lrc_why_text.specs.declared.asked.Asked.{Asked}
+use Rattle.lrc_source.specs.Telling.{ReadText}
 use Rattle.lrc_why_run.specs.Answers.{AnswersRun, IsAnswerable}
 use Rattle.lrc_why_run.proofs.run.told_alone.Goals as goal
 
 -- the answer to one that is asked, as a text of one part
-alone : (text : List ℕ) (program : Program) (nodes : ℕ) (page : Size) (acts : List Act) (asked : Asked) (parts : List (Vec ℕ Global))
+alone : (text : ReadText) (program : Program) (nodes : ℕ) (page : Size) (acts : List Act) (asked : Asked) (parts : List (Vec ℕ Global))
     → OfEach 1 (λ place part. (one : Asked) → slice_get (asked ∷ []) place ≡ Some one → AnswersRun text program nodes page acts one part.items) parts
     → AnswersRun text program nodes page acts asked (whole_text parts)
 alone text program nodes page acts asked [] answers = let none = answers.all in absurd (omega arith)

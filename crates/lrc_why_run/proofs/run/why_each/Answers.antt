@@ -40,7 +40,7 @@ returns c =
           record {
             there = (answerable (length acts) c.args.asked.now place one c.requires.asked stands).there;
             lines = lines;
-            has_lines = c.lines.ensures.text;
+            are_lines = c.lines.ensures.text;
             names = names;
             are_names = c.names.ensures.text;
             shown = shown;
