@@ -107,7 +107,7 @@ impl<'n, 'p> Statements<'n, 'p> {
         let asserts = asserting(token);
         let divides = has_division(&p);
         if divides {
-            let test = trial(self.alloc, Core::Private(name))?;
+            let test = trial(self.alloc, Core::private(name))?;
             into.push(Statement::Assign(origin, name, p))?;
             into.push(Statement::Assign(asserts, name, test))?;
             Ok(())

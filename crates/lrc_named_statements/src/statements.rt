@@ -167,6 +167,6 @@ pub fn trial<'p>(alloc: Global, condition: Core<'p>) -> Result<Core<'p>, AllocEr
     ensures { IfOk result (λ e. expression_of e ≡ trial_of (expression_of condition.entry)) }
 {
     let holds = truth(alloc, condition)?;
-    let test = binary(alloc, Core::Number(1), Operator::Divide, holds)?;
+    let test = binary(alloc, Core::number(1), Operator::Divide, holds)?;
     Ok(test)
 }
