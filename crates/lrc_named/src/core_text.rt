@@ -16,7 +16,7 @@ use lrc_lang::fault::FaultKind;
 use lrc_named_check::names_of;
 use lrc_named_faults::layout::Layout;
 use lrc_named_faults::values::Found;
-use lrc_named_parse::{Parsed, parse};
+use lrc_named_parse::parse;
 use lrc_named_tokens::token::Located;
 use lrc_named_tree::tree::NamedProgram;
 use lrc_named_written::{Written, core_text};
@@ -40,27 +40,15 @@ pub fn core_of_text(alloc: Global, text: &[u8]) -> Result<CoreText, NamedFault>
     ensures fault { IfErr result (IsNamedFault text.now) }
 {
     let parsed = parse(alloc, text)?;
-    // What is declared borrows the program for as long as the text itself lives, so the tree is never given back.
-    let parsed = Box::leak(Box::new(alloc, parsed)?);
-    of_parsed(alloc, text, parsed)
-}
-
-// The core of what this text is parsed to.
-fn of_parsed<'p>(alloc: Global, text: &[u8], parsed: &'p Parsed<'p>) -> Result<CoreText, NamedFault>
-    requires { IsNamed text.now (map located_of parsed.now.tokens.items) (program_of parsed.now.program) }
-    ensures core { IfOk result (λ core. IsCoreText text.now
-        (option_map (λ nodes. nodes.count) core.nodes) core.text.items) }
-    ensures fault { IfErr result (IsNamedFault text.now) }
-{
     of_program(alloc, text, &parsed.tokens, &parsed.program)
 }
 
 // The core of a program that is this text and has these tokens.
-fn of_program<'p>(
+fn of_program(
     alloc: Global,
     text: &[u8],
     tokens: &[Located<'_>],
-    program: &'p NamedProgram<'p>,
+    program: &NamedProgram<'_>,
 ) -> Result<CoreText, NamedFault>
     requires { IsNamed text.now (map located_of tokens.now) (program_of program.now) }
     ensures core { IfOk result (λ core. IsCoreText text.now
@@ -80,8 +68,8 @@ fn of_names<'p>(
     alloc: Global,
     text: &[u8],
     lines: &[u32],
-    program: &'p NamedProgram<'p>,
-    layout: &Layout<'p>,
+    program: &NamedProgram<'p>,
+    layout: &Layout<'_, 'p>,
 ) -> Result<CoreText, NamedFault>
     requires clean { IsClean (program_of program.now) layout.now }
     requires tokens { (tokens : List LocatedSeen)

@@ -54,12 +54,12 @@ struct Choice<'s, 'p> {
 
 /// What blocks are translated by: what is declared.
 #[derive(Clone, Copy)]
-pub struct Blocks<'n, 'p> {
+pub struct Blocks<'t, 'n, 'p> {
     pub alloc: Global,
-    pub names: &'n Names<'p>,
+    pub names: &'t Names<'n, 'p>,
 }
 
-impl<'n, 'p> Blocks<'n, 'p> {
+impl<'t, 'n, 'p> Blocks<'t, 'n, 'p> {
     /// Adds the core of statements where so many names of the translation's own are held. It fails only if memory runs out.
     #[cycle(blocks)]
     pub fn block(

@@ -24,7 +24,7 @@ use lrc_named_translation::parts::{Element, bare, using_item};
 use lrc_named_tree::tree::{Expression, Place, Update};
 use std::alloc::AllocError;
 
-impl<'n, 'p> Statements<'n, 'p> {
+impl<'t, 'n, 'p> Statements<'t, 'n, 'p> {
     /// Adds the core of `place = value;`, `place += value;` or `place -= value;` where so many names of the translation's own
     /// are held. It fails only if memory runs out.
     pub fn assign(

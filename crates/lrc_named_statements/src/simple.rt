@@ -18,7 +18,7 @@ use lrc_named_translation::parts::holding;
 use lrc_named_tree::tree::{Expression, Place};
 use std::alloc::AllocError;
 
-impl<'n, 'p> Statements<'n, 'p> {
+impl<'t, 'n, 'p> Statements<'t, 'n, 'p> {
     /// Adds the core of `acquire place;` where this is the statement that begins with a token, and so many names of the
     /// translation's own are held. It fails only if memory runs out.
     pub fn acquire(

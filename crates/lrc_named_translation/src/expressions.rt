@@ -32,9 +32,9 @@ use std::alloc::{AllocError, Global};
 
 /// What the expressions of a statement are translated by: what is declared, and what their core statements come from.
 #[derive(Clone, Copy)]
-pub struct Translator<'n, 'p> {
+pub struct Translator<'t, 'n, 'p> {
     pub alloc: Global,
-    pub names: &'n Names<'p>,
+    pub names: &'t Names<'n, 'p>,
     pub origin: Origin<'p>,
 }
 
@@ -45,7 +45,7 @@ pub struct Arguments<'a, 'p> {
     pub cores: &'a [Core<'p>],
 }
 
-impl<'n, 'p> Translator<'n, 'p> {
+impl<'t, 'n, 'p> Translator<'t, 'n, 'p> {
     /// Returns the core of an expression, and adds what comes before it. Parameters mean what the arguments say; `below` is how
     /// many of the declared names come before whatever the expression calls, and `taken` how many names of the translation's own
     /// the statement has taken. It fails only if memory runs out.

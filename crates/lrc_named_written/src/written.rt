@@ -37,7 +37,7 @@ pub enum Written {
 /// stand on these lines; or why there is none. It fails only if memory runs out.
 pub fn core_text<'p>(
     alloc: Global,
-    names: &Names<'p>,
+    names: &Names<'_, 'p>,
     lines: &[u32],
     program: &NamedProgram<'p>,
 ) -> Result<Written, AllocError>
@@ -55,7 +55,7 @@ pub fn core_text<'p>(
 // What a core comes to, where the program has so many private names.
 fn of_core(
     alloc: Global,
-    names: &Names<'_>,
+    names: &Names<'_, '_>,
     lines: &[u32],
     privates: u32,
     core: &CoreProgram<'_>,
@@ -72,7 +72,7 @@ fn of_core(
 // The text of a core, unless it is too long.
 fn text_of(
     alloc: Global,
-    names: &Names<'_>,
+    names: &Names<'_, '_>,
     lines: &[u32],
     core: &CoreProgram<'_>,
 ) -> Result<Written, AllocError>
