@@ -18,7 +18,7 @@ use lrc_named_check::names_of;
 use lrc_named_core::tree::Trap;
 use lrc_named_faults::layout::Layout;
 use lrc_named_faults::values::Found;
-use lrc_named_parse::{Parsed, parse};
+use lrc_named_parse::parse;
 use lrc_named_tokens::token::Located;
 use lrc_named_tree::tree::NamedProgram;
 use lrc_named_written::{Written, core_text};
@@ -48,23 +48,6 @@ pub fn core_of_text(alloc: Global, text: &[u8]) -> Result<CoreText<'_>, NamedFau
     ensures fault { IfErr result (IsNamedFault text.now) }
 {
     let parsed = parse(alloc, text)?;
-    // What is declared borrows the program for as long as the text itself lives, so the tree is never given back.
-    let parsed = Box::leak(Box::new(alloc, parsed)?);
-    of_parsed(alloc, text, parsed)
-}
-
-// The core of what this text is parsed to.
-fn of_parsed<'p>(
-    alloc: Global,
-    text: &[u8],
-    parsed: &'p Parsed<'p>,
-) -> Result<CoreText<'p>, NamedFault>
-    requires { IsNamed text.now (map located_of parsed.now.tokens.items) (program_of parsed.now.program) }
-    ensures core { IfOk result (λ core. IsCoreTextOn text.now
-        (option_map (λ nodes. nodes.count) core.nodes) core.text.items core.lines.items
-        (map trap_of core.traps.items)) }
-    ensures fault { IfErr result (IsNamedFault text.now) }
-{
     of_program(alloc, text, &parsed.tokens, &parsed.program)
 }
 
@@ -73,7 +56,7 @@ fn of_program<'p>(
     alloc: Global,
     text: &[u8],
     tokens: &[Located<'_>],
-    program: &'p NamedProgram<'p>,
+    program: &NamedProgram<'p>,
 ) -> Result<CoreText<'p>, NamedFault>
     requires { IsNamed text.now (map located_of tokens.now) (program_of program.now) }
     ensures core { IfOk result (λ core. IsCoreTextOn text.now
@@ -94,8 +77,8 @@ fn of_names<'p>(
     alloc: Global,
     text: &[u8],
     lines: &[u32],
-    program: &'p NamedProgram<'p>,
-    layout: &Layout<'p>,
+    program: &NamedProgram<'p>,
+    layout: &Layout<'_, 'p>,
 ) -> Result<CoreText<'p>, NamedFault>
     requires clean { IsClean (program_of program.now) layout.now }
     requires tokens { (tokens : List LocatedSeen)

@@ -9,7 +9,7 @@ use lrc_named_tree::tree::NamedProgram;
 use lrc_setting::setting::Nodes;
 
 /// Returns how many nodes a program without a fault asks for, if it does, as its layout says.
-pub fn nodes_asked(program: &NamedProgram<'_>, layout: &Layout<'_>) -> Option<Nodes>
+pub fn nodes_asked(program: &NamedProgram<'_>, layout: &Layout<'_, '_>) -> Option<Nodes>
     requires { IsClean (program_of program.now) layout.now }
     ensures { option_map (λ nodes. nodes.count) result ≡ layout.now.nodes }
 {

@@ -9,7 +9,7 @@ ghost use Rattle.lrc_named_address.specs.View.{index_of};
 
 use lrc_lang::program::Operator;
 use lrc_named_core::binary;
-use lrc_named_core::tree::Expression;
+use lrc_named_core::tree::{Expression, Tree};
 use lrc_named_names::item::Item;
 use std::alloc::{AllocError, Global};
 
@@ -25,10 +25,9 @@ struct Index<'c, 'p> {
 fn number_within(core: &Expression<'_>, size: u32) -> Option<u64>
     ensures { result ≡ number_within (expression_of core.now) size }
 {
-    match core {
-        Expression::Number(n) => { if *n < u64::from(size) { Some(*n) } else { None } }
-        Expression::Private(_) | Expression::Me | Expression::Nodes | Expression::Binary(_, _, _) =>
-            None,
+    match &core.tree {
+        Tree::Number(n) => { if *n < u64::from(size) { Some(*n) } else { None } }
+        Tree::Private(_) | Tree::Me | Tree::Nodes | Tree::Binary(_, _, _) => None,
     }
 }
 
@@ -36,12 +35,12 @@ fn number_within(core: &Expression<'_>, size: u32) -> Option<u64>
 fn test<'p>(alloc: Global, index: Index<'_, 'p>) -> Result<Expression<'p>, AllocError>
     ensures { IfOk result (λ e. expression_of e ≡ test_of (index_of index.entry)) }
 {
-    let core = index.core.copy(alloc)?;
+    let core = index.core.copy()?;
     binary(
         alloc,
         core,
         Operator::Less,
-        Expression::Number(u64::from(index.size)),
+        Expression::number(u64::from(index.size)),
     )
 }
 
@@ -49,11 +48,11 @@ fn test<'p>(alloc: Global, index: Index<'_, 'p>) -> Result<Expression<'p>, Alloc
 fn summand<'p>(alloc: Global, index: Index<'_, 'p>) -> Result<Expression<'p>, AllocError>
     ensures { IfOk result (λ e. expression_of e ≡ summand_of (index_of index.entry)) }
 {
-    let core = index.core.copy(alloc)?;
+    let core = index.core.copy()?;
     if index.stride == 1 {
         Ok(core)
     } else {
-        let stride = Expression::Number(u64::from(index.stride));
+        let stride = Expression::number(u64::from(index.stride));
         let product = binary(alloc, core, Operator::Multiply, stride)?;
         Ok(product)
     }
@@ -102,13 +101,13 @@ fn address_of<'p>(
     ensures { IfOk result (λ e. expression_of e ≡ address_of base (map index_of outside.now)) }
 {
     match outside {
-        [] => Ok(Expression::Number(u64::from(base))),
+        [] => Ok(Expression::number(u64::from(base))),
         [first, others @ ..] => {
-            let sum = plus_summands(alloc, Expression::Number(u64::from(base) + 1), outside)?;
+            let sum = plus_summands(alloc, Expression::number(u64::from(base) + 1), outside)?;
             let begun = test(alloc, *first)?;
             let tests = times_tests(alloc, begun, others)?;
             let product = binary(alloc, tests, Operator::Multiply, sum)?;
-            let whole = binary(alloc, product, Operator::Subtract, Expression::Number(1))?;
+            let whole = binary(alloc, product, Operator::Subtract, Expression::number(1))?;
             Ok(whole)
         }
     }

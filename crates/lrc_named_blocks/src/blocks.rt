@@ -54,12 +54,12 @@ struct Choice<'s, 'p> {
 
 /// What blocks are translated by: what is declared.
 #[derive(Clone, Copy)]
-pub struct Blocks<'n, 'p> {
+pub struct Blocks<'t, 'n, 'p> {
     pub alloc: Global,
-    pub names: &'n Names<'p>,
+    pub names: &'t Names<'n, 'p>,
 }
 
-impl<'n, 'p> Blocks<'n, 'p> {
+impl<'t, 'n, 'p> Blocks<'t, 'n, 'p> {
     /// Adds the core of statements where so many names of the translation's own are held. It fails only if memory runs out.
     #[cycle(blocks)]
     pub fn block(
@@ -199,7 +199,7 @@ impl<'n, 'p> Blocks<'n, 'p> {
         let name = holding_place(holds, with.place)?;
         let origin = from(with.token);
         into.push(Statement::Assign(origin, name, number))?;
-        self.guard(with, Core::Private(name), holds, into)
+        self.guard(with, Core::private(name), holds, into)
     }
 
     // Adds the block of a `with`, between the statements that acquire and release the lock of this number.
@@ -218,7 +218,7 @@ impl<'n, 'p> Blocks<'n, 'p> {
             × (b ≡ guarded with.entry.token with.entry.close (place_of with.entry.place.now)
             (expression_of number.entry) within)) into.old.items into.new.items) }
     {
-        let again = number.copy(self.alloc)?;
+        let again = number.copy()?;
         let origin = at_item(with.token, with.place);
         let end = closing(with.token, with.close, with.place);
         into.push(Statement::Acquire(origin, number))?;
@@ -326,7 +326,7 @@ impl<'n, 'p> Blocks<'n, 'p> {
         let limit = holding(holds, count.end);
         let origin = from(count.token);
         into.push(Statement::Assign(origin, limit, end))?;
-        self.rounds(count, first, Core::Private(limit), holds, into)
+        self.rounds(count, first, Core::private(limit), holds, into)
     }
 
     // Adds the loop of a `for` from this value to below this limit.
@@ -349,12 +349,12 @@ impl<'n, 'p> Blocks<'n, 'p> {
     {
         let name = Private::Named(count.name.bytes);
         let origin = from(count.token);
-        let test = binary(self.alloc, Core::Private(name), Operator::Less, limit)?;
+        let test = binary(self.alloc, Core::private(name), Operator::Less, limit)?;
         let next = binary(
             self.alloc,
-            Core::Private(name),
+            Core::private(name),
             Operator::Add,
-            Core::Number(1),
+            Core::number(1),
         )?;
         into.push(Statement::Assign(origin, name, first))?;
         let mut round = Vec::new(self.alloc);

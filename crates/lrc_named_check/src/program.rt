@@ -12,10 +12,10 @@ use std::alloc::{AllocError, Global};
 
 /// Returns what the names of a named program mean, as its core is made by it, or the first fault of the program. It fails
 /// only if memory runs out.
-pub fn names_of<'p>(
+pub fn names_of<'n, 'p>(
     alloc: Global,
-    program: &'p NamedProgram<'p>,
-) -> Result<Found<Layout<'p>>, AllocError>
+    program: &'n NamedProgram<'p>,
+) -> Result<Found<Layout<'n, 'p>>, AllocError>
     ensures { IfOk result (λ found. AreNamesFound (program_of program.now) found) }
 {
     check(alloc, program)

@@ -86,12 +86,12 @@ fn call_with(arguments: &[Constancy], body: Constancy) -> Constancy
 
 /// What is constant, by what is declared.
 #[derive(Clone, Copy)]
-pub struct Constants<'n, 'p> {
+pub struct Constants<'t, 'n, 'p> {
     pub alloc: Global,
-    pub names: &'n Names<'p>,
+    pub names: &'t Names<'n, 'p>,
 }
 
-impl<'n, 'p> Constants<'n, 'p> {
+impl<'t, 'n, 'p> Constants<'t, 'n, 'p> {
     /// Returns what is known of an expression before a run, where this is known of the parameters, and whatever it calls is
     /// among the first `below` of what is declared. It fails only if memory runs out.
     #[cycle(constancy)]

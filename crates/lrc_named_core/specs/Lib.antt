@@ -1,2 +1,3 @@
+pub mod Shape
 pub mod Tree
 pub mod View

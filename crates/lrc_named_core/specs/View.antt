@@ -1,21 +1,16 @@
 -- The code's trees as the definitions see them.
 use Rattle.std.specs.Prelude.{List, [], ◌∷◌}
-use Rattle.lrc_named_core.specs.declared.tree.Private as code_private
-use Rattle.lrc_named_core.specs.declared.tree.Private.TheVariants.{Named, Own}
 use Rattle.lrc_named_core.specs.declared.tree.Trap as code_trap
 use Rattle.lrc_named_core.specs.declared.tree.Trap.TheVariants.{Plain, Assertion, Index}
 use Rattle.lrc_named_core.specs.declared.tree.Origin as code_origin
 use Rattle.lrc_named_core.specs.declared.tree.Expression as code_expression
-use Rattle.lrc_named_core.specs.declared.tree.Expression.{Number, Private, Me, Nodes, Binary'}
 use Rattle.lrc_named_core.specs.declared.tree.Statement as code_statement
 use Rattle.lrc_named_core.specs.declared.tree.Statement.{Assign, Read, Write, Acquire, Release, Barrier, Print, If', While'}
 use Rattle.lrc_named_core.specs.declared.tree.Statement.{Row_of-Statement, end_of-Statement, more_of-Statement}
+use Rattle.lrc_named_core.specs.Shape.{tree_of}
+pub use Rattle.lrc_named_core.specs.Shape.{private_of}
 use Rattle.lrc_named_core.specs.Tree as tree
-use Rattle.lrc_named_core.specs.Tree.{named, own, plain, assertion, index, Origin, Block, empty, next}
-
-abbrev pub private_of : code_private.Private → tree.Private
-private_of (Named bytes) = named bytes.now
-private_of (Own number first last) = own number first last
+use Rattle.lrc_named_core.specs.Tree.{plain, assertion, index, Origin, Block, empty, next}
 
 abbrev pub trap_of : code_trap.Trap → tree.Trap
 trap_of Plain = plain
@@ -27,11 +22,7 @@ origin_of o = record { statement = o.statement; line = o.line; trap = trap_of o.
 
 -- an expression of the code
 abbrev pub expression_of : code_expression.Expression → tree.Expression
-expression_of (Number n) = tree.number n
-expression_of (Private name) = tree.private (private_of name)
-expression_of Me = tree.me
-expression_of Nodes = tree.nodes
-expression_of (Binary' p left operator q right) = tree.binary (expression_of left) operator (expression_of right)
+expression_of e = tree_of e.tree
 
 -- a statement of the code, and the statements of a block there
 abbrev mutual

@@ -1,6 +1,11 @@
 // The trees of a core. A token is given by its index among the tokens of the named program's text, from 0.
 
+ghost use Rattle.std.specs.Prelude.{◌≡◌};
+ghost use Rattle.lrc_named_core.specs.Tree.{has_division, has_name};
+ghost use Rattle.lrc_named_core.specs.Shape.{tree_of};
+
 use lrc_lang::program::Operator;
+use std::rc::Rc;
 
 /// A private name.
 #[derive(Clone, Copy)]
@@ -12,14 +17,27 @@ pub enum Private<'p> {
     Own(u32, u32, u32),
 }
 
-/// An expression of the core.
+/// How an expression of the core is built. The sides of an operator are shared by its copies.
 #[derive(Drop)]
-pub enum Expression<'p> {
+pub enum Tree<'p> {
     Number(u64),
     Private(Private<'p>),
     Me,
     Nodes,
-    Binary(Box<Expression<'p>>, Operator, Box<Expression<'p>>),
+    Binary(Rc<Tree<'p>>, Operator, Rc<Tree<'p>>),
+}
+
+/// An expression of the core. It may stand for many more operators than it has parts, so that what the translation asks of
+/// it is kept beside it.
+#[derive(Drop)]
+pub struct Expression<'p> {
+    pub tree: Tree<'p>,
+    /// Whether it has a division or a remainder.
+    pub divides: bool,
+    /// Whether it has a private name, also one of the translation's own.
+    pub names: bool,
+    ghost divides_is: { divides ≡ has_division (tree_of tree) },
+    ghost names_is: { names ≡ has_name (tree_of tree) },
 }
 
 /// What a trap of a statement says of the named program, besides the core's words.

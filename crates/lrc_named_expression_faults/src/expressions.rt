@@ -67,7 +67,7 @@ fn size_at(sizes: &[u32], place: usize) -> Option<u32>
     sizes.get(place).copied()
 }
 
-impl<'p> Scope<'_, 'p> {
+impl<'p> Scope<'_, '_, 'p> {
     /// Returns the value of an expression in which names are used as what they are, if it is constant and has a value. It
     /// fails only if memory runs out.
     pub fn value(&self, expression: &Expression<'p>) -> Result<Option<u64>, AllocError>
@@ -134,7 +134,7 @@ impl<'p> Scope<'_, 'p> {
     // The fault of a name without arguments, if it has one.
     fn in_element(
         &self,
-        sense: Sense<'_, 'p>,
+        sense: Sense<'_, '_, 'p>,
         name: Name<'p>,
         indices: &[Expression<'p>],
     ) -> Option<Fault>

@@ -61,7 +61,7 @@ fn extent_at(extents: &[Extent], place: usize) -> Option<Extent>
     extents.get(place).copied()
 }
 
-impl<'p> Scope<'_, 'p> {
+impl<'p> Scope<'_, '_, 'p> {
     /// Returns the extent of the body of the function of this name.
     pub fn body_extent(&self, name: &[u8]) -> Extent
         requires { AreExtents (declared_of self.now.names.now) self.now.extents.now }

@@ -17,19 +17,19 @@ use std::alloc::Global;
 
 /// What a name means where it is used.
 #[derive(Clone, Copy)]
-pub enum Sense<'n, 'p> {
+pub enum Sense<'t, 'n, 'p> {
     /// A parameter of the function in whose body it stands.
     Parameter,
     /// It is declared.
-    Declared(&'n Meaning<'p>),
+    Declared(&'t Meaning<'n, 'p>),
     /// Some statement sets it, and it is not declared.
     Private,
     Unknown,
 }
 
-impl<'n> Sense<'n, '_> {
+impl<'t> Sense<'t, '_, '_> {
     /// Returns the sizes of a shared item; nothing else has any.
-    pub fn shared_sizes(self) -> &'n [u32]
+    pub fn shared_sizes(self) -> &'t [u32]
         ensures { result.now ≡ shared_sizes (sense_seen self.entry) }
     {
         match self {
@@ -42,7 +42,7 @@ impl<'n> Sense<'n, '_> {
     }
 
     /// Returns the sizes of a lock; nothing else has any.
-    pub fn lock_sizes(self) -> &'n [u32]
+    pub fn lock_sizes(self) -> &'t [u32]
         ensures { result.now ≡ lock_sizes (sense_seen self.entry) }
     {
         match self {
@@ -70,16 +70,16 @@ impl<'n> Sense<'n, '_> {
 
 /// Where an expression or a statement stands.
 #[derive(Clone, Copy)]
-pub struct Scope<'n, 'p> {
+pub struct Scope<'t, 'n, 'p> {
     pub alloc: Global,
     /// What is declared before it.
-    pub names: &'n Names<'p>,
+    pub names: &'t Names<'n, 'p>,
     /// What stands in the bodies of functions: at the place of each function among the names.
-    pub extents: &'n [Extent],
+    pub extents: &'t [Extent],
     /// The parameters of the function in whose body it stands.
-    pub known: &'n [Known<'p>],
+    pub known: &'t [Known<'p>],
     /// The names that some statement of the text sets, where these may stand.
-    pub assigned: &'n [Name<'p>],
+    pub assigned: &'t [Name<'p>],
     /// Whether it has to be constant: a constant's value, or a size.
     pub is_constant: bool,
 }
@@ -104,13 +104,13 @@ pub fn is_one_of(names: &[Name<'_>], name: &[u8]) -> bool
 }
 
 // How many names are declared.
-fn count_of(declared: &[Declared<'_>]) -> usize
+fn count_of(declared: &[Declared<'_, '_>]) -> usize
     ensures { result ≡ length (map entry_of declared.now) }
 {
     declared.len()
 }
 
-impl<'n, 'p> Scope<'n, 'p> {
+impl<'t, 'n, 'p> Scope<'t, 'n, 'p> {
     /// Returns how many names are declared before it.
     pub fn count(&self) -> usize
         ensures { result ≡ length (declared_of self.now.names.now) }
@@ -119,7 +119,7 @@ impl<'n, 'p> Scope<'n, 'p> {
     }
 
     /// Returns what a name means here.
-    pub fn sense(&self, name: &[u8]) -> Sense<'n, 'p>
+    pub fn sense(&self, name: &[u8]) -> Sense<'t, 'n, 'p>
         ensures { sense_seen result ≡ sense_of (scope_of self.now) name.now }
     {
         if known_parameter(self.known, name).is_some() {
@@ -132,7 +132,7 @@ impl<'n, 'p> Scope<'n, 'p> {
     }
 
     // What a name means that is not declared.
-    fn undeclared(&self, name: &[u8]) -> Sense<'n, 'p>
+    fn undeclared(&self, name: &[u8]) -> Sense<'t, 'n, 'p>
         ensures { sense_seen result ≡ undeclared_sense (is_among (scope_of self.now).assigned name.now) }
     {
         if is_one_of(self.assigned, name) {

@@ -65,7 +65,7 @@ fn nothing() -> Extent {
     }
 }
 
-impl<'p> Layout<'p> {
+impl<'n, 'p> Layout<'n, 'p> {
     // The value of a constant that is declared next, or its first fault.
     fn constant_value(
         &self,
@@ -184,8 +184,8 @@ impl<'p> Layout<'p> {
         alloc: Global,
         at: u32,
         name: Name<'p>,
-        parameters: &'p [Name<'p>],
-        expression: &'p Expression<'p>,
+        parameters: &'n [Name<'p>],
+        expression: &'n Expression<'p>,
     ) -> Result<Option<Fault>, AllocError>
         requires { IsLaidOut self.old }
         ensures { IfOk result (λ found. IsTaken self.old self.new
@@ -214,7 +214,7 @@ impl<'p> Layout<'p> {
     pub(crate) fn declaration(
         &mut self,
         alloc: Global,
-        declaration: &'p Declaration<'p>,
+        declaration: &'n Declaration<'p>,
     ) -> Result<Option<Fault>, AllocError>
         requires { IsLaidOut self.old }
         ensures { IfOk result (λ found. IsTaken self.old self.new (declaration_of declaration.now) found) }

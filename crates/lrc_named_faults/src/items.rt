@@ -48,7 +48,7 @@ fn join(
 
 // The sizes of an item, or the first fault of these.
 fn sizes<'p>(
-    scope: &Scope<'_, 'p>,
+    scope: &Scope<'_, '_, 'p>,
     expressions: &[Expression<'p>],
 ) -> Result<Found<Vec<u32>>, AllocError>
     requires table { IsSound (declared_of scope.now.names.now) }
@@ -109,7 +109,7 @@ fn exceeds(kind: Kind, used: u32, more: u32) -> bool
     more > most(kind) - used
 }
 
-impl<'p> Layout<'p> {
+impl<'n, 'p> Layout<'n, 'p> {
     // How many words or locks there are so far.
     fn used(&self, kind: Kind) -> u32
         requires { IsLaidOut self.now }

@@ -13,8 +13,8 @@ use std::alloc::{AllocError, Global};
 
 /// What is declared so far.
 #[derive(Drop)]
-pub struct Layout<'p> {
-    pub names: Names<'p>,
+pub struct Layout<'n, 'p> {
+    pub names: Names<'n, 'p>,
     /// What stands in the bodies of functions: at the place of each function among the names.
     pub extents: Vec<Extent>,
     /// How many words the shared items have.
@@ -25,9 +25,9 @@ pub struct Layout<'p> {
     pub nodes: Option<u64>,
 }
 
-impl<'p> Layout<'p> {
+impl<'n, 'p> Layout<'n, 'p> {
     // The layout in which nothing is declared.
-    pub(crate) fn new(alloc: Global) -> Layout<'p>
+    pub(crate) fn new(alloc: Global) -> Layout<'n, 'p>
         ensures laid_out { IsLaidOut result }
         ensures nothing { declared_of result.names ≡ [] }
         ensures uncounted { result.nodes ≡ None }
@@ -47,7 +47,7 @@ impl<'p> Layout<'p> {
     pub(crate) fn declare(
         &mut self,
         name: Name<'p>,
-        meaning: Meaning<'p>,
+        meaning: Meaning<'n, 'p>,
         extent: Extent,
     ) -> Result<(), AllocError>
         ensures { OnOk result (IsOneMore self.old self.new

@@ -12,12 +12,12 @@ use lrc_named_statement_faults::first_fault;
 use lrc_named_tree::tree::{Declaration, NamedProgram};
 use std::alloc::{AllocError, Global};
 
-impl<'p> Layout<'p> {
+impl<'n, 'p> Layout<'n, 'p> {
     // Declares what these declare, one behind the other, up to one that has a fault, and returns its first one.
     fn declarations(
         &mut self,
         alloc: Global,
-        declarations: &'p [Declaration<'p>],
+        declarations: &'n [Declaration<'p>],
     ) -> Result<Option<Fault>, AllocError>
         requires { IsLaidOut self.old }
         ensures { IfOk result (λ found. AreDeclarationsTaken self.old self.new
@@ -34,10 +34,10 @@ impl<'p> Layout<'p> {
 }
 
 /// Returns what a named program declares, where it has no fault, or its first fault. It fails only if memory runs out.
-pub fn check<'p>(
+pub fn check<'n, 'p>(
     alloc: Global,
-    program: &'p NamedProgram<'p>,
-) -> Result<Found<Layout<'p>>, AllocError>
+    program: &'n NamedProgram<'p>,
+) -> Result<Found<Layout<'n, 'p>>, AllocError>
     ensures { IfOk result (λ found. IsChecked (program_of program.now) found) }
 {
     let mut layout = Layout::new(alloc);

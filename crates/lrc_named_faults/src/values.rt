@@ -25,14 +25,14 @@ use lrc_named_tree::tree::{Expression, Name};
 use std::alloc::AllocError;
 
 // Whether a name is declared.
-fn is_declared(names: &Names<'_>, name: &[u8]) -> bool
+fn is_declared(names: &Names<'_, '_>, name: &[u8]) -> bool
     ensures { result ≡ is_some (meaning_of (declared_of names.now) name.now) }
 {
     names.meaning(names.place(name)).is_some()
 }
 
 // Whether a name stood before, here or where something is declared.
-fn stood_before(names: &Names<'_>, stood: bool, name: &[u8]) -> bool
+fn stood_before(names: &Names<'_, '_>, stood: bool, name: &[u8]) -> bool
     ensures { result ≡ (stood || is_some (meaning_of (declared_of names.now) name.now)) }
 {
     stood || is_declared(names, name)
@@ -46,7 +46,7 @@ fn is_spelled(one: &[u8], name: &[u8]) -> bool
 }
 
 /// Returns the first fault of a name that is declared, which may have stood before in the same declaration.
-pub fn in_name(names: &Names<'_>, stood: bool, name: Name<'_>) -> Option<Fault>
+pub fn in_name(names: &Names<'_, '_>, stood: bool, name: Name<'_>) -> Option<Fault>
     ensures { IsFirstOf (λ f. (((stood || is_some (meaning_of (declared_of names.now) name.entry.bytes.now)) ≡ true)
         × (f ≡ fault_at name.entry.at DeclaredTwice)) ⊎ IsReserved (named_of name.entry) f) result }
 {
@@ -73,7 +73,7 @@ fn front<'a, 'p>(parameters: &'a [Name<'p>], count: usize) -> &'a [Name<'p>]
 
 /// Returns the first fault of the parameters of a function, if they have one.
 pub fn in_parameters(
-    names: &Names<'_>,
+    names: &Names<'_, '_>,
     function: Name<'_>,
     parameters: &[Name<'_>],
 ) -> Option<Fault>
@@ -107,7 +107,7 @@ pub fn told(own: Option<Fault>, fault: Fault) -> Fault
 
 /// Returns the value of a constant, or its first fault. It fails only if memory runs out.
 pub fn constant_value<'p>(
-    scope: &Scope<'_, 'p>,
+    scope: &Scope<'_, '_, 'p>,
     expression: &Expression<'p>,
 ) -> Result<Found<u64>, AllocError>
     requires table { IsSound (declared_of scope.now.names.now) }
@@ -123,7 +123,7 @@ pub fn constant_value<'p>(
 
 // The value of a constant without a fault inside, or that it has none.
 fn constant_without<'p>(
-    scope: &Scope<'_, 'p>,
+    scope: &Scope<'_, '_, 'p>,
     expression: &Expression<'p>,
 ) -> Result<Found<u64>, AllocError>
     requires table { IsSound (declared_of scope.now.names.now) }
@@ -150,7 +150,7 @@ fn no_size(expression: &Expression<'_>) -> Fault
 
 /// Returns a size, or its first fault. It fails only if memory runs out.
 pub fn size<'p>(
-    scope: &Scope<'_, 'p>,
+    scope: &Scope<'_, '_, 'p>,
     expression: &Expression<'p>,
 ) -> Result<Found<u32>, AllocError>
     requires table { IsSound (declared_of scope.now.names.now) }
@@ -166,7 +166,7 @@ pub fn size<'p>(
 
 // A size without a fault inside, or that it is none.
 fn size_without<'p>(
-    scope: &Scope<'_, 'p>,
+    scope: &Scope<'_, '_, 'p>,
     expression: &Expression<'p>,
 ) -> Result<Found<u32>, AllocError>
     requires table { IsSound (declared_of scope.now.names.now) }
@@ -190,7 +190,7 @@ fn size_without<'p>(
 
 /// Returns what stands in the body of a function, or its first fault. It fails only if memory runs out.
 pub fn body<'p>(
-    scope: &Scope<'_, 'p>,
+    scope: &Scope<'_, '_, 'p>,
     expression: &Expression<'p>,
 ) -> Result<Found<Extent>, AllocError>
     requires table { IsSound (declared_of scope.now.names.now) }

@@ -1,15 +1,16 @@
 // What is counted of expressions of the core.
 
-ghost use Rattle.std.specs.Prelude.{◌≡◌, ◌≤◌, None};
+ghost use Rattle.std.specs.Prelude.{◌≡◌, ◌≤◌, None, min};
 ghost use Rattle.lrc_lang.specs.Grammar.{joins};
 ghost use Rattle.lrc_named_core.specs.Tree.{Expression as TheExpression, binary as the_binary, private as the_private};
+ghost use Rattle.lrc_named_core.specs.Shape.{tree_of};
 ghost use Rattle.lrc_named_core.specs.View.{expression_of, private_of};
 ghost use Rattle.lrc_named_text.specs.Expressions.{left_room, right_room};
-ghost use Rattle.lrc_named_limits.specs.Limits.{surrounded};
+ghost use Rattle.lrc_named_limits.specs.Limits.{operators, surrounded};
 ghost use Rattle.lrc_named_limits.specs.Measure.{IsMeasure, needs_parentheses};
 
 use lrc_lang::program::Operator;
-use lrc_named_core::tree::{Expression, Private};
+use lrc_named_core::tree::{Expression, Private, Tree};
 
 /// What is counted of an expression of the core.
 #[derive(Clone, Copy)]
@@ -130,17 +131,49 @@ impl Measure {
     }
 }
 
+// What is counted of an expression that is built so.
+fn measure_of_tree(tree: &Tree<'_>) -> Measure
+    ensures { IsMeasure (tree_of tree.now) result }
+{
+    match tree {
+        Tree::Number(_) | Tree::Me | Tree::Nodes => Measure::nothing(),
+        Tree::Private(name) => Measure::private(*name),
+        Tree::Binary(left, operator, right) => {
+            let one = measure_of_tree(left);
+            let other = measure_of_tree(right);
+            Measure::binary(one, *operator, other)
+        }
+    }
+}
+
 /// Returns what is counted of an expression.
 pub fn measure_of(expression: &Expression<'_>) -> Measure
     ensures { IsMeasure (expression_of expression.now) result }
 {
-    match expression {
-        Expression::Number(_) | Expression::Me | Expression::Nodes => Measure::nothing(),
-        Expression::Private(name) => Measure::private(*name),
-        Expression::Binary(left, operator, right) => {
-            let one = measure_of(left);
-            let other = measure_of(right);
-            Measure::binary(one, *operator, other)
+    measure_of_tree(&expression.tree)
+}
+
+// How many operators an expression has that is built so, of which no more are looked at than there is room for.
+fn operators_of_tree(tree: &Tree<'_>, room: u32) -> u32
+    ensures { result ≡ min (operators (tree_of tree.now)) room }
+{
+    match tree {
+        Tree::Number(_) | Tree::Private(_) | Tree::Me | Tree::Nodes => 0,
+        Tree::Binary(left, _, right) => {
+            if room == 0 {
+                0
+            } else {
+                let one = operators_of_tree(left, room - 1);
+                let other = operators_of_tree(right, room - 1 - one);
+                one + other + 1
+            }
         }
     }
+}
+
+/// Returns how many operators an expression has; 257 stands for any more, and no more of them are looked at.
+pub fn operators_of(expression: &Expression<'_>) -> u32
+    ensures { result ≡ min (operators (expression_of expression.now)) 257 }
+{
+    operators_of_tree(&expression.tree, 257)
 }

@@ -7,7 +7,7 @@ ghost use Rattle.lrc_named_limits.specs.Limits.{IsBeyond, IsBlockOver, IsFirstOf
 ghost use Rattle.lrc_named_limits.specs.Measure.{IsMeasure};
 
 use crate::excess::{Excess, Limit, earlier};
-use crate::measure::{Measure, measure_of};
+use crate::measure::{Measure, measure_of, operators_of};
 use lrc_named_core::tree::{Expression, Private, Statement};
 use lrc_named_translation::own::following;
 use std::alloc::AllocError;
@@ -49,8 +49,16 @@ fn of_measure(privates: u32, depth: u32, at: u32, measure: Measure) -> Option<Ex
 fn of_expression(privates: u32, depth: u32, at: u32, expression: &Expression<'_>) -> Option<Excess>
     ensures { IsFirstOf (λ x. (x.at ≡ at) × IsOver privates depth (expression_of expression.now) x.limit) result }
 {
-    let counted = measure_of(expression);
-    of_measure(privates, depth, at, counted)
+    let operators = operators_of(expression);
+    if operators > 256 {
+        Some(Excess {
+            at,
+            limit: Limit::Operators,
+        })
+    } else {
+        let counted = measure_of(expression);
+        of_measure(privates, depth, at, counted)
+    }
 }
 
 // Of a name that a statement sets.

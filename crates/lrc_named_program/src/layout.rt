@@ -7,7 +7,7 @@ ghost use Rattle.lrc_named_constants.specs.Layout.{core_words, locks_in, locks_o
 use lrc_named_names::names::{Declared, Meaning, Names};
 
 // How many words of the core a declared name has.
-fn words_of(meaning: &Meaning<'_>) -> u32
+fn words_of(meaning: &Meaning<'_, '_>) -> u32
     ensures { result ≡ words_of (meaning_seen meaning.now) }
 {
     match meaning {
@@ -17,7 +17,7 @@ fn words_of(meaning: &Meaning<'_>) -> u32
 }
 
 // How many locks of the core it has.
-fn locks_of(meaning: &Meaning<'_>) -> u32
+fn locks_of(meaning: &Meaning<'_, '_>) -> u32
     ensures { result ≡ locks_of (meaning_seen meaning.now) }
 {
     match meaning {
@@ -27,7 +27,7 @@ fn locks_of(meaning: &Meaning<'_>) -> u32
 }
 
 // How many words these have.
-fn words_among(declared: &[Declared<'_>]) -> u32
+fn words_among(declared: &[Declared<'_, '_>]) -> u32
     requires { words_in (map entry_of declared.now) ≤ 65536 }
     ensures { result ≡ words_in (map entry_of declared.now) }
 {
@@ -40,7 +40,7 @@ fn words_among(declared: &[Declared<'_>]) -> u32
 }
 
 // How many locks these have.
-fn locks_among(declared: &[Declared<'_>]) -> u32
+fn locks_among(declared: &[Declared<'_, '_>]) -> u32
     requires { locks_in (map entry_of declared.now) ≤ 64 }
     ensures { result ≡ locks_in (map entry_of declared.now) }
 {
@@ -53,7 +53,7 @@ fn locks_among(declared: &[Declared<'_>]) -> u32
 }
 
 /// Returns how many words the core of a program has that declares this: those of the shared items, and at least 1.
-pub fn words(names: &Names<'_>) -> u32
+pub fn words(names: &Names<'_, '_>) -> u32
     requires { words_in (declared_of names.now) ≤ 65536 }
     ensures { result ≡ core_words (declared_of names.now) }
 {
@@ -61,7 +61,7 @@ pub fn words(names: &Names<'_>) -> u32
 }
 
 /// Returns how many locks it has.
-pub fn locks(names: &Names<'_>) -> u32
+pub fn locks(names: &Names<'_, '_>) -> u32
     requires { locks_in (declared_of names.now) ≤ 64 }
     ensures { result ≡ locks_in (declared_of names.now) }
 {

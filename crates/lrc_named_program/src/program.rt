@@ -30,7 +30,7 @@ pub struct CoreProgram<'p> {
 /// memory runs out.
 pub fn core_of<'p>(
     alloc: Global,
-    names: &Names<'p>,
+    names: &Names<'_, 'p>,
     program: &NamedProgram<'p>,
 ) -> Result<CoreProgram<'p>, AllocError>
     requires table { IsSound (declared_of names.now) }

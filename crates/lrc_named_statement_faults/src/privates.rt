@@ -131,7 +131,7 @@ fn names_of<'p>(alloc: Global, parts: &[Part<'_, 'p>]) -> Result<Vec<Name<'p>>, 
 }
 
 // Whether a name is private here.
-fn is_private(scope: &Scope<'_, '_>, name: &[u8]) -> bool
+fn is_private(scope: &Scope<'_, '_, '_>, name: &[u8]) -> bool
     ensures { result ≡ is_private_sense (sense_of (scope_of scope.now) name.now) }
 {
     match scope.sense(name) {
@@ -144,7 +144,7 @@ fn is_private(scope: &Scope<'_, '_>, name: &[u8]) -> bool
 
 // Adds a name, if it is private.
 fn push_private<'p>(
-    scope: &Scope<'_, 'p>,
+    scope: &Scope<'_, '_, 'p>,
     all: &mut Vec<Name<'p>>,
     name: Name<'p>,
 ) -> Result<(), AllocError>
@@ -159,7 +159,10 @@ fn push_private<'p>(
 }
 
 // Those of the names that are private.
-fn private_ones<'p>(scope: &Scope<'_, 'p>, names: &[Name<'p>]) -> Result<Vec<Name<'p>>, AllocError>
+fn private_ones<'p>(
+    scope: &Scope<'_, '_, 'p>,
+    names: &[Name<'p>],
+) -> Result<Vec<Name<'p>>, AllocError>
     ensures { IfOk result (λ all. map named_of all.items
         ≡ private_names (scope_of scope.now) (map named_of names.now)) }
 {
@@ -210,7 +213,7 @@ fn one_too_many(alloc: Global, names: &[Name<'_>]) -> Result<Option<Fault>, Allo
 /// Returns the fault of the 33rd different private name in these parts, if there are so many. It fails only if memory
 /// runs out.
 pub fn too_many<'p>(
-    scope: &Scope<'_, 'p>,
+    scope: &Scope<'_, '_, 'p>,
     parts: &[Part<'_, 'p>],
 ) -> Result<Option<Fault>, AllocError>
     ensures { IfOk result (λ found. IsFirstOf (λ f. IsOneTooMany

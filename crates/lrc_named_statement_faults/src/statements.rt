@@ -56,7 +56,7 @@ fn reserved_target(name: Name<'_>, indices: &[Expression<'_>]) -> Option<Fault>
 }
 
 // The fault of the name of what is set, if it has one.
-fn in_target(sense: Sense<'_, '_>, name: Name<'_>, indices: &[Expression<'_>]) -> Option<Fault>
+fn in_target(sense: Sense<'_, '_, '_>, name: Name<'_>, indices: &[Expression<'_>]) -> Option<Fault>
     ensures { IsFirstOf (λ f. IsInTarget (sense_seen sense.entry) (named_of name.entry)
         (expressions_of indices.now) f) result }
 {
@@ -74,7 +74,7 @@ fn in_target(sense: Sense<'_, '_>, name: Name<'_>, indices: &[Expression<'_>]) -
 }
 
 // The fault of the name of what is acquired or released, if it has one.
-fn in_lock(sense: Sense<'_, '_>, name: Name<'_>, indices: &[Expression<'_>]) -> Option<Fault>
+fn in_lock(sense: Sense<'_, '_, '_>, name: Name<'_>, indices: &[Expression<'_>]) -> Option<Fault>
     ensures { IsFirstOf (λ f. IsInLock (sense_seen sense.entry) (named_of name.entry)
         (expressions_of indices.now) f) result }
 {
@@ -92,7 +92,7 @@ fn in_lock(sense: Sense<'_, '_>, name: Name<'_>, indices: &[Expression<'_>]) -> 
 }
 
 // The fault of a name behind `for`, if it is not private.
-fn in_counter(sense: Sense<'_, '_>, name: Name<'_>) -> Option<Fault>
+fn in_counter(sense: Sense<'_, '_, '_>, name: Name<'_>) -> Option<Fault>
     ensures { IsFirstOf (λ f. IsInCounter (sense_seen sense.entry) (named_of name.entry) f) result }
 {
     match sense {
@@ -104,7 +104,7 @@ fn in_counter(sense: Sense<'_, '_>, name: Name<'_>) -> Option<Fault>
 }
 
 // The first fault of a place that is set.
-fn of_target<'p>(scope: &Scope<'_, 'p>, place: &Place<'p>) -> Result<Option<Fault>, AllocError>
+fn of_target<'p>(scope: &Scope<'_, '_, 'p>, place: &Place<'p>) -> Result<Option<Fault>, AllocError>
     requires table { IsSound (declared_of scope.now.names.now) }
     requires extents { AreExtents (declared_of scope.now.names.now) scope.now.extents.now }
     ensures { IfOk result (λ found. IsFirstOf (λ f. IsInPart (scope_of scope.now) (target (place_of place.now)) f) found) }
@@ -118,7 +118,7 @@ fn of_target<'p>(scope: &Scope<'_, 'p>, place: &Place<'p>) -> Result<Option<Faul
 }
 
 // The first fault of a lock that is acquired or released.
-fn of_lock<'p>(scope: &Scope<'_, 'p>, place: &Place<'p>) -> Result<Option<Fault>, AllocError>
+fn of_lock<'p>(scope: &Scope<'_, '_, 'p>, place: &Place<'p>) -> Result<Option<Fault>, AllocError>
     requires table { IsSound (declared_of scope.now.names.now) }
     requires extents { AreExtents (declared_of scope.now.names.now) scope.now.extents.now }
     ensures { IfOk result (λ found. IsFirstOf (λ f. IsInPart (scope_of scope.now) (lock_place (place_of place.now)) f) found) }
@@ -131,7 +131,7 @@ fn of_lock<'p>(scope: &Scope<'_, 'p>, place: &Place<'p>) -> Result<Option<Fault>
 }
 
 // The first fault of a part.
-fn of_part<'p>(scope: &Scope<'_, 'p>, part: Part<'_, 'p>) -> Result<Option<Fault>, AllocError>
+fn of_part<'p>(scope: &Scope<'_, '_, 'p>, part: Part<'_, 'p>) -> Result<Option<Fault>, AllocError>
     requires table { IsSound (declared_of scope.now.names.now) }
     requires extents { AreExtents (declared_of scope.now.names.now) scope.now.extents.now }
     ensures { IfOk result (λ found. IsFirstOf (λ f. IsInPart (scope_of scope.now) (part_seen part.entry) f) found) }
@@ -148,7 +148,10 @@ fn of_part<'p>(scope: &Scope<'_, 'p>, part: Part<'_, 'p>) -> Result<Option<Fault
 }
 
 // The first fault of these parts.
-fn of_parts<'p>(scope: &Scope<'_, 'p>, parts: &[Part<'_, 'p>]) -> Result<Option<Fault>, AllocError>
+fn of_parts<'p>(
+    scope: &Scope<'_, '_, 'p>,
+    parts: &[Part<'_, 'p>],
+) -> Result<Option<Fault>, AllocError>
     requires table { IsSound (declared_of scope.now.names.now) }
     requires extents { AreExtents (declared_of scope.now.names.now) scope.now.extents.now }
     ensures { IfOk result (λ found. IsFirstOf (λ f. IsInParts (scope_of scope.now) (map part_seen parts.now) f) found) }
@@ -165,7 +168,7 @@ fn of_parts<'p>(scope: &Scope<'_, 'p>, parts: &[Part<'_, 'p>]) -> Result<Option<
 /// memory runs out.
 pub fn first_fault<'p>(
     alloc: Global,
-    names: &Names<'p>,
+    names: &Names<'_, 'p>,
     extents: &[Extent],
     statements: &[Statement<'p>],
 ) -> Result<Option<Fault>, AllocError>

@@ -24,7 +24,7 @@ use lrc_named_translation::parts::{Element, bare, using_item};
 use lrc_named_tree::tree::{Expression, Place, Update};
 use std::alloc::AllocError;
 
-impl<'n, 'p> Statements<'n, 'p> {
+impl<'t, 'n, 'p> Statements<'t, 'n, 'p> {
     /// Adds the core of `place = value;`, `place += value;` or `place -= value;` where so many names of the translation's own
     /// are held. It fails only if memory runs out.
     pub fn assign(
@@ -118,13 +118,13 @@ impl<'n, 'p> Statements<'n, 'p> {
         let item = shared_item(self.names, place.name.bytes);
         let mut taken = held;
         let word = self.place(place.name.at, item, place, &mut taken, into)?;
-        let again = word.copy(self.alloc)?;
+        let again = word.copy()?;
         let mut number = following(taken)?;
         let old = holding_place(number, place)?;
         let origin = at_item(place.name.at, place);
         into.push(Statement::Read(origin, old, again))?;
         let v = self.expression(place.name.at, value, &mut number, into)?;
-        let changed = binary(self.alloc, Core::Private(old), operator, v)?;
+        let changed = binary(self.alloc, Core::private(old), operator, v)?;
         into.push(Statement::Write(origin, word, changed))?;
         Ok(())
     }
@@ -150,7 +150,7 @@ impl<'n, 'p> Statements<'n, 'p> {
         let mut taken = held;
         let v = self.expression(place.name.at, value, &mut taken, into)?;
         let name = Private::Named(place.name.bytes);
-        let changed = binary(self.alloc, Core::Private(name), operator, v)?;
+        let changed = binary(self.alloc, Core::private(name), operator, v)?;
         let origin = from(place.name.at);
         into.push(Statement::Assign(origin, name, changed))?;
         Ok(())

@@ -18,7 +18,7 @@ use lrc_named_translation::parts::holding;
 use lrc_named_tree::tree::{Expression, Place};
 use std::alloc::AllocError;
 
-impl<'n, 'p> Statements<'n, 'p> {
+impl<'t, 'n, 'p> Statements<'t, 'n, 'p> {
     /// Adds the core of `acquire place;` where this is the statement that begins with a token, and so many names of the
     /// translation's own are held. It fails only if memory runs out.
     pub fn acquire(
@@ -107,7 +107,7 @@ impl<'n, 'p> Statements<'n, 'p> {
         let asserts = asserting(token);
         let divides = has_division(&p);
         if divides {
-            let test = trial(self.alloc, Core::Private(name))?;
+            let test = trial(self.alloc, Core::private(name))?;
             into.push(Statement::Assign(origin, name, p))?;
             into.push(Statement::Assign(asserts, name, test))?;
             Ok(())

@@ -27,12 +27,12 @@ use std::alloc::{AllocError, Global};
 
 /// What statements are translated by: what is declared.
 #[derive(Clone, Copy)]
-pub struct Statements<'n, 'p> {
+pub struct Statements<'t, 'n, 'p> {
     pub alloc: Global,
-    pub names: &'n Names<'p>,
+    pub names: &'t Names<'n, 'p>,
 }
 
-impl<'n, 'p> Statements<'n, 'p> {
+impl<'t, 'n, 'p> Statements<'t, 'n, 'p> {
     /// Returns the core of an expression of the statement that begins with a token, and adds what comes before it. `taken` is
     /// how many names of the translation's own are taken. It fails only if memory runs out.
     pub fn expression(
@@ -112,7 +112,7 @@ impl<'n, 'p> Statements<'n, 'p> {
 }
 
 /// Returns the item of the lock of this name.
-pub fn lock_item<'n>(names: &'n Names<'_>, name: &[u8]) -> &'n Item
+pub fn lock_item<'n>(names: &'n Names<'_, '_>, name: &[u8]) -> &'n Item
     requires { IsLock (meaning_of (declared_of names.now) name.now) }
     ensures { meaning_of (declared_of names.now) name.now ≡ Some (lock (item_of result.now)) }
 {
@@ -123,7 +123,7 @@ pub fn lock_item<'n>(names: &'n Names<'_>, name: &[u8]) -> &'n Item
 }
 
 /// Returns whether this is the name of a shared item.
-pub fn is_shared(names: &Names<'_>, name: &[u8]) -> bool
+pub fn is_shared(names: &Names<'_, '_>, name: &[u8]) -> bool
     ensures { result ≡ is_shared (meaning_of (declared_of names.now) name.now) }
 {
     match names.meaning(names.place(name)) {
@@ -133,7 +133,10 @@ pub fn is_shared(names: &Names<'_>, name: &[u8]) -> bool
 }
 
 /// Returns the name and the indices of the shared item that an expression is, where it is one.
-pub fn shared_element<'e, 'p>(names: &Names<'p>, e: &'e Expression<'p>) -> Option<Element<'e, 'p>>
+pub fn shared_element<'e, 'p>(
+    names: &Names<'_, 'p>,
+    e: &'e Expression<'p>,
+) -> Option<Element<'e, 'p>>
     ensures { MatchOption result (IsNoItem (declared_of names.now) (tree_of e.now))
         (λ x. (tree_of e.now ≡ element_of x)
         × IsShared (meaning_of (declared_of names.now) x.name.bytes.now)) }
@@ -167,6 +170,6 @@ pub fn trial<'p>(alloc: Global, condition: Core<'p>) -> Result<Core<'p>, AllocEr
     ensures { IfOk result (λ e. expression_of e ≡ trial_of (expression_of condition.entry)) }
 {
     let holds = truth(alloc, condition)?;
-    let test = binary(alloc, Core::Number(1), Operator::Divide, holds)?;
+    let test = binary(alloc, Core::number(1), Operator::Divide, holds)?;
     Ok(test)
 }

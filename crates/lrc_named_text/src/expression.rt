@@ -2,11 +2,12 @@
 
 ghost use Rattle.std.specs.Prelude.{◌≡◌, ◌++◌, OnOk, codes};
 ghost use Rattle.lrc_lang.specs.Grammar.{joins};
-ghost use Rattle.lrc_named_core.specs.View.{expression_of, private_of};
+ghost use Rattle.lrc_named_core.specs.Shape.{private_of, tree_of};
+ghost use Rattle.lrc_named_core.specs.View.{expression_of};
 ghost use Rattle.lrc_named_text.specs.Expressions.{expression_text, is_grouped, left_room, operator_text, private_text, right_room};
 
 use lrc_lang::program::Operator;
-use lrc_named_core::tree::{Expression, Private};
+use lrc_named_core::tree::{Expression, Private, Tree};
 use lrc_text::push_number;
 use std::alloc::AllocError;
 
@@ -93,8 +94,7 @@ pub fn push_private(text: &mut Vec<u8>, name: Private<'_>) -> Result<(), AllocEr
     }
 }
 
-/// Adds an expression to a text, where there is room for this without parentheses.
-#[cycle(expression)]
+/// Adds an expression to a text, where there is room for this without parentheses. It fails only if memory runs out.
 pub fn push_expression(
     text: &mut Vec<u8>,
     room: Room,
@@ -103,12 +103,21 @@ pub fn push_expression(
     ensures { OnOk result (text.new.items
         ≡ text.old.items ++ expression_text room (expression_of expression.now)) }
 {
-    match expression {
-        Expression::Number(n) => push_number(text, b"", *n),
-        Expression::Private(name) => push_private(text, *name),
-        Expression::Me => text.extend_from_slice(b"me"),
-        Expression::Nodes => text.extend_from_slice(b"nodes"),
-        Expression::Binary(left, operator, right) => {
+    push_tree(text, room, &expression.tree)
+}
+
+// Adds an expression that is built so.
+#[cycle(expression)]
+fn push_tree(text: &mut Vec<u8>, room: Room, tree: &Tree<'_>) -> Result<(), AllocError>
+    ensures { OnOk result (text.new.items
+        ≡ text.old.items ++ expression_text room (tree_of tree.now)) }
+{
+    match tree {
+        Tree::Number(n) => push_number(text, b"", *n),
+        Tree::Private(name) => push_private(text, *name),
+        Tree::Me => text.extend_from_slice(b"me"),
+        Tree::Nodes => text.extend_from_slice(b"nodes"),
+        Tree::Binary(left, operator, right) => {
             if is_grouped(room, *operator) {
                 text.extend_from_slice(b"(")?;
                 push_sides(text, left, *operator, right)?;
@@ -124,18 +133,18 @@ pub fn push_expression(
 #[cycle(expression)]
 fn push_sides(
     text: &mut Vec<u8>,
-    left: &Expression<'_>,
+    left: &Tree<'_>,
     operator: Operator,
-    right: &Expression<'_>,
+    right: &Tree<'_>,
 ) -> Result<(), AllocError>
     ensures { OnOk result (text.new.items ≡ text.old.items
-        ++ (expression_text (left_room (joins operator)) (expression_of left.now)
+        ++ (expression_text (left_room (joins operator)) (tree_of left.now)
         ++ codes " " ++ operator_text operator ++ codes " "
-        ++ expression_text (right_room (joins operator)) (expression_of right.now))) }
+        ++ expression_text (right_room (joins operator)) (tree_of right.now))) }
 {
-    push_expression(text, left_room(operator), left)?;
+    push_tree(text, left_room(operator), left)?;
     text.extend_from_slice(b" ")?;
     text.extend_from_slice(spelling(operator))?;
     text.extend_from_slice(b" ")?;
-    push_expression(text, right_room(operator), right)
+    push_tree(text, right_room(operator), right)
 }

@@ -10,7 +10,7 @@ use lrc_text::push_number;
 use std::alloc::AllocError;
 
 /// Adds the label lines of all items to a text, in the order in which they are declared.
-pub fn push_labels(text: &mut Vec<u8>, declared: &[Declared<'_>]) -> Result<(), AllocError>
+pub fn push_labels(text: &mut Vec<u8>, declared: &[Declared<'_, '_>]) -> Result<(), AllocError>
     ensures { OnOk result (text.new.items
         ≡ text.old.items ++ labels_text (map entry_of declared.now)) }
 {
@@ -20,7 +20,7 @@ pub fn push_labels(text: &mut Vec<u8>, declared: &[Declared<'_>]) -> Result<(), 
     Ok(())
 }
 
-fn push_label(text: &mut Vec<u8>, declared: &Declared<'_>) -> Result<(), AllocError>
+fn push_label(text: &mut Vec<u8>, declared: &Declared<'_, '_>) -> Result<(), AllocError>
     ensures { OnOk result (text.new.items ≡ text.old.items
         ++ label_text (entry_of declared.now).name (entry_of declared.now).meaning) }
 {

@@ -21,7 +21,7 @@ pub fn push_core(
     alloc: Global,
     words: u32,
     locks: u32,
-    names: &Names<'_>,
+    names: &Names<'_, '_>,
     lines: &[u32],
     statements: &[Statement<'_>],
 ) -> Result<(), AllocError>

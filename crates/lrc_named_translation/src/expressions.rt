@@ -32,9 +32,9 @@ use std::alloc::{AllocError, Global};
 
 /// What the expressions of a statement are translated by: what is declared, and what their core statements come from.
 #[derive(Clone, Copy)]
-pub struct Translator<'n, 'p> {
+pub struct Translator<'t, 'n, 'p> {
     pub alloc: Global,
-    pub names: &'n Names<'p>,
+    pub names: &'t Names<'n, 'p>,
     pub origin: Origin<'p>,
 }
 
@@ -45,7 +45,7 @@ pub struct Arguments<'a, 'p> {
     pub cores: &'a [Core<'p>],
 }
 
-impl<'n, 'p> Translator<'n, 'p> {
+impl<'t, 'n, 'p> Translator<'t, 'n, 'p> {
     /// Returns the core of an expression, and adds what comes before it. Parameters mean what the arguments say; `below` is how
     /// many of the declared names come before whatever the expression calls, and `taken` how many names of the translation's own
     /// the statement has taken. It fails only if memory runs out.
@@ -73,7 +73,7 @@ impl<'n, 'p> Translator<'n, 'p> {
         };
         let constancy = constants.constancy(below, with.known, expression)?;
         match constancy {
-            Constancy::Value(v) => Ok(Core::Number(v)),
+            Constancy::Value(v) => Ok(Core::number(v)),
             _ => {
                 let p = self.by_rule(below, with, expression, taken, before)?;
                 Ok(p)
@@ -101,9 +101,9 @@ impl<'n, 'p> Translator<'n, 'p> {
             (expression_of p) taken.new) before.old.items before.new.items) }
     {
         match expression {
-            Expression::Number(_, n) => Ok(Core::Number(*n)),
-            Expression::Me(_) => Ok(Core::Me),
-            Expression::Nodes(_) => Ok(Core::Nodes),
+            Expression::Number(_, n) => Ok(Core::number(*n)),
+            Expression::Me(_) => Ok(Core::me()),
+            Expression::Nodes(_) => Ok(Core::nodes()),
             Expression::Element(name, indices, last) => {
                 let element = Element {
                     name: *name,
@@ -123,7 +123,7 @@ impl<'n, 'p> Translator<'n, 'p> {
             }
             Expression::Not(_, operand) => {
                 let p = self.made(below, with, operand, taken, before)?;
-                let e = binary(self.alloc, p, Operator::Equal, Core::Number(0))?;
+                let e = binary(self.alloc, p, Operator::Equal, Core::number(0))?;
                 Ok(e)
             }
             Expression::Binary(left, operator, right) => {
@@ -177,12 +177,12 @@ impl<'n, 'p> Translator<'n, 'p> {
     {
         let place = parameter_place(with.known, element.name.bytes);
         if place < with.known.len() {
-            let p = copy_at(self.alloc, with.cores, place)?;
+            let p = copy_at(with.cores, place)?;
             return Ok(p);
         }
         match kind_of(self.names, element.name.bytes) {
             NameKind::Private => Ok(private_name(element.name.bytes)),
-            NameKind::Constant(n) => Ok(Core::Number(n)),
+            NameKind::Constant(n) => Ok(Core::number(n)),
             NameKind::Shared => {
                 let p = self.read(below, with, element, taken, before)?;
                 Ok(p)
@@ -220,7 +220,7 @@ impl<'n, 'p> Translator<'n, 'p> {
         let held = Private::Own(next, element.name.at, element.last);
         let origin = using_item(self.origin, element.name.bytes, element.indices);
         before.push(Statement::Read(origin, held, word))?;
-        Ok(Core::Private(held))
+        Ok(Core::private(held))
     }
 
     // The core of a call: the arguments come first, and then the body, in which each parameter stands for its argument.
@@ -332,6 +332,6 @@ impl<'n, 'p> Translator<'n, 'p> {
             whole,
         };
         turn.take(self.alloc, p, inside, q, before)?;
-        Ok(Core::Private(whole))
+        Ok(Core::private(whole))
     }
 }

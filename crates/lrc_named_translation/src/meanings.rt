@@ -21,7 +21,7 @@ pub enum NameKind {
 }
 
 /// Returns what a name is that has a value and is no parameter.
-pub fn kind_of(names: &Names<'_>, name: &[u8]) -> NameKind
+pub fn kind_of(names: &Names<'_, '_>, name: &[u8]) -> NameKind
     requires { HasValue (meaning_of (declared_of names.now) name.now) }
     ensures { IsKind result (meaning_of (declared_of names.now) name.now) }
 {
@@ -34,7 +34,7 @@ pub fn kind_of(names: &Names<'_>, name: &[u8]) -> NameKind
 }
 
 /// Returns the shared item of this name.
-pub fn shared_item<'n>(names: &'n Names<'_>, name: &[u8]) -> &'n Item
+pub fn shared_item<'n>(names: &'n Names<'_, '_>, name: &[u8]) -> &'n Item
     requires { IsShared (meaning_of (declared_of names.now) name.now) }
     ensures { meaning_of (declared_of names.now) name.now ≡ Some (shared (item_of result.now)) }
 {

@@ -1,7 +1,7 @@
 // Parts of cores.
 
 ghost use Rattle.std.specs.Prelude.{◌≡◌, ◌+◌, IfOk};
-ghost use Rattle.lrc_named_core.specs.Tree.{divides, has_division, has_name};
+ghost use Rattle.lrc_named_core.specs.Tree.{has_division, has_name};
 ghost use Rattle.lrc_named_core.specs.View.{block_of, expression_of};
 ghost use Rattle.lrc_named_translation.specs.Made.{is_plain, truth};
 
@@ -21,24 +21,11 @@ pub fn following(taken: u32) -> Result<u32, AllocError>
     }
 }
 
-fn divides(operator: Operator) -> bool
-    ensures { result ≡ divides operator }
-{
-    matches!(operator, Operator::Divide | Operator::Remainder)
-}
-
 /// Returns whether an expression has a division or a remainder.
 pub fn has_division(expression: &Expression<'_>) -> bool
     ensures { result ≡ has_division (expression_of expression.now) }
 {
-    match expression {
-        Expression::Binary(left, operator, right) => {
-            divides(*operator) || has_division(left) || has_division(right)
-        }
-        Expression::Number(_) | Expression::Private(_) | Expression::Me | Expression::Nodes => {
-            false
-        }
-    }
+    expression.divides
 }
 
 /// Returns whether nothing comes before an expression, and it does not divide.
@@ -56,16 +43,12 @@ pub fn is_plain(before: &[Statement<'_>], expression: &Expression<'_>) -> bool
 pub fn has_name(expression: &Expression<'_>) -> bool
     ensures { result ≡ has_name (expression_of expression.now) }
 {
-    match expression {
-        Expression::Binary(left, _, right) => has_name(left) || has_name(right),
-        Expression::Private(_) => true,
-        Expression::Number(_) | Expression::Me | Expression::Nodes => false,
-    }
+    expression.names
 }
 
 /// Returns the expression that is 1 where the value of this one is not 0, and else 0. It fails only if memory runs out.
 pub fn truth<'p>(alloc: Global, value: Expression<'p>) -> Result<Expression<'p>, AllocError>
     ensures { IfOk result (λ e. expression_of e ≡ truth (expression_of value.entry)) }
 {
-    binary(alloc, value, Operator::NotEqual, Expression::Number(0))
+    binary(alloc, value, Operator::NotEqual, Expression::number(0))
 }

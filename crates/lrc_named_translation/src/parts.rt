@@ -9,7 +9,7 @@ ghost use Rattle.lrc_named_translation.specs.Turn.{junction_of};
 
 use lrc_named_core::tree::{Expression as Core, Origin, Private, Trap};
 use lrc_named_tree::tree::{Expression, Name};
-use std::alloc::{AllocError, Global};
+use std::alloc::AllocError;
 
 /// A name with indices, of which there may be none.
 #[derive(Clone, Copy)]
@@ -97,14 +97,14 @@ pub fn using_item<'p>(origin: Origin<'p>, name: &'p [u8], indices: &[Expression<
 pub fn private_name<'p>(bytes: &'p [u8]) -> Core<'p>
     ensures { core_of result ≡ private (named bytes.now) }
 {
-    Core::Private(Private::Named(bytes))
+    Core::private(Private::Named(bytes))
 }
 
 /// Returns the core at a place once more. It fails only if memory runs out.
 #[tactic(auto, using(crate::proofs::Copies::core_some))]
-pub fn copy_at<'p>(alloc: Global, cores: &[Core<'p>], place: usize) -> Result<Core<'p>, AllocError>
+pub fn copy_at<'p>(cores: &[Core<'p>], place: usize) -> Result<Core<'p>, AllocError>
     requires { place < length cores.now }
     ensures { IfOk result (λ e. slice_get (map core_of cores.now) place ≡ Some (core_of e)) }
 {
-    cores[place].copy(alloc)
+    cores[place].copy()
 }

@@ -49,8 +49,8 @@ fn condition<'p>(alloc: Global, kind: Kind, left: Private<'p>) -> Result<Core<'p
         ≡ condition kind (private_of left.entry)) }
 {
     match kind {
-        Kind::Both => Ok(Core::Private(left)),
-        Kind::Either => binary(alloc, Core::Private(left), Operator::Equal, Core::Number(0)),
+        Kind::Both => Ok(Core::private(left)),
+        Kind::Either => binary(alloc, Core::private(left), Operator::Equal, Core::number(0)),
     }
 }
 

@@ -33,14 +33,14 @@ fn name_set<'p>(part: Part<'_, 'p>) -> Option<Name<'p>>
 }
 
 // Whether a name is declared nowhere.
-fn is_undeclared(names: &Names<'_>, name: &[u8]) -> bool
+fn is_undeclared(names: &Names<'_, '_>, name: &[u8]) -> bool
     ensures { result ≡ is_undeclared (declared_of names.now) name.now }
 {
     names.meaning(names.place(name)).is_none()
 }
 
 // The private name that a part sets.
-fn private_set<'p>(names: &Names<'_>, part: Part<'_, 'p>) -> Option<Name<'p>>
+fn private_set<'p>(names: &Names<'_, '_>, part: Part<'_, 'p>) -> Option<Name<'p>>
     ensures { MatchOption result
         (undeclared (declared_of names.now) (bytes_of (set_in (part_seen part.entry))) ≡ [])
         (λ name. undeclared (declared_of names.now) (bytes_of (set_in (part_seen part.entry))) ≡ (named_of name).bytes ∷ []) }
@@ -59,7 +59,7 @@ fn private_set<'p>(names: &Names<'_>, part: Part<'_, 'p>) -> Option<Name<'p>>
 
 // Notes the private name that a part sets, if it sets one and has not been seen.
 fn note_private<'p>(
-    names: &Names<'_>,
+    names: &Names<'_, '_>,
     seen: &mut Vec<Name<'p>>,
     part: Part<'_, 'p>,
 ) -> Result<(), AllocError>
@@ -83,7 +83,7 @@ fn note_private<'p>(
 // The private names that these parts set, each once.
 fn private_names<'p>(
     alloc: Global,
-    names: &Names<'_>,
+    names: &Names<'_, '_>,
     parts: &[Part<'_, 'p>],
 ) -> Result<Vec<Name<'p>>, AllocError>
     ensures { IfOk result (λ seen. AreSeen (bytes_of (map named_of seen.items))
@@ -107,7 +107,7 @@ fn count_of(names: &[Name<'_>]) -> u32
 /// fails only if memory runs out.
 pub fn privates<'p>(
     alloc: Global,
-    names: &Names<'p>,
+    names: &Names<'_, 'p>,
     statements: &[Statement<'p>],
 ) -> Result<u32, AllocError>
     ensures { IfOk result (λ count. count ≡ privates (declared_of names.now) (block_of statements.now)) }

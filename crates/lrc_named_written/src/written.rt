@@ -39,7 +39,7 @@ pub enum Written<'p> {
 /// stand on these lines, with what its statements come from; or why there is none. It fails only if memory runs out.
 pub fn core_text<'p>(
     alloc: Global,
-    names: &Names<'p>,
+    names: &Names<'_, 'p>,
     lines: &[u32],
     program: &NamedProgram<'p>,
 ) -> Result<Written<'p>, AllocError>
@@ -57,7 +57,7 @@ pub fn core_text<'p>(
 // What a core comes to, where the program has so many private names.
 fn of_core<'p>(
     alloc: Global,
-    names: &Names<'_>,
+    names: &Names<'_, '_>,
     lines: &[u32],
     privates: u32,
     core: &CoreProgram<'p>,
@@ -74,7 +74,7 @@ fn of_core<'p>(
 // The text of a core, and what its statements come from, unless it is too long.
 fn text_of<'p>(
     alloc: Global,
-    names: &Names<'_>,
+    names: &Names<'_, '_>,
     lines: &[u32],
     core: &CoreProgram<'p>,
 ) -> Result<Written<'p>, AllocError>

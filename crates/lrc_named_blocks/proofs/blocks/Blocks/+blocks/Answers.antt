@@ -1,6 +1,6 @@
 -- Each statement has its rule.
 use Rattle.std.proofs.Common.{◌≡◌, ◌+◌, ◌-◌, ◌*◌, ◌<◌, ◌≤◌, true, false, length, take, drop, ap, sym, subst, arith, ◌∙◌}
-use Rattle.lrc_lang.specs.declared.program.Operator.TheVariants.{Less}
+use Rattle.lrc_lang.specs.declared.program.Operator.TheVariants.{Add, Less}
 use Rattle.lrc_named_tree.specs.Tree as tree
 use Rattle.lrc_named_tree.specs.View as trees
 use Rattle.lrc_named_tree.specs.View.{named_of, place_of}
@@ -262,13 +262,13 @@ with_held-returns t c =
     let mid = c.place.new.into.items in
     let near = c.push.new.self.items in
     let new = c.guard.new.into.items in
-    well (IsAdded (IsGuarded declared n token close p inside (private (private_of c.in_ok-name.name))) near new)
+    well (IsAdded (IsGuarded declared n token close p inside (expression_of c.private.result)) near new)
     (IsAdded (IsHeldWith declared c.args.held token p inside close) old new) c.guard.result
     (λ k. blocks.held_with_added declared c.args.held n c.place.new.taken token close p inside item word (Assign c.from-origin.result c.in_ok-name.name c.in_ok-number.number)
     old mid near new c.lock_item-item.ensures c.in_ok-holds.ensures
     (ap (λ o. assign o (private_of c.in_ok-name.name) word) c.from-origin.ensures ∙ ap (λ x. assign (from token) x word) c.in_ok-name.ensures)
     c.in_ok-push.ensures.items c.in_ok-number.ensures
-    (subst (λ x. IsAdded (IsGuarded declared n token close p inside (private x)) near new) c.in_ok-name.ensures k))
+    (subst (λ x. IsAdded (IsGuarded declared n token close p inside x) near new) (c.private.ensures ∙ ap private c.in_ok-name.ensures) k))
     c.guard.ensures
 
 pub guard-returns : goal.guard-returns
@@ -358,13 +358,13 @@ count_held-returns t c =
     let near = c.expression-2.new.into.items in
     let far = c.push.new.self.items in
     let new = c.rounds.new.into.items in
-    well (IsAdded (IsCounting declared n token name inside a (private (private_of c.holding-limit.result))) far new)
+    well (IsAdded (IsCounting declared n token name inside a (expression_of c.private.result)) far new)
     (IsAdded (IsHeldFor declared c.args.held token name first end inside) old new) c.rounds.result
     (λ k. blocks.held_for_added declared c.args.held n c.expression.new.taken c.expression-2.new.taken token name first end inside a b
     (Assign c.from-origin.result c.holding-limit.result c.in_ok-end.end) old mid near far new c.in_ok-holds.ensures
     (ap (λ o. assign o (private_of c.holding-limit.result) b) c.from-origin.ensures ∙ ap (λ x. assign (from token) x b) c.holding-limit.ensures)
     c.in_ok-push.ensures.items c.in_ok-first.ensures c.in_ok-end.ensures
-    (subst (λ x. IsAdded (IsCounting declared n token name inside a (private x)) far new) c.holding-limit.ensures k))
+    (subst (λ x. IsAdded (IsCounting declared n token name inside a x) far new) (c.private.ensures ∙ ap private c.holding-limit.ensures) k))
     c.rounds.ensures
 
 pub rounds-returns : goal.rounds-returns
@@ -374,17 +374,21 @@ rounds-returns t c =
     let first = expression_of c.args.first in
     let limit = expression_of c.args.limit in
     let x = Named c.args.count.name.bytes in
-    let test = binary (private (named name.bytes)) Less limit in
+    let test : expression_of c.in_ok-test.test ≡ binary (private (named name.bytes)) Less limit =
+    c.in_ok-test.ensures ∙ ap (λ e. binary e Less limit) c.private.ensures in
+    let up : expression_of c.in_ok-next.next ≡ binary (private (named name.bytes)) Add (number 1) =
+    c.in_ok-next.ensures ∙ ap (λ e. binary e Add (expression_of c.number.result)) c.private-2.ensures
+    ∙ ap (λ e. binary (private (named name.bytes)) Add e) c.number.ensures in
     blocks.rounds_added (declared_of c.args.self.now.names.now) c.args.held token name (trees.block_of c.args.count.inside.now) first limit
     (Assign c.from-origin.result x c.args.first) (While c.from-origin.result c.in_ok-test.test c.push-2.new.self) (Assign c.from-origin.result x c.in_ok-next.next)
     c.args.into.now.items c.push.new.self.items c.push-3.new.self.items c.new-round.result.items c.block.new.into.items c.push-2.new.self.items
     c.new-round.ensures.items
     (ap (λ o. assign o (named name.bytes) first) c.from-origin.ensures) c.in_ok-push.ensures.items
-    (ap (λ o. assign o (named name.bytes) (expression_of c.in_ok-next.next)) c.from-origin.ensures ∙ ap (assign (from token) (named name.bytes)) c.in_ok-next.ensures)
+    (ap (λ o. assign o (named name.bytes) (expression_of c.in_ok-next.next)) c.from-origin.ensures ∙ ap (assign (from token) (named name.bytes)) up)
     c.in_ok-push-2.ensures.items
     (while_seen c.from-origin.result c.in_ok-test.test c.push-2.new.self
     ∙ ap (λ o. while_do o (expression_of c.in_ok-test.test) (block_of c.push-2.new.self.items)) c.from-origin.ensures
-    ∙ ap (λ e. while_do (from token) e (block_of c.push-2.new.self.items)) c.in_ok-test.ensures)
+    ∙ ap (λ e. while_do (from token) e (block_of c.push-2.new.self.items)) test)
     c.in_ok-push-3.ensures.items c.in_ok-block.ensures
 
 -- ---- `if`

@@ -16,7 +16,7 @@ returns-in_ok-push-2 c =
     let n = c.in_ok-number.number in
     let p = expression_of c.in_ok-p.p in
     let t = trial_of (private (holding n condition)) in
-    let is : expression_of c.in_ok-test.test ≡ t = c.in_ok-test.ensures ∙ ap (λ x. trial_of (private x)) c.holding-name.ensures in
+    let is : expression_of c.in_ok-test.test ≡ t = c.in_ok-test.ensures ∙ ap trial_of c.private.ensures ∙ ap (λ x. trial_of (private x)) c.holding-name.ensures in
     assert_added_after (declared_of c.args.self.now.names.now) c.args.held c.args.token c.expression.new.taken n condition p
     (Assign c.from-origin.result c.holding-name.result c.in_ok-p.p) (Assign c.asserting-asserts.result c.holding-name.result c.in_ok-test.test)
     c.args.into.now.items c.expression.new.into.items c.push.new.self.items c.push-then-divides.new.self.items

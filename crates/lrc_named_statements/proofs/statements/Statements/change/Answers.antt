@@ -5,7 +5,7 @@ use Rattle.lrc_named_tree.specs.View as trees
 use Rattle.lrc_named_names.specs.View.{declared_of}
 use Rattle.lrc_named_core.specs.declared.tree.Statement.{Assign}
 use Rattle.lrc_named_core.specs.declared.tree.Private.TheVariants.{Named}
-use Rattle.lrc_named_core.specs.Tree.{assign, named}
+use Rattle.lrc_named_core.specs.Tree.{assign, binary, named}
 use Rattle.lrc_named_core.specs.View.{expression_of}
 use Rattle.lrc_named_statements.specs.Statements.{from}
 use Rattle.lrc_named_statements.proofs.Setting.{change_added}
@@ -19,5 +19,6 @@ returns c =
     (Assign c.from-origin.result (Named c.args.place.now.name.bytes) c.in_ok-changed.changed)
     c.args.into.now.items c.expression.new.into.items c.push.new.self.items c.requires.private
     (ap (λ x. assign x (named p.name.bytes) (expression_of c.in_ok-changed.changed)) c.from-origin.ensures
-    ∙ ap (assign (from p.name.at) (named p.name.bytes)) c.in_ok-changed.ensures)
+    ∙ ap (assign (from p.name.at) (named p.name.bytes))
+    (c.in_ok-changed.ensures ∙ ap (λ e. binary e c.args.operator (expression_of c.in_ok-v.v)) c.private.ensures))
     c.in_ok-push.ensures.items c.in_ok-v.ensures

@@ -27,5 +27,5 @@ returns c =
     ∙ ap (read (at_item p.name.at p) (holding_place n p)) c.in_ok-again.ensures)
     c.in_ok-push.ensures.items
     (ap (λ x. write x word (expression_of c.in_ok-changed.changed)) c.at_item-origin.ensures
-    ∙ ap (write (at_item p.name.at p) word) (c.in_ok-changed.ensures ∙ ap (λ x. binary (private x) o v) c.in_ok-old.ensures))
+    ∙ ap (write (at_item p.name.at p) word) (c.in_ok-changed.ensures ∙ ap (λ e. binary e o v) c.private.ensures ∙ ap (λ x. binary (private x) o v) c.in_ok-old.ensures))
     c.in_ok-push-2.ensures.items c.in_ok-word.ensures c.in_ok-v.ensures

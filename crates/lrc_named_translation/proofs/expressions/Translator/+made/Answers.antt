@@ -1,6 +1,7 @@
 -- Each form of an expression has a rule.
 use Rattle.std.proofs.Common.{◌≡◌, ◌<◌, ◌+◌, ◌*◌, true, false, Some, map, length, sym, ap, subst, arith, ◌∙◌}
 use Rattle.std.proofs.lemmas.List.{length-map}
+use Rattle.lrc_lang.specs.declared.program.Operator.TheVariants.{Equal}
 use Rattle.lrc_named_tree.specs.Tree.{Expressions}
 use Rattle.lrc_named_tree.specs.Tree as tree
 use Rattle.lrc_named_tree.specs.View.{named_of, expressions_of, row_of}
@@ -17,7 +18,7 @@ use Rattle.lrc_named_constants.proofs.Each.{smaller_at, well_at}
 use Rattle.lrc_named_constants.proofs.Measure.{size, sizes}
 use Rattle.lrc_named_constants.proofs.Rows.{row_of_hidden}
 use Rattle.lrc_named_core.specs.View.{block_of, expression_of, origin_of, private_of}
-use Rattle.lrc_named_core.specs.Tree.{number, private, me, nodes, empty}
+use Rattle.lrc_named_core.specs.Tree.{number, private, me, nodes, binary, empty}
 use Rattle.lrc_named_translation.specs.Added.{IsAdded}
 use Rattle.lrc_named_translation.specs.Made.{IsMade, IsByRule, a_number, a_constant, a_private_name, the_node, node_count, holding, is_plain, using_item}
 use Rattle.lrc_named_translation.specs.Turn.{joined_by}
@@ -59,8 +60,9 @@ by_rule-returns-in-Number t c =
     let at = origin_of c.args.self.now.origin in
     let known = map known_of c.args.with.known.now in
     let cores = map expression_of c.args.with.cores.now in
-    rule_alone declared at known cores (trees.expression_of c.args.expression.now) c.args.taken.now (number c.in-Number.n) c.args.before.now.items
-    (subst (λ x. IsByRule declared at known cores (trees.expression_of x) c.args.taken.now empty (number c.in-Number.n) c.args.taken.now) (sym c.in-Number.is) a_number)
+    rule_alone declared at known cores (trees.expression_of c.args.expression.now) c.args.taken.now (expression_of c.number.result) c.args.before.now.items
+    (subst (λ p. IsByRule declared at known cores (trees.expression_of c.args.expression.now) c.args.taken.now empty p c.args.taken.now) (sym c.number.ensures)
+    (subst (λ x. IsByRule declared at known cores (trees.expression_of x) c.args.taken.now empty (number c.in-Number.n) c.args.taken.now) (sym c.in-Number.is) a_number))
 
 pub by_rule-returns-in-Me : goal.by_rule-returns-in-Me
 by_rule-returns-in-Me t c =
@@ -68,8 +70,9 @@ by_rule-returns-in-Me t c =
     let at = origin_of c.args.self.now.origin in
     let known = map known_of c.args.with.known.now in
     let cores = map expression_of c.args.with.cores.now in
-    rule_alone declared at known cores (trees.expression_of c.args.expression.now) c.args.taken.now me c.args.before.now.items
-    (subst (λ x. IsByRule declared at known cores (trees.expression_of x) c.args.taken.now empty me c.args.taken.now) (sym c.in-Me.is) the_node)
+    rule_alone declared at known cores (trees.expression_of c.args.expression.now) c.args.taken.now (expression_of c.me.result) c.args.before.now.items
+    (subst (λ p. IsByRule declared at known cores (trees.expression_of c.args.expression.now) c.args.taken.now empty p c.args.taken.now) (sym c.me.ensures)
+    (subst (λ x. IsByRule declared at known cores (trees.expression_of x) c.args.taken.now empty me c.args.taken.now) (sym c.in-Me.is) the_node))
 
 pub by_rule-returns-in-Nodes : goal.by_rule-returns-in-Nodes
 by_rule-returns-in-Nodes t c =
@@ -77,8 +80,9 @@ by_rule-returns-in-Nodes t c =
     let at = origin_of c.args.self.now.origin in
     let known = map known_of c.args.with.known.now in
     let cores = map expression_of c.args.with.cores.now in
-    rule_alone declared at known cores (trees.expression_of c.args.expression.now) c.args.taken.now nodes c.args.before.now.items
-    (subst (λ x. IsByRule declared at known cores (trees.expression_of x) c.args.taken.now empty nodes c.args.taken.now) (sym c.in-Nodes.is) node_count)
+    rule_alone declared at known cores (trees.expression_of c.args.expression.now) c.args.taken.now (expression_of c.nodes.result) c.args.before.now.items
+    (subst (λ p. IsByRule declared at known cores (trees.expression_of c.args.expression.now) c.args.taken.now empty p c.args.taken.now) (sym c.nodes.ensures)
+    (subst (λ x. IsByRule declared at known cores (trees.expression_of x) c.args.taken.now empty nodes c.args.taken.now) (sym c.in-Nodes.is) node_count))
 
 pub by_rule-returns-in_ok-p-in-Group : goal.by_rule-returns-in_ok-p-in-Group
 by_rule-returns-in_ok-p-in-Group t c =
@@ -105,7 +109,7 @@ by_rule-returns-in_ok-e-in-Not t c =
     let new = c.made-in-Not.new.before.items in
     let after = c.made-in-Not.new.taken in
     rule_not declared at known cores (trees.expression_of c.args.expression.now) _ _ c.args.taken.now after p (expression_of c.in_ok-e-in-Not.e) old new
-    (ap trees.expression_of c.in-Not.is) c.in_ok-e-in-Not.ensures
+    (ap trees.expression_of c.in-Not.is) (c.in_ok-e-in-Not.ensures ∙ ap (λ z. binary p Equal z) c.number-in-Not.ensures)
     (subst (λ x. IsAdded (λ b. IsMade declared at known cores (trees.expression_of x) c.args.taken.now b p after) old new) c.deref-in-Not.ensures c.in_ok-p-in-Not.ensures)
 
 pub by_rule-returns-in_ok-e-in-Binary : goal.by_rule-returns-in_ok-e-in-Binary
@@ -156,9 +160,12 @@ pub made-returns-in-Value : goal.made-returns-in-Value
 made-returns-in-Value t c =
     let declared = declared_of c.args.self.now.names.now in
     let known = map known_of c.args.with.known.now in
-    made_value declared (origin_of c.args.self.now.origin) known (map expression_of c.args.with.cores.now) (trees.expression_of c.args.expression.now)
-    c.in-Value.v c.args.taken.now c.args.before.now.items
-    (subst (λ w. IsConstancy declared known (trees.expression_of c.args.expression.now) w) c.in-Value.is c.in_ok-constancy.ensures)
+    let at = origin_of c.args.self.now.origin in
+    let cores = map expression_of c.args.with.cores.now in
+    let e = trees.expression_of c.args.expression.now in
+    let old = c.args.before.now.items in
+    subst (λ p. IsAdded (λ b. IsMade declared at known cores e c.args.taken.now b p c.args.taken.now) old old) (sym c.number.ensures)
+    (made_value declared at known cores e c.in-Value.v c.args.taken.now old (subst (λ w. IsConstancy declared known e w) c.in-Value.is c.in_ok-constancy.ensures))
 
 pub call-returns : goal.call-returns
 call-returns t c =
@@ -244,11 +251,14 @@ read-returns t c =
     let after = c.all_made.new.taken in
     let w : expression_of c.in_ok-word.word ≡ address item ps =
     c.in_ok-word.ensures ∙ ap (λ l. address item (map expression_of l)) c.deref.ensures.value in
-    rule_read declared at known (map expression_of c.args.with.cores.now) name indices item c.args.element.last c.args.taken.now after c.in_ok-next.next ps _
+    let cores = map expression_of c.args.with.cores.now in
+    subst (λ p. IsAdded (λ b. IsByRule declared at known cores (tree.element name indices c.args.element.last) c.args.taken.now b p c.in_ok-next.next)
+    c.args.before.now.items c.push.new.self.items) (sym c.private.ensures)
+    (rule_read declared at known cores name indices item c.args.element.last c.args.taken.now after c.in_ok-next.next ps _
     c.args.before.now.items c.all_made.new.before.items c.push.new.self.items c.requires.unknown c.shared_item-item.ensures c.in_ok-next.ensures
     (read_is c.using_item-origin.result c.in_ok-next.next (after + 1) c.args.element.name.at c.args.element.last c.in_ok-word.word
     (using_item at name.bytes indices) (address item ps) c.using_item-origin.ensures c.in_ok-next.ensures w)
-    c.in_ok-push.ensures.items c.in_ok-cores.ensures
+    c.in_ok-push.ensures.items c.in_ok-cores.ensures)
 
 pub made-returns-in_ok-p-in_default : goal.made-returns-in_ok-p-in_default
 made-returns-in_ok-p-in_default t c =
@@ -297,7 +307,7 @@ junction-returns t c =
     let l : private_of c.holding-left.result ≡ holding (between + 1) left = c.holding-left.ensures ∙ ap (λ m. holding m left) c.in_ok-number.ensures in
     let w : private_of c.holding_junction-whole.result ≡ holding (between + 1) j =
     c.holding_junction-whole.ensures ∙ ap (λ m. holding m j) c.in_ok-number.ensures in
-    subst (λ x. IsAdded (λ b. IsByRule declared at known cores j c.args.taken.now b (private x) after) old new) (sym w)
+    subst (λ x. IsAdded (λ b. IsByRule declared at known cores j c.args.taken.now b x after) old new) (sym (c.private.ensures ∙ ap private w))
     (rule_turned declared at known cores kind left right c.args.taken.now between after p q inside old mid new may c.in_ok-p.ensures
     (right_as declared at known cores right c.in_ok-number.number between after q _ inside c.in_ok-number.ensures c.new-inside.ensures.items c.in_ok-q.ensures)
     (turned_as at kind _ _ _ _ p (block_of inside) q mid new l w c.in_ok-take.ensures))
@@ -354,8 +364,11 @@ pub element-returns-in-Constant : goal.element-returns-in-Constant
 element-returns-in-Constant t c =
     let unknown = no_parameter c.args.with.known.now c.args.element.name.bytes.now c.parameter_place-place.result c.parameter_place-place.ensures c.if-place-with.false in
     rule_alone (declared_of c.args.self.now.names.now) (origin_of c.args.self.now.origin) (map known_of c.args.with.known.now) (map expression_of c.args.with.cores.now)
-    (tree.element (named_of c.args.element.name) (expressions_of c.args.element.indices.now) c.args.element.last) c.args.taken.now (number c.in-Constant.n)
-    c.args.before.now.items (a_constant unknown c.in-Constant.ensures)
+    (tree.element (named_of c.args.element.name) (expressions_of c.args.element.indices.now) c.args.element.last) c.args.taken.now (expression_of c.number.result)
+    c.args.before.now.items
+    (subst (λ p. IsByRule (declared_of c.args.self.now.names.now) (origin_of c.args.self.now.origin) (map known_of c.args.with.known.now) (map expression_of c.args.with.cores.now)
+    (tree.element (named_of c.args.element.name) (expressions_of c.args.element.indices.now) c.args.element.last) c.args.taken.now empty p c.args.taken.now)
+    (sym c.number.ensures) (a_constant unknown c.in-Constant.ensures))
 
 pub element-read-requires : goal.element-read-requires
 element-read-requires t c =
