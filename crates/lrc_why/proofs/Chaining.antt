@@ -12,13 +12,17 @@ use Rattle.std.proofs.lemmas.List.{get_or-set_other, get_or-set_same, get_or_def
 use Rattle.std.proofs.lemmas.Option.{same_Some}
 use Rattle.lrc_judge.proofs.Ascending.{is_eq-nat, is_eq-then}
 use Rattle.lrc_trace.specs.declared.act.Act.{Act}
-use Rattle.lrc_trace.specs.Conflict.{Accesses}
+use Rattle.lrc_trace.specs.declared.act.Deed.TheVariants.{Quiet}
+use Rattle.lrc_trace.proofs.Positions.{Does-within}
 use Rattle.lrc_why.specs.Deeds.{word_accessed}
 use Rattle.lrc_why.specs.Lanes.{AreLanesFrom, IsNext, is_lane, is_of, lane_at, lane_cmp, lane_of}
 use Rattle.lrc_why.specs.Positions.{IsRacing}
 use Rattle.lrc_why.specs.declared.lanes.Lane.{Lane}
 use Rattle.lrc_why.specs.declared.lanes.Lanes.{Lanes}
 use Rattle.lrc_why.proofs.Conflicts.{accessed_word, racing_word}
+
+abbrev pub no_act : Act
+no_act = record { node = 0; deed = Quiet }
 
 -- ---- lanes compared
 
@@ -168,3 +172,39 @@ module _ (run : List Act) (node position w : ℕ) (d : Act) (lt : position < len
       shown : (act : Act) → act.node ≡ node → word_accessed act.deed ≡ Some w → is_of lane act ≡ true
       shown act who word =
           ap (λ o. is_lane lane (lane_of act.node o)) word ∙ rw (eq-eqb w w refl, eq-eqb act.node node who) refl
+
+-- the same, where the lane is that of the act at the position
+module _ (run : List Act) (node position : ℕ) (d : Act) (lt : position < length run) (lane : Lane)
+    (is : Some lane ≡ lane_of node (word_accessed (get_or run position d).deed)) where
+  pub lane_any : (e : Act) → Some lane ≡ lane_of node (word_accessed (get_or run position e).deed)
+  lane_any e = is ∙ ap (λ (act : Act). lane_of node (word_accessed act.deed)) (get_or_default run position d e lt)
+
+  -- its word, and the lane by it
+  by_word : (w : ℕ) × (Some w ≡ word_accessed (get_or run position d).deed) × (lane ≡ record { word = w; node = node })
+  by_word = split (word_accessed (get_or run position d).deed) is
+    where
+      split : (o : Option ℕ) → Some lane ≡ lane_of node o → (w : ℕ) × (Some w ≡ o) × (lane ≡ record { word = w; node = node })
+      split None h = absurd cc
+      split (Some w) h = (w, refl, same_Some lane (record { word = w; node = node }) h)
+
+  up_to : (from n : ℕ) → NoneRaces run node position from → IsNext run lane from n → NoneRaces run node position n
+  up_to from n before next =
+      let (w, word_is, lane_is) = by_word in
+      none_up_to run node position w d lt word_is from n before (subst (λ (l : Lane). IsNext run l from n) lane_is next)
+
+  pub at_first : (n : ℕ) → IsNext run lane 0 n → NoneRaces run node position n
+  at_first n next = up_to 0 n (λ m less racing. omega (arith, less)) next
+
+  pub at_next : (k n : ℕ) → NoneRaces run node position k → (IsRacing run node position k → ⊥) → IsNext run lane (k + 1) n → NoneRaces run node position n
+  at_next k n before here next =
+      up_to (k + 1) n (λ m less racing. elim (cases_lt m k) [
+        | inl low ↦ before m low racing
+        | inr high ↦ let same : m ≡ k = omega (arith, less, high) in here (subst (IsRacing run node position) same racing)
+      ]) next
+
+-- behind the last access of the lane
+pub at_end : (run : List Act) (node position k : ℕ) → length run ≤ k → NoneRaces run node position k → (m : ℕ) → ¬ IsRacing run node position m
+at_end run node position k end before m racing =
+    let (deed, does) = racing.acts in
+    let within : m < length run = Does-within does in
+    before m (omega (arith, end, within)) racing
