@@ -104,11 +104,9 @@ pub fn nodes_for(given: bool, nodes: Nodes, asked: Option<Nodes>) -> Nodes
 pub fn exploring_for<'w>(exploring: &Exploring<'w>, asked: Option<Nodes>) -> Exploring<'w>
     ensures { result ≡ exploring_for exploring.now asked }
 {
-    let nodes = nodes_for(exploring.nodes_given, exploring.nodes, asked);
-    Exploring {
-        nodes,
-        ..*exploring
-    }
+    let made = *exploring;
+    let nodes = nodes_for(made.nodes_given, made.nodes, asked);
+    Exploring { nodes, ..made }
 }
 
 /// Returns a run with the nodes that a text asks for, unless the words say how many.

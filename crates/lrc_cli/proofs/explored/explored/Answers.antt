@@ -14,10 +14,10 @@ returns-in_err-reading-clause-err c =
 
 pub returns-clause-ok : goal.returns-clause-ok
 returns-clause-ok c =
-    explored_for c.args.exploring.now c.exploring_for-own.result c.args.text.now _ _ c.told.result c.explored_as_read.result c.in_ok-reading.ensures.ok
-    (c.exploring_for-own.ensures ∙ ap (exploring_for c.args.exploring.now) c.nodes.ensures) c.told.ensures c.explored_as_read.ensures.ok
+    explored_for c.args.exploring.now c.exploring_for-own.result c.args.text.now _ _ c.told-told.result c.explored_as_read.result c.in_ok-reading.ensures.ok
+    (c.exploring_for-own.ensures ∙ ap (exploring_for c.args.exploring.now) c.nodes.ensures) c.told-told.ensures c.explored_as_read.ensures.ok
 
 pub returns-clause-err : goal.returns-clause-err
 returns-clause-err c =
-    unexplored_for c.args.exploring.now c.exploring_for-own.result c.args.text.now _ _ c.told.result c.explored_as_read.result c.in_ok-reading.ensures.ok
-    (c.exploring_for-own.ensures ∙ ap (exploring_for c.args.exploring.now) c.nodes.ensures) c.told.ensures c.explored_as_read.ensures.err
+    unexplored_for c.args.exploring.now c.exploring_for-own.result c.args.text.now _ _ c.told-told.result c.explored_as_read.result c.in_ok-reading.ensures.ok
+    (c.exploring_for-own.ensures ∙ ap (exploring_for c.args.exploring.now) c.nodes.ensures) c.told-told.ensures c.explored_as_read.ensures.err

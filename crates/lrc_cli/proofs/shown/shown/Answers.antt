@@ -24,6 +24,6 @@ pub returns : goal.returns
 returns c =
     let events : _ = option_map (λ (e : Bor (List ℕ)). e.now) c.args.events in
     let some : takes_named c.args.shape ≡ true = search rules in
-    as_read c.args.run.now c.run_for-own.result c.args.shape c.args.text.now c.told.result events c.show-2.result _ _ some
-    c.in_ok-reading.ensures.ok (c.run_for-own.ensures ∙ ap (run_for c.args.run.now) c.nodes.ensures) c.told.ensures
-    (one_answer c.run_for-own.result c.args.shape c.told.result events c.show-2.result c.show-2.ensures.ok c.show-2.ensures.err)
+    as_read c.args.run.now c.run_for-own.result c.args.shape c.args.text.now c.told-told.result events c.show-2.result _ _ some
+    c.in_ok-reading.ensures.ok (c.run_for-own.ensures ∙ ap (run_for c.args.run.now) c.nodes.ensures) c.told-told.ensures
+    (one_answer c.run_for-own.result c.args.shape c.told-told.result events c.show-2.result c.show-2.ensures.ok c.show-2.ensures.err)

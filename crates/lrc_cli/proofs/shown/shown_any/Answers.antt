@@ -24,5 +24,5 @@ pub returns : goal.returns
 returns g c =
     let events : _ = option_map (λ (e : Bor (List ℕ)). e.now) c.args.events in
     let some : takes_named c.args.shape ≡ true = search rules in
-    as_read c.args.run.now c.run_for-own.result c.args.shape c.args.text.now c.told.result events c.show_any-2.result _ _ some
-    c.in_ok-reading.ensures.ok (c.run_for-own.ensures ∙ ap (run_for c.args.run.now) c.nodes.ensures) c.told.ensures c.show_any-2.ensures
+    as_read c.args.run.now c.run_for-own.result c.args.shape c.args.text.now c.told-told.result events c.show_any-2.result _ _ some
+    c.in_ok-reading.ensures.ok (c.run_for-own.ensures ∙ ap (run_for c.args.run.now) c.nodes.ensures) c.told-told.ensures c.show_any-2.ensures
