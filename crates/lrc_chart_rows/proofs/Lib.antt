@@ -1,6 +1,6 @@
 pub mod Counting
 pub mod Numbering
 pub mod Rowing
-pub mod Taking
+pub mod Takes
 pub mod Spanning
 mod Spans

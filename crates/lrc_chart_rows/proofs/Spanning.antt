@@ -189,3 +189,17 @@ module _ (turns : List Made) (e : EnvelopeRecord) where
             ∙ sym (ap (list_any (takes_it e)) same
             ∙ any_none (takes_it e) turns m within d (λ k x low high. is.before k x low (omega (arith, high, le, past))))
       ]
+
+-- where no turn takes the message
+pub takers_none : (turns : List Made) (e : EnvelopeRecord) → IsSpan turns (length turns) (name_of e) None → [] ≡ takers turns e
+takers_none [] e none = refl
+takers_none (turn ∷ more) e none =
+    let turns : List Made = turn ∷ more in
+    let all : take (length turns) turns ≡ turns = take_all (length turns) turns (omega arith) in
+    sym (ap (each (position_if turns e)) (sym all)
+    ∙ places_none (takes_it e) turns 0 (length turns) (omega arith) (omega arith) turn none)
+
+-- what the span of a message says of it
+pub span_of : (turns : List Made) (takings : Takings) (e : EnvelopeRecord) (o : Option Span) → AreTakings turns takings
+    → o ≡ get name_cmp takings.spans (name_of e) → IsSpan turns (length turns) (name_of e) o
+span_of turns takings e o are is = subst (IsSpan turns (length turns) (name_of e)) (sym is) (are (name_of e))
