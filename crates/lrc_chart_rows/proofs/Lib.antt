@@ -1,6 +1,6 @@
 pub mod Counting
 pub mod Numbering
 pub mod Rowing
-pub mod Takes
+pub mod Finding
 pub mod Spanning
 mod Spans

@@ -51,7 +51,7 @@ pub(crate) fn order_shown(
     requires nodes { AreNodes nodes }
     requires led { IfSome order (λ order. IsSome (plain program.now nodes order.now)) }
     ensures { IfOk result (λ text. ShowsOrder program.now nodes
-        (option_map (λ order. order.now) order) text.items) }
+        (option_map (λ order. order.now) order.entry) text.items) }
 {
     match order {
         Some(order) => made_shown(alloc, program, nodes, order),

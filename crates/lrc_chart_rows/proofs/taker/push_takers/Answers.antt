@@ -1,7 +1,7 @@
 use Rattle.std.proofs.Common.{◌≡◌, ◌∙◌, ◌+◌, ap, arith, sym, take}
 use Rattle.lrc_text.specs.Each.{each}
 use Rattle.lrc_chart_rows.proofs.Spanning.{before_first, behind_last}
-use Rattle.lrc_chart_rows.proofs.Takes.{position_if, takers_more}
+use Rattle.lrc_chart_rows.proofs.Finding.{position_if, takers_more}
 use Rattle.lrc_chart_rows.proofs.taker.push_takers.Goals as goal
 
 pub loop-position-init : goal.loop-position-init

@@ -19,13 +19,13 @@ race_told-requires-clause-made c = (c.args.order.now, c.in_ok-run.ensures.acts �
 pub race_told-requires-clause-races : goal.race_told-requires-clause-races
 race_told-requires-clause-races c =
     subst (λ (acts : List Act). (i : ℕ) × (j : ℕ) × Races acts i j) (sym c.deref.ensures.value)
-    (race_there c.args.program.now c.args.nodes c.args.order.now c.in_ok-run.run.items c.in_ok-run.ensures.acts c.requires.ends)
+    (race_there c.args.program.now c.args.nodes c.args.order.now c.in_ok-run.run'.items c.in_ok-run.ensures.acts c.requires.ends)
 
 pub returns : goal.returns
 returns c =
     let program = c.args.program.now in
     let nodes = c.args.nodes in
-    let run = c.in_ok-run.run.items in
+    let run = c.in_ok-run.run'.items in
     let told = c.in_ok-told.told.items in
     let tells = subst (λ (r : List Act). TellsRace program nodes r told) c.deref.ensures.value c.in_ok-told.ensures in
     IfOk-weaker c.events_shown.result _ _
