@@ -1,5 +1,5 @@
 -- From which turn to which each message is taken, with one turn more.
-use Rattle.std.proofs.Common.{◌≡◌, ◌∙◌, ◌<◌, ◌≤◌, ◌+◌, ◌++◌, ◌∷◌, [], ℕ, List, Bool, true, false, cond, Option, Some, None, ap, arith, eqb-true, get_or, inl, inr, length, refl, subst, sym, take}
+use Rattle.std.proofs.Common.{◌≡◌, ◌∙◌, ◌<◌, ◌≤◌, ◌+◌, ◌∷◌, [], ℕ, List, true, false, cond, Option, Some, None, ap, arith, eqb-true, get_or, inl, inr, length, refl, subst, sym, take}
 use Rattle.std.specs.Prelude.{◌==◌, ◌&&◌, nat_lt}
 use Rattle.std.specs.BTreeMap.{BTreeMap, Updates, get}
 use Rattle.std.specs.List.{AllWithin, list_any}
@@ -68,26 +68,26 @@ module _ (turns : List Made) (i : ℕ) (turn : Made) (lt : i < length turns) (tu
   here d = get_or_default turns i d turn lt ∙ sym turn_is
 
   span_passed : (q : Name) (o : Option Span) → IsSpan turns i q o → takes_named q turn ≡ false → IsSpan turns (i + 1) q o
-  span_passed q None before no =
-      none_more (takes_named q) turns 0 i before (λ d. ap (takes_named q) (here d) ∙ no)
-  span_passed q (Some span) before no = record {
+  span_passed q None before missed =
+      none_more (takes_named q) turns 0 i before (λ d. ap (takes_named q) (here d) ∙ missed)
+  span_passed q (Some span) before missed = record {
     before = before.before;
     first = before.first;
     ordered = before.ordered;
     within = omega (arith, before.within);
-    behind = none_more (takes_named q) turns (span.last + 1) i before.behind (λ d. ap (takes_named q) (here d) ∙ no);
+    behind = none_more (takes_named q) turns (span.last + 1) i before.behind (λ d. ap (takes_named q) (here d) ∙ missed);
   }
 
   span_hit : (q : Name) (o : Option Span) → IsSpan turns i q o → takes_named q turn ≡ true
       → IsFromTo turns (i + 1) q (record { first = first_or o i; last = i })
-  span_hit q None before yes = record {
+  span_hit q None before hit = record {
     before = before;
-    first = λ d. ap (takes_named q) (here d) ∙ yes;
+    first = λ d. ap (takes_named q) (here d) ∙ hit;
     ordered = omega arith;
     within = omega arith;
     behind = λ k d low high. absurd (omega (arith, low, high));
   }
-  span_hit q (Some span) before yes = record {
+  span_hit q (Some span) before hit = record {
     before = before.before;
     first = before.first;
     ordered = omega (arith, before.ordered, before.within);
@@ -101,7 +101,7 @@ module _ (turns : List Made) (i : ℕ) (turn : Made) (lt : i < length turns) (tu
   spans_passed m none before q =
       span_passed q (get name_cmp m q) (before q)
       (false_from_ne_true (takes_named q turn)
-      (λ yes. let named = named_if q turn.node turn.entry.input yes in let never : ◌≡◌ {A = Option Name} None (Some q) = sym none ∙ named in absurd cc))
+      (λ hit. let named = named_if q turn.node turn.entry.input hit in let never : ◌≡◌ {A = Option Name} None (Some q) = sym none ∙ named in absurd cc))
 
   -- one that takes the message of a name
   pub spans_added : (key : Name) (first : ℕ) (old new : BTreeMap Name Span) → named_by turn.node turn.entry.input ≡ Some key
@@ -120,7 +120,7 @@ module _ (turns : List Made) (i : ℕ) (turn : Made) (lt : i < length turns) (tu
             subst (IsSpan turns (i + 1) q) (sym at) (subst (λ k. IsFromTo turns (i + 1) k span) same hit)
         | inr no' ↦
             let off : takes_named q turn ≡ false = false_from_ne_true (takes_named q turn)
-            (λ yes. let named : Some key ≡ Some q = sym is ∙ named_if q turn.node turn.entry.input yes in
+            (λ hit. let named : Some key ≡ Some q = sym is ∙ named_if q turn.node turn.entry.input hit in
             let same : key ≡ q = same_Some key q named in
             true≢false (sym (subst (λ k. is_eq (name_cmp key k) ≡ true) same (name_own key)) ∙ no')) in
             let at : get name_cmp new q ≡ get name_cmp old q = updates.0 q ∙ ap (λ b. cond b (Some span) (get name_cmp old q)) no' in
