@@ -9,7 +9,7 @@ use Rattle.lrc_named_core.specs.declared.tree.Expression.{Expression}
 use Rattle.lrc_named_core.specs.declared.tree.Origin as code_origin
 use Rattle.lrc_named_core.specs.Tree.{Block, Origin}
 use Rattle.lrc_named_core.specs.View.{block_of, origin_of, row_of, statement_of}
-use Rattle.lrc_named_text.proofs.Growing.{row_of_hidden}
+use Rattle.lrc_named_origins.proofs.Rows.{row_of_hidden}
 use Rattle.lrc_named_origins.specs.Origins.{origins_in, origins_of}
 
 -- statements with one more
