@@ -91,7 +91,7 @@ main > * { min-height: 0; overflow: auto; scrollbar-width: thin; }
 .word.touched { outline: .2rem solid var(--now); outline-offset: .05rem; }
 .word.raced { outline-color: var(--race); outline-style: dashed; }
 /* Panels with grids have less room for all else. */
-.dense .node { grid-template-columns: auto auto minmax(0, 1fr); gap: .1em .5em; font-size: clamp(.85rem, 6.5cqi / var(--nodes), 1rem); }
+.dense .node { grid-template-columns: auto auto minmax(0, 1fr); gap: .1em .5em; font-size: clamp(.85rem, 5.8cqi / var(--nodes), 1rem); }
 .dense .pages, .dense .chips { font-size: .9em; }
 .dense .waits { grid-column: auto; text-align: right; font-size: .9em; }
 .dense .pages { display: flex; flex-wrap: wrap; gap: 0 .9em; }
@@ -103,9 +103,10 @@ main > * { min-height: 0; overflow: auto; scrollbar-width: thin; }
 .grids { display: flex; flex-wrap: wrap; gap: 0 1em; align-items: start; }
 .grid { font-size: .85em; min-width: 0; }
 .grid h3, .grid .grid-notes { height: 1.5em; line-height: 1.5; overflow: hidden; text-overflow: ellipsis; white-space: nowrap; }
-.grid table { border-spacing: 0; table-layout: fixed; width: max-content; }
-.grid th { width: calc(var(--head) * 1em); height: 1.3em; overflow: hidden; color: var(--soft); font-weight: 400; line-height: 1.2; }
-.grid td { position: relative; width: calc(var(--cell) * 1em); height: 1.6em; padding: 0 .1em; border: .06em solid var(--line); overflow: hidden;
+.grid table { border-spacing: 0; table-layout: fixed; width: calc((var(--head) + var(--columns) * var(--cell)) * 1em); }
+.grid th { width: calc(var(--cell) * 1em); height: 1.3em; overflow: hidden; color: var(--soft); font-weight: 400; line-height: 1.2; }
+.grid th:first-child { width: calc(var(--head) * 1em); }
+.grid td { position: relative; height: 1.6em; padding: 0 .1em; border: .06em solid var(--line); overflow: hidden;
   text-overflow: ellipsis; white-space: nowrap; text-align: center; font-weight: 650; line-height: 1.3; }
 .grid .cut-left td:nth-of-type(1) { border-left: .16em dotted var(--soft); }
 .grid .cut-right td:last-child { border-right: .16em dotted var(--soft); }
@@ -116,7 +117,7 @@ main > * { min-height: 0; overflow: auto; scrollbar-width: thin; }
 .grid td[data-copy=invalid] { color: var(--soft); text-decoration: line-through;
   background-image: repeating-linear-gradient(-45deg, transparent 0 .3rem, var(--off-field) .3rem .6rem); }
 .grid td[data-copy=absent] { border-style: dashed; color: var(--soft); }
-.grid td.touched { z-index: 1; outline: .22rem solid var(--now); background-color: var(--now-field); overflow: visible; }
+.grid td.touched { z-index: 1; outline: .22rem solid var(--now); background-color: var(--now-field); }
 .grid td.raced { outline-color: var(--race); outline-style: dashed; }
 .grid .stale::after { border-width: .22em; }
 .chips { display: flex; flex-wrap: wrap; gap: .15em .6em; align-items: baseline; min-height: 1.45em; }
@@ -199,6 +200,7 @@ dialog { margin: auto; padding: 1.2rem 1.6rem; border: .1rem solid var(--line); 
 }
 @media screen and (max-width: 60em), screen and (max-height: 32em) {
   body { display: block; height: auto; }
+  .dense #nodes { grid-template-columns: repeat(auto-fit, minmax(min(100%, 18rem), 1fr)); }
   .rows main, main { display: flex; flex-direction: column; }
   #controls { position: sticky; bottom: 0; padding: .3rem 0; background: var(--paper); }
 }
@@ -288,22 +290,28 @@ dialog { margin: auto; padding: 1.2rem 1.6rem; border: .1rem solid var(--line); 
 // shows the rows and columns around the word of it that was touched last.
 
 /** The array of each word that is under one, and the slices that are in use, with the moments at which their words are touched. */
-function arraysOf({ labels, turns, written }) {
+function arraysOf({ labels, turns, written, states }) {
   const arrays = new Map();
   for (const { of, from, to, name, sizes = [] } of labels) {
     if (of !== "words") continue;
     const rest = sizes.reduce((product, size) => product * size, 1);
-    const array = { from, name, sizes: [(to - from + 1) / rest, ...sizes] };
+    const array = { from, name, sizes: [(to - from + 1) / rest, ...sizes], digits: 2 };
     for (let word = from; word <= to; word++) arrays.set(word, array);
   }
   const slices = new Map();
-  const touch = (word, moment) => {
+  const touch = (word, value, moment) => {
     const slice = sliceOf(arrays.get(word), word);
     if (!slices.has(slice.first)) slices.set(slice.first, slice);
     slices.get(slice.first).touches.push({ word, moment });
+    holds(word, value);
   };
-  for (const { word } of written) if (arrays.has(word)) touch(word, 0);
-  turns.forEach(({ act }, k) => { if (arrays.has(act?.word)) touch(act.word, k + 1); });
+  const holds = (word, value) => {
+    const array = arrays.get(word);
+    if (array) array.digits = Math.min(8, Math.max(array.digits, value.length));
+  };
+  for (const { word, value } of written) if (arrays.has(word)) touch(word, value, 0);
+  turns.forEach(({ act }, k) => { if (arrays.has(act?.word)) touch(act.word, act.value, k + 1); });
+  for (const { words } of states.flatMap(({ pages }) => pages)) Object.entries(words).forEach(([word, value]) => holds(+word, value));
   return { arrays, slices: [...slices.values()].sort((one, other) => one.first - other.first) };
 }
 
@@ -338,7 +346,7 @@ function around(index, count, size) {
 // The height of a row of a grid, and of all that stands around its rows, in signs of its own size.
 const rowHeight = 1.6, frameHeight = 4.8;
 
-function cellWidth({ columns }) { return .62 * Math.max(2, run.digits, String(columns - 1).length) + .5; }
+function cellWidth({ array, columns }) { return .62 * Math.max(array.digits, String(columns - 1).length) + .5; }
 function headWidth({ rows }) { return .62 * (rows > 1 ? String(rows - 1).length : 0) + .5; }
 function gridWidth(slice) { return headWidth(slice) + slice.columns * cellWidth(slice) + 1.5; }
 
@@ -383,7 +391,7 @@ function gridTable(view, grid) {
   const heading = make("tr", {}, make("th", {}), ...counting(left, columns).map(column => index(column, true)));
   const lines = counting(top, rows).map(row => make("tr", {}, index(row, slice.array.sizes.length > 1), ...rowOf(grid, row).map(word => gridCell(view, word))));
   const cut = classes({ "cut-left": left > 0, "cut-right": left + columns < slice.columns, "cut-top": top > 0, "cut-bottom": top + rows < slice.rows });
-  return make("div", { class: "grid", style: `--cell: ${cellWidth(slice)}; --head: ${headWidth(slice)}` },
+  return make("div", { class: "grid", style: `--cell: ${cellWidth(slice)}; --head: ${headWidth(slice)}; --columns: ${columns}` },
     make("h3", {}, make("b", {}, slice.title), " ", caption(slice.array.sizes.join(" \u00d7 "))),
     make("table", { class: cut }, heading, ...lines),
     make("p", { class: "grid-notes" }, ...gridNotes(view, grid)));
@@ -409,11 +417,13 @@ function gridNotes(view, grid) {
   ];
 }
 
-/** In a table of many nodes: the words of arrays that were touched last, as many as a line has room for. */
-function touchedLately() {
+/** In a table of many nodes that shows these words: the words of arrays that were touched last, as many as there is room for beside them. */
+function touchedLately(shown) {
   const em = parseFloat(getComputedStyle(regions.headings).fontSize);
-  const widthOf = word => .62 * Math.max(run.digits, Math.min(9, nameOf(word).length), String(word).length) + .8;
-  let room = regions.nodes.clientWidth * .42 / em;
+  const widthOf = word => .62 * Math.max(run.digits, Math.min(9, nameOf(word).length), String(word).length) + 1.4;
+  const pages = regions.headings.querySelector(".pages").getBoundingClientRect();
+  const { right, width } = regions.nodes.getBoundingClientRect();
+  let room = Math.min(width * .45, right - pages.left - 9 * em) / em - shown.reduce((sum, word) => sum + widthOf(word), 0);
   const words = new Set();
   for (let moment = at; moment > 0; moment--) {
     const { act } = run.turns[moment - 1];
@@ -427,7 +437,7 @@ function touchedLately() {
 
 /** Below a table of many nodes: the arrays of one node. */
 function arraysOfNode(view, grids) {
-  const pages = [...new Set(grids.flatMap(wordsOfGrid).map(word => Math.floor(word / run.page)))];
+  const pages = [...new Set(grids.flatMap(wordsOfGrid).map(pageNumber))];
   return [
     make("div", { class: "pages" }, badge(view.node), ...pages.map(page => pageCopy({ ...view, grids }, pageOf(view.state, page), []))),
     make("div", { class: "grids" }, ...grids.map(grid => gridTable(view, grid)))];

@@ -106,7 +106,7 @@ function usesOf(run) {
 function pageOf(state, page) {
   return state.pages.find(other => other.page === page) ?? { page, copy: "valid", words: {}, twin: null, lacks: [], keeper: 0, base: null };
 }
-function copyOf(state, word) { return pageOf(state, Math.floor(word / run.page)); }
+function copyOf(state, word) { return pageOf(state, pageNumber(word)); }
 function valueOf(state, word) { return copyOf(state, word).words[word] ?? "0"; }
 
 /** The last write to a word, where there is a copy and has another value. */
@@ -369,9 +369,11 @@ function reveal(part, region) { if (region.scrollHeight > region.clientHeight) p
 function drawNodes(turn, states, before, scale) {
   const raced = racesAt(at).flatMap(turnsOf);
   const views = states.map((state, node) => ({ node, state, before: before[node], turn: turn?.node === node ? turn : null, raced }));
-  const words = wordsShown(scale);
-  drawPanels(views, words, []);
+  const alone = wordsAlone(scale);
+  drawPanels(views, alone, []);
   if (!run.slices.length) return;
+  const words = run.nodes > 4 ? [...alone, ...touchedLately(alone)].sort((one, other) => one - other) : alone;
+  if (words.length > alone.length) drawPanels(views, words, []);
   const room = roomForGrids();
   for (let tries = 0; tries < 3; tries++) {
     drawPanels(views, words, gridsFor(room));
@@ -382,33 +384,28 @@ function drawNodes(turn, states, before, scale) {
 }
 
 function drawPanels(views, words, grids) {
-  const pages = byPage(words);
   const isTable = run.nodes > 4;
-  if (!isTable) for (const word of grids.flatMap(wordsOfGrid)) { const page = Math.floor(word / run.page); pages.set(page, pages.get(page) ?? []); }
-  const sorted = new Map([...pages].sort(([one], [other]) => one - other));
-  for (const view of views) drawNode({ ...view, pages: sorted, grids: isTable ? [] : grids });
-  drawHeadings(sorted);
+  const pages = byPage(words, isTable ? [] : grids.flatMap(wordsOfGrid));
+  for (const view of views) drawNode({ ...view, pages, grids: isTable ? [] : grids });
+  drawHeadings(pages);
   const acting = views.find(({ turn }) => turn) ?? views[0];
   regions.arrays.replaceChildren(...isTable && grids.length ? arraysOfNode(acting, grids) : []);
 }
 
-/** The words that are shown one by one, each in its place from the start: those in use that are no array's (where they are many, those of the
-    turns in the picture), and in a table of many nodes the words of arrays that were touched last. */
-function wordsShown({ first, shown }) {
+/** The words in use that are no array's, each in its place from the start; where they are many, those of the turns in the picture. */
+function wordsAlone({ first, shown }) {
   const alone = run.inUse.filter(word => !run.arrays.has(word));
   const near = new Set(run.moments.slice(first, first + shown).flatMap(({ turn }) => turn?.act?.word ?? []));
-  const few = alone.length <= 64 ? alone : alone.filter(word => near.has(word));
-  return run.nodes > 4 ? [...few, ...touchedLately()].sort((one, other) => one - other) : few;
+  return alone.length <= 64 ? alone : alone.filter(word => near.has(word));
 }
 
-function byPage(words) {
-  const pages = new Map();
-  for (const word of words) {
-    const page = Math.floor(word / run.page);
-    pages.set(page, [...pages.get(page) ?? [], word]);
-  }
+/** Words by their pages; pages that only words in grids have stand there too, without words. */
+function byPage(words, inGrids) {
+  const pages = new Map([...words, ...inGrids].map(word => [pageNumber(word), []]).sort(([one], [other]) => one - other));
+  for (const word of words) pages.get(pageNumber(word)).push(word);
   return pages;
 }
+function pageNumber(word) { return Math.floor(word / run.page); }
 
 function drawNode(view) {
   const { node, state, before, turn } = view;
@@ -439,7 +436,7 @@ function drawHeadings(pages) {
 function pageCopy(view, copy, words) {
   const { node, state, before } = view;
   const { page, lacks, keeper, base } = copy;
-  const inGrids = view.grids.flatMap(wordsOfGrid).filter(word => Math.floor(word / run.page) === page);
+  const inGrids = view.grids.flatMap(wordsOfGrid).filter(word => pageNumber(word) === page);
   const newer = [...words, ...inGrids].map(word => newerWrite(state, word)).filter(write => write && !isToldOf(state, write));
   const untold = [...new Set(newer.sort((one, other) => one.position - other.position).map(write => `${write.node}.${write.interval}`))];
   const kept = keeper === node ? `kept here${base ? ", with a base" : ""}` : copy.copy === "absent" ? `kept by node ${keeper}` : "";
@@ -741,7 +738,7 @@ function play(isOn) {
 function start() {
   const pages = run.turns.flatMap(({ state }) => state.pages);
   const digits = pages.flatMap(({ words }) => Object.values(words)).reduce((most, value) => Math.max(most, value.length), 1);
-  run.digits = Math.min(8, digits);
+  run.digits = digits;
   run.isCollected = pages.some(({ keeper, base }) => keeper > 0 || base);
   document.title = run.turns.length ? `${run.program}, turns ${run.turns[0].turn} to ${run.turns.at(-1).turn}` : `${run.program}, no turn`;
   document.body.style = `--digits: ${digits}; --narrow: ${Math.min(1, 12 / digits)}; --badges: ${Math.min(4, run.nodes)}; --nodes: ${run.nodes}`;
