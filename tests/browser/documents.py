@@ -10,7 +10,8 @@ EXAMPLES = TOP / "examples"
 STEPS = TOP / "docs" / "steps"
 DATA = re.compile(rb'<script type="application/json" id="run">\n(.*?)</script>', re.S)
 
-# Each by the words of the command, without `step`; {E} is the directory of the examples, {S} that of the pages in the documents.
+# Each by the words of the command, without `step`; {E} is the directory of the examples, {S} that of the pages in the documents, {T} one for programs
+# that stand here.
 WORDS = {
     "late": "{E}/late.tm --nodes 2 --events {E}/late.events",
     "late_part": "{E}/late.tm --nodes 2 --events {E}/late.events --from 6 --to 9",
@@ -23,6 +24,37 @@ WORDS = {
     "traps": "{E}/traps.tm --nodes 3",
     "jacobi": "{S}/jacobi.tm --nodes 4",
     "jacobi_eight": "{S}/jacobi.tm --nodes 8",
+    "grids_part": "{E}/named/jacobi.tm --from 250 --to 700",
+    "grids_eight_part": "{E}/named/jacobi.tm --nodes 8 --from 250 --to 500",
+    "tours_part": "{E}/named/branch_bound.tm --nodes 3 --from 150 --to 450",
+    "sort_part": "{E}/named/sort.tm --from 150 --to 450",
+    "product_part": "{E}/named/matrix.tm --from 100 --to 400",
+    "arrays": "{T}/arrays.tm",
+    "line": "{T}/line.tm",
+}
+
+# Arrays of one, two and three sizes, 65,536 words; and one of 65,536 on 16 nodes.
+PROGRAMS = {
+    "arrays.tm": """nodes 4;
+const SIDE = 32;
+shared cube[SIDE][SIDE][SIDE], line[16384], plane[128][96], hash[4096];
+for i in 0..6 {
+    cube[i][me * 8][i * 5] = 100 * i + me;
+    line[me * 4096 + i * 700] = i + 1;
+    plane[i * 20 + me][i * 18 + me] = 7;
+    hash[me * 1000 + i] = 18446744073709551615 - i;
+}
+barrier;
+x = cube[3][0][15];
+print x;
+""",
+    "line.tm": """nodes 16;
+shared line[65536];
+for i in 0..4 { line[me * 4096 + i] = i + 1; }
+barrier;
+x = line[65535 - me];
+print x;
+""",
 }
 
 # A run of 417 turns.
@@ -35,8 +67,8 @@ HOSTILE_PROGRAM = b"words 2;\nlocks 0;\n[1 - me] = 18446744073709551615;\nx = [m
 LARGE_PROGRAM = "words 65536;\nlocks 0;\nwhile 1 {\n  [x * 16 + me] = x;\n  x = x + 1;\n}\n"
 
 
-def words_of(command):
-    return [word.replace("{E}", str(EXAMPLES)).replace("{S}", str(STEPS)) for word in command.split()]
+def words_of(command, folder=Path()):
+    return [word.replace("{E}", str(EXAMPLES)).replace("{S}", str(STEPS)).replace("{T}", str(folder)) for word in command.split()]
 
 
 class Program:
@@ -44,9 +76,11 @@ class Program:
 
     def __init__(self, folder, program):
         self.folder, self.program = folder, program
+        for name, text in PROGRAMS.items():
+            (folder / name).write_text(text)
 
     def document(self, name):
-        return self.step(words_of(WORDS[name]))
+        return self.step(words_of(WORDS[name], self.folder))
 
     def step(self, words):
         done = subprocess.run([self.program, "step", *words], capture_output=True)

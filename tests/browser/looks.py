@@ -8,11 +8,12 @@ from pathlib import Path
 
 import documents
 from browser import Browser
-from shown import SHOWN, Differs, Looks, moments_of
+from shown import SHOWN, Differs, Looks, arrays_of, moments_of
 
 SIZES = [(1280, 800), (1366, 768), (1920, 1080), (1024, 768)]
 SHOT_AT = {"late": 13, "late_part": 12, "front_part": 4, "counter": 33, "sixteen_part": 277, "collecting": 22, "store_buffering": 3, "deadlock": 9,
-           "traps": 5, "jacobi": 239, "jacobi_eight": 239}
+           "traps": 5, "jacobi": 239, "jacobi_eight": 239, "grids_part": 310, "grids_eight_part": 298, "tours_part": 300, "sort_part": 300,
+           "product_part": 200, "arrays": 70, "line": 200}
 # Ten steps, drawn and laid out.
 TEN_STEPS = "for (let k = 0; k < 10; k++) { go(1000 + k); document.body.getBoundingClientRect(); }"
 TEXTS = "(selector => [...document.querySelectorAll(selector)].map(element => element.textContent))"
@@ -56,16 +57,25 @@ def place_of(name, turns):
 
 
 def words_in_use(lines):
-    """The words that acts of the document, and writes before it, touch."""
+    """The words that acts of the document, and writes before it, touch, but for those of arrays."""
     acts = [line["act"]["deed"].split() for line in lines if line.get("act")]
-    return {deed[1] for deed in acts if deed[0] in ("read", "write")} | {str(write["word"]) for line in lines for write in line.get("written", [])}
+    words = {int(deed[1]) for deed in acts if deed[0] in ("read", "write")} | {write["word"] for line in lines for write in line.get("written", [])}
+    return {word for word in words if not any(array.has(word) for array in arrays_of(lines).values())}
+
+
+def knows(pages, document):
+    """What is compared with the page's words: the arrays, the size of a page, whether few words stand alone."""
+    lines = documents.lines_of(document)
+    pages.looks.are_few = len(words_in_use(lines)) <= 64
+    pages.looks.arrays = arrays_of(lines)
+    pages.looks.page_size = next(line["page"] for line in lines if "page" in line)
 
 
 def states(pages, name, document):
     """At the start and at ten turns the page shows what the lines say, and it is no wider than its window."""
     browser, moments = pages.browser, moments_of(documents.lines_of(document))
     url = pages.save(name, document)
-    pages.looks.are_few = len(words_in_use(documents.lines_of(document))) <= 64
+    knows(pages, document)
     browser.size(1280, 800)
     browser.open(url)
     turns = [turn for turn in moments if turn is not None]
@@ -296,6 +306,51 @@ def ends(pages, made):
     pages.is_quiet("ends")
 
 
+# Whether the word that the act touches is seen, in the node's own panel or in the table: marked, and within its region.
+SEEN = """(() => { const region = document.querySelector('#nodes').getBoundingClientRect(), words = [...document.querySelectorAll('.node.now .touched')];
+  return words.length > 0 && words.every(word => { const box = word.getBoundingClientRect();
+    return box.top >= region.top - 1 && box.bottom <= region.bottom + 1 && box.left >= region.left - 1 && box.right <= region.right + 1; }); })()"""
+
+
+def grids(pages, made):
+    """Arrays are grids: of what is shown each value is that of the lines, in every size of the window, and the word of the act is in sight."""
+    browser = pages.browser
+    for name in ("grids_part", "grids_eight_part", "tours_part", "sort_part", "product_part", "arrays", "line"):
+        moments, url = moments_of(documents.lines_of(made[name])), pages.save(name, made[name])
+        knows(pages, made[name])
+        turns = [turn for turn in moments if turn is not None]
+        touching = [turn for turn, _, act in acts_of(moments) if thing_of(act)[0] == "word"]
+        for width, height in [(1366, 768), (1920, 1080), (3840, 2160), (1024, 768), (390, 844)]:
+            browser.size(width, height)
+            browser.media(prefers_color_scheme="dark" if width == 1920 else "light")
+            browser.open(url)
+            for turn in sorted({touching[k * (len(touching) - 1) // 7] for k in range(8)}):
+                pages.at_turn(turn)
+                pages.looks.moment(browser.value(SHOWN), moments[turn], f"{name} at {turn}, {width}", place_of(name, turns))
+                if width > 1000:
+                    pages.same(f"{name} at {turn}, {width}: the word of the act is seen", browser.value(SEEN), True)
+        before = browser.busy()
+        browser.value(TEN_STEPS.replace("1000", "20"))
+        pages.same(f"{name}: stepped in time", (browser.busy() - before) / 10 < 0.1, True)
+        pages.is_quiet(name)
+    sizes_of_grids(pages, made)
+
+
+def sizes_of_grids(pages, made):
+    """A small array is shown whole; of a great one as much as there is room for, around the word of the act."""
+    browser = pages.browser
+    browser.size(1920, 1080)
+    browser.open(f"{pages.save('product_part', made['product_part'])}#turn=200")
+    whole = [[len(grid["rows"]), len(grid["rows"][0])] for grid in browser.value(SHOWN)["nodes"][0]["grids"]]
+    pages.same("4 by 4 words are shown whole", {tuple(size) for size in whole}, {(5, 5)})
+    cells = []
+    for width, height in ((1366, 768), (3840, 2160)):
+        browser.size(width, height)
+        browser.open(f"{pages.save('grids_part', made['grids_part'])}#turn=310")
+        cells.append(sum(len(grid["copies"]) for grid in browser.value(SHOWN)["nodes"][0]["grids"]))
+    pages.same(f"a greater window shows more: {cells}", 9 <= cells[0] < cells[1] <= 200, True)
+
+
 def part(pages, whole, shorter):
     """A part of a run shows what the whole run shows at the same turns, old values by writes before it too."""
     browser, moments = pages.browser, moments_of(documents.lines_of(whole))
@@ -401,7 +456,7 @@ def contrast(pages):
     roots = re.findall(r":root \{(.*?)\}", documents.constant("frame.rt", "OPENING").decode(), re.S)
     light, dark = [dict(re.findall(r"--([\w-]+): (#\w{6})", root)) for root in roots]
     pairs = [("ink", "paper"), ("soft", "paper"), ("off", "paper"), ("now", "paper"), ("race", "paper"), ("ink", "changed"), ("ink", "now-field"),
-             ("ink", "field"), ("off", "off-field"), ("soft", "now-field")]
+             ("ink", "field"), ("off", "off-field"), ("soft", "now-field"), ("soft", "off-field")]
     for colours in (light, light | dark):
         for text, ground in pairs:
             high, low = sorted([luminance(colours[text]), luminance(colours[ground])], reverse=True)
@@ -420,6 +475,7 @@ def look(pages, source):
         finding(pages, name, made[name])
     asking(pages, made["late"])
     ends(pages, made)
+    grids(pages, made)
     printed(pages, made["late"])
     part(pages, made["late"], made["late_part"])
     document = source.hostile()

@@ -23,7 +23,7 @@ pub const OPENING: &[u8] = br##"<!doctype html>
   }
 }
 * { box-sizing: border-box; margin: 0; padding: 0; }
-html { font: clamp(15px, 0.8vw + 5.6px, 40px)/1.35 system-ui, "Segoe UI", "DejaVu Sans", sans-serif; }
+html { font: clamp(15px, min(0.8vw + 5.6px, 0.4vw + 13.3px), 40px)/1.35 system-ui, "Segoe UI", "DejaVu Sans", sans-serif; }
 body { display: grid; grid-template-rows: auto minmax(0, 1fr) auto auto; gap: .5rem; height: 100dvh; padding: .5rem .9rem;
   background: var(--paper); color: var(--ink); }
 h2, h3 { font: inherit; }
@@ -90,6 +90,36 @@ main > * { min-height: 0; overflow: auto; scrollbar-width: thin; }
 [data-copy=invalid] h3 b { color: var(--off); }
 .word.touched { outline: .2rem solid var(--now); outline-offset: .05rem; }
 .word.raced { outline-color: var(--race); outline-style: dashed; }
+/* Panels with grids have less room for all else. */
+.dense .node { grid-template-columns: auto auto minmax(0, 1fr); gap: .1em .5em; font-size: clamp(.85rem, 5.8cqi / var(--nodes), 1rem); }
+.dense .pages, .dense .chips { font-size: .9em; }
+.dense .waits { grid-column: auto; text-align: right; font-size: .9em; }
+.dense .pages { display: flex; flex-wrap: wrap; gap: 0 .9em; }
+.dense .page { display: flex; flex-wrap: wrap; align-items: baseline; gap: 0 .4em; max-width: 100%; }
+.dense .page .notes { min-height: 0; max-width: 100%; }
+.dense .word { display: flex; gap: .4em; min-width: 0; align-items: baseline; }
+.dense .word .value { font-size: 1em; }
+.dense .word .note, .dense .chips { min-height: 0; }
+.grids { display: flex; flex-wrap: wrap; gap: 0 1em; align-items: start; }
+.grid { font-size: .85em; min-width: 0; }
+.grid h3, .grid .grid-notes { height: 1.5em; line-height: 1.5; overflow: hidden; text-overflow: ellipsis; white-space: nowrap; }
+.grid table { border-spacing: 0; table-layout: fixed; width: calc((var(--head) + var(--columns) * var(--cell)) * 1em); }
+.grid th { width: calc(var(--cell) * 1em); height: 1.3em; overflow: hidden; color: var(--soft); font-weight: 400; line-height: 1.2; }
+.grid th:first-child { width: calc(var(--head) * 1em); }
+.grid td { position: relative; height: 1.6em; padding: 0 .1em; border: .06em solid var(--line); overflow: hidden;
+  text-overflow: ellipsis; white-space: nowrap; text-align: center; font-weight: 650; line-height: 1.3; }
+.grid .cut-left td:nth-of-type(1) { border-left: .16em dotted var(--soft); }
+.grid .cut-right td:last-child { border-right: .16em dotted var(--soft); }
+.grid .cut-top tr:nth-child(2) td { border-top: .16em dotted var(--soft); }
+.grid .cut-bottom tr:last-child td { border-bottom: .16em dotted var(--soft); }
+.grid td, .grid th { font-family: ui-monospace, "Cascadia Mono", Menlo, "DejaVu Sans Mono", monospace; }
+.grid td[data-copy=written] { border-color: var(--now); border-width: .14em; }
+.grid td[data-copy=invalid] { color: var(--soft); text-decoration: line-through;
+  background-image: repeating-linear-gradient(-45deg, transparent 0 .3rem, var(--off-field) .3rem .6rem); }
+.grid td[data-copy=absent] { border-style: dashed; color: var(--soft); }
+.grid td.touched { z-index: 1; outline: .22rem solid var(--now); background-color: var(--now-field); }
+.grid td.raced { outline-color: var(--race); outline-style: dashed; }
+.grid .stale::after { border-width: .22em; }
 .chips { display: flex; flex-wrap: wrap; gap: .15em .6em; align-items: baseline; min-height: 1.45em; }
 .chip { padding: 0 .35em; border: .08rem solid var(--line); border-radius: .3em; }
 .chip.away { border-color: transparent; padding: 0; }
@@ -101,6 +131,8 @@ main > * { min-height: 0; overflow: auto; scrollbar-width: thin; }
 .rows .node { grid-column: 1 / -1; grid-template-columns: subgrid; font-size: .85rem; align-items: center; padding: .04em .3em; border-width: 0 0 .08rem; border-radius: 0; scroll-margin-top: 4em; }
 .rows .node > * { grid-column: auto; }
 .rows .node.now { background: var(--now-field); box-shadow: none; }
+#arrays { grid-column: 1 / -1; padding-top: .3em; font-size: .95rem; }
+#arrays:empty { display: none; }
 .rows .headings { display: grid; position: sticky; top: 0; z-index: 1; background: var(--paper); color: var(--soft); }
 .rows .headings li { border-color: transparent; }
 .rows .time { flex-wrap: nowrap; gap: 0; }
@@ -168,6 +200,7 @@ dialog { margin: auto; padding: 1.2rem 1.6rem; border: .1rem solid var(--line); 
 }
 @media screen and (max-width: 60em), screen and (max-height: 32em) {
   body { display: block; height: auto; }
+  .dense #nodes { grid-template-columns: repeat(auto-fit, minmax(min(100%, 18rem), 1fr)); }
   .rows main, main { display: flex; flex-direction: column; }
   #controls { position: sticky; bottom: 0; padding: .3rem 0; background: var(--paper); }
 }
@@ -191,7 +224,8 @@ dialog { margin: auto; padding: 1.2rem 1.6rem; border: .1rem solid var(--line); 
 </header>
 <main>
   <ol id="source" aria-label="Program" tabindex="0"></ol>
-  <div id="nodes" role="region" aria-label="Nodes"><div class="node headings" id="headings" aria-hidden="true"></div></div>
+  <div id="nodes" role="region" aria-label="Nodes"><div class="node headings" id="headings" aria-hidden="true"></div>
+    <div id="arrays"></div></div>
   <div id="story" tabindex="0" role="region" aria-label="Reasons and messages">
     <section id="why"></section>
     <section id="flight"></section>
@@ -248,5 +282,184 @@ dialog { margin: auto; padding: 1.2rem 1.6rem; border: .1rem solid var(--line); 
   </dl>
   <form method="dialog"><button>Close</button></form>
 </dialog>
+<script>
+"use strict";
+
+// ---- Arrays as grids ----
+// A label of several words is an array. A slice of it is a table of its last two dimensions. Where the window has no room for a whole slice, it
+// shows the rows and columns around the word of it that was touched last.
+
+/** The array of each word that is under one, and the slices that are in use, with the moments at which their words are touched. */
+function arraysOf({ labels, turns, written, states }) {
+  const arrays = new Map();
+  for (const { of, from, to, name, sizes = [] } of labels) {
+    if (of !== "words") continue;
+    const rest = sizes.reduce((product, size) => product * size, 1);
+    const array = { from, name, sizes: [(to - from + 1) / rest, ...sizes], digits: 2 };
+    for (let word = from; word <= to; word++) arrays.set(word, array);
+  }
+  const slices = new Map();
+  const touch = (word, value, moment) => {
+    const slice = sliceOf(arrays.get(word), word);
+    if (!slices.has(slice.first)) slices.set(slice.first, slice);
+    slices.get(slice.first).touches.push({ word, moment });
+    holds(word, value);
+  };
+  const holds = (word, value) => {
+    const array = arrays.get(word);
+    if (array) array.digits = Math.min(8, Math.max(array.digits, value.length));
+  };
+  for (const { word, value } of written) if (arrays.has(word)) touch(word, value, 0);
+  turns.forEach(({ act }, k) => { if (arrays.has(act?.word)) touch(act.word, act.value, k + 1); });
+  for (const { words } of states.flatMap(({ pages }) => pages)) Object.entries(words).forEach(([word, value]) => holds(+word, value));
+  return { arrays, slices: [...slices.values()].sort((one, other) => one.first - other.first) };
+}
+
+function sliceOf(array, word) {
+  const { from, name, sizes } = array;
+  const [rows, columns] = sizes.length > 1 ? sizes.slice(-2) : [1, sizes[0]];
+  const place = Math.floor((word - from) / (rows * columns));
+  return { array, rows, columns, first: from + place * rows * columns, title: name + bracketed(indicesOf(place, sizes.slice(0, -2))), touches: [] };
+}
+
+/** The indices of a place in an array of these sizes, by rows. */
+function indicesOf(place, sizes) {
+  const indices = [];
+  for (const size of [...sizes].reverse()) {
+    indices.unshift(place % size);
+    place = Math.floor(place / size);
+  }
+  return indices;
+}
+function bracketed(indices) { return indices.map(index => `[${index}]`).join(""); }
+
+/** The word of a slice that was touched last; the first one, before any is touched. */
+function focusOf({ touches, first }) { return touches.findLast(({ moment }) => moment <= at) ?? { word: first, moment: -1 }; }
+
+/** The first of so many indices around one. It moves by half of them, so it seldom moves. */
+function around(index, count, size) {
+  const step = Math.max(1, Math.floor(count / 2));
+  const start = Math.floor(index / step) * step - Math.floor((count - step) / 2);
+  return Math.max(0, Math.min(size - count, start));
+}
+
+// The height of a row of a grid, and of all that stands around its rows, in signs of its own size.
+const rowHeight = 1.6, frameHeight = 4.8;
+
+function cellWidth({ array, columns }) { return .62 * Math.max(array.digits, String(columns - 1).length) + .5; }
+function headWidth({ rows }) { return .62 * (rows > 1 ? String(rows - 1).length : 0) + .5; }
+function gridWidth(slice) { return headWidth(slice) + slice.columns * cellWidth(slice) + 1.5; }
+
+/** The slices that there is room for, those touched last before all others, and the part of each that is shown. */
+function gridsFor({ width, height, least }) {
+  const latest = [...run.slices].sort((one, other) => focusOf(other).moment - focusOf(one).moment || one.first - other.first);
+  for (let count = Math.min(latest.length, 24); count > 0; count--) {
+    const slices = latest.slice(0, count).sort((one, other) => one.first - other.first);
+    const abreast = Math.max(1, Math.min(count, Math.floor(width / Math.max(...slices.map(gridWidth)))));
+    const rows = rowsFor(slices, abreast, height);
+    const most = Math.max(...slices.map(slice => slice.rows));
+    if (rows >= Math.min(3, most) || (count === 1 && least)) return slices.map(slice => partOf(slice, Math.max(1, rows), width));
+  }
+  return [];
+}
+
+/** How many rows at most each of these slices may show, so many of them abreast. */
+function rowsFor(slices, abreast, height) {
+  const lines = [];
+  for (let k = 0; k < slices.length; k += abreast) lines.push(Math.max(...slices.slice(k, k + abreast).map(({ rows }) => rows)));
+  const heightOf = limit => lines.reduce((sum, rows) => sum + frameHeight + Math.min(rows, limit) * rowHeight, 0);
+  let limit = Math.min(Math.max(...lines), Math.ceil(Math.max(0, height) / rowHeight));
+  while (limit > 0 && heightOf(limit) > height) limit--;
+  return limit;
+}
+
+function partOf(slice, rowLimit, width) {
+  const rows = Math.min(slice.rows, rowLimit);
+  const columns = Math.min(slice.columns, Math.max(1, Math.floor((width - headWidth(slice) - .5) / cellWidth(slice))));
+  const place = focusOf(slice).word - slice.first;
+  return { slice, rows, columns, top: around(Math.floor(place / slice.columns), rows, slice.rows), left: around(place % slice.columns, columns, slice.columns) };
+}
+
+function counting(from, count) { return Array.from({ length: count }, (_, k) => from + k); }
+function rowOf({ slice, columns, left }, row) { return counting(slice.first + row * slice.columns + left, columns); }
+function wordsOfGrid(grid) { return counting(grid.top, grid.rows).flatMap(row => rowOf(grid, row)); }
+
+/** A part of a slice in a node's copy. */
+function gridTable(view, grid) {
+  const { slice, rows, columns, top, left } = grid;
+  const index = (number, shown) => make("th", {}, shown ? number : "");
+  const heading = make("tr", {}, make("th", {}), ...counting(left, columns).map(column => index(column, true)));
+  const lines = counting(top, rows).map(row => make("tr", {}, index(row, slice.array.sizes.length > 1), ...rowOf(grid, row).map(word => gridCell(view, word))));
+  const cut = classes({ "cut-left": left > 0, "cut-right": left + columns < slice.columns, "cut-top": top > 0, "cut-bottom": top + rows < slice.rows });
+  return make("div", { class: "grid", style: `--cell: ${cellWidth(slice)}; --head: ${headWidth(slice)}; --columns: ${columns}` },
+    make("h3", {}, make("b", {}, slice.title), " ", caption(slice.array.sizes.join(" \u00d7 "))),
+    make("table", { class: cut }, heading, ...lines),
+    make("p", { class: "grid-notes" }, ...gridNotes(view, grid)));
+}
+
+function gridCell(view, word) {
+  const { text, copy, holds, title } = wordIn(view, word);
+  return make("td", { class: classes(holds), "data-copy": copy, "data-word": word, title: `${labelled("word", word)}: ${text}; ${title}` }, text);
+}
+
+/** Of the words shown: what this turn does, which have another value now, and twins. */
+function gridNotes(view, grid) {
+  const { first, array } = grid.slice;
+  const words = wordsOfGrid(grid).map(word => ({ ...wordIn(view, word), at: bracketed(indicesOf(word - first, array.sizes.slice(-2))) }));
+  const touched = words.find(({ done }) => done);
+  const old = words.filter(({ newer }) => newer).map(({ newer, at }) => `${newer.value} at ${at}`);
+  const twins = words.filter(({ twinValue }) => twinValue !== null).map(({ twinValue, at }) => `${twinValue} at ${at}`);
+  return [
+    touched ? `${touched.at} ${touched.done}${touched.newer ? ", " : " "}` : null,
+    touched?.newer ? marked(`now ${touched.newer.value} `, { off: true }) : null,
+    old.length > (touched?.newer ? 1 : 0) ? marked(`now ${listed(old)} `, { off: true }) : null,
+    twins.length ? caption(`twin ${listed(twins)}`) : null,
+  ];
+}
+
+/** In a table of many nodes that shows these words: the words of arrays that were touched last, as many as there is room for beside them. */
+function touchedLately(shown) {
+  const em = parseFloat(getComputedStyle(regions.headings).fontSize);
+  const widthOf = word => .62 * Math.max(run.digits, Math.min(9, nameOf(word).length), String(word).length) + 1.4;
+  const pages = regions.headings.querySelector(".pages").getBoundingClientRect();
+  const { right, width } = regions.nodes.getBoundingClientRect();
+  let room = Math.min(width * .45, right - pages.left - 9 * em) / em - shown.reduce((sum, word) => sum + widthOf(word), 0);
+  const words = new Set();
+  for (let moment = at; moment > 0; moment--) {
+    const { act } = run.turns[moment - 1];
+    if (!run.arrays.has(act?.word) || words.has(act.word)) continue;
+    room -= widthOf(act.word);
+    if (room < 0 && words.size) break;
+    words.add(act.word);
+  }
+  return words;
+}
+
+/** Below a table of many nodes: the arrays of one node. */
+function arraysOfNode(view, grids) {
+  const pages = [...new Set(grids.flatMap(wordsOfGrid).map(pageNumber))];
+  return [
+    make("div", { class: "pages" }, badge(view.node), ...pages.map(page => pageCopy({ ...view, grids }, pageOf(view.state, page), []))),
+    make("div", { class: "grids" }, ...grids.map(grid => gridTable(view, grid)))];
+}
+
+/** How high the nodes are. */
+function nodesHeight() {
+  const parts = [...regions.nodes.children].filter(part => part.getClientRects().length);
+  return Math.max(...parts.map(part => part.getBoundingClientRect().bottom)) - regions.nodes.getBoundingClientRect().top + regions.nodes.scrollTop;
+}
+
+/** What is left for grids, in their own signs: below a table of many nodes, or in each panel; in one column, half of the window. */
+function roomForGrids() {
+  const { nodes } = regions;
+  const main = nodes.parentElement;
+  const isTable = run.nodes > 4;
+  const inOneColumn = getComputedStyle(main).display === "flex";
+  const place = isTable ? nodes : nodes.querySelector("section .pages");
+  const em = .85 * parseFloat(getComputedStyle(isTable ? regions.arrays : place.parentElement).fontSize);
+  const most = inOneColumn ? nodesHeight() + innerHeight / 2 : isTable ? nodes.clientHeight : main.clientHeight * .75;
+  return { em, most, width: place.clientWidth / em, height: (most - nodesHeight()) / em, least: !isTable };
+}
+</script>
 <script type="application/json" id="run">
 "##;

@@ -28,7 +28,7 @@ function readRun(text) {
   run.source = [...run.text.replace(/\n$/, "").split("\n"), "# end"];
   run.momentOfAct = new Map(run.turns.flatMap(({ act }, k) => act ? [[act.position, k + 1]] : []));
   run.pairs = run.races.flatMap(({ race, pairs }) => pairs.map(pair => ({ race, pair: pair.map(act => run.momentOfAct.get(act)) }))).concat(racesBeyond(run));
-  Object.assign(run, momentsOf(run), usesOf(run));
+  Object.assign(run, momentsOf(run), usesOf(run), arraysOf(run));
   run.goesOn = run.turns.length > 0 && goesOn(run);
   return Object.assign(run, { isPart: run.turns[0]?.turn > 0 || run.goesOn });
 }
@@ -106,7 +106,7 @@ function usesOf(run) {
 function pageOf(state, page) {
   return state.pages.find(other => other.page === page) ?? { page, copy: "valid", words: {}, twin: null, lacks: [], keeper: 0, base: null };
 }
-function copyOf(state, word) { return pageOf(state, Math.floor(word / run.page)); }
+function copyOf(state, word) { return pageOf(state, pageNumber(word)); }
 function valueOf(state, word) { return copyOf(state, word).words[word] ?? "0"; }
 
 /** The last write to a word, where there is a copy and has another value. */
@@ -128,11 +128,7 @@ const traps = ["", "division by zero", "word out of range", "lock out of range",
 
 /** The indices of a word or of a lock under a label, by rows. */
 function placeOf({ of, from, sizes = [] }, number) {
-  if (!of.endsWith("s")) return "";
-  const indices = [];
-  let row = number - from;
-  for (const size of [...sizes].reverse()) { indices.unshift(row % size); row = Math.floor(row / size); }
-  return [row, ...indices].map(index => `[${index}]`).join("");
+  return of.endsWith("s") ? bracketed(indicesOf(number - from, [Infinity, ...sizes])) : "";
 }
 function labelled(kind, number) {
   const label = run.labels.find(({ of, from, to }) => of.startsWith(kind) && from <= number && number <= to);
@@ -305,17 +301,14 @@ function draw() {
   const { turn, states, flight } = run.moments[at];
   const before = run.moments[Math.max(0, at - 1)].states;
   const scale = scaleOfTimeline();
-  const pages = pagesShown(scale);
   drawHeader(turn, before);
   drawSource(turn, states);
-  const raced = racesAt(at).flatMap(turnsOf);
-  states.forEach((state, node) => drawNode({ node, state, before: before[node], turn: turn?.node === node ? turn : null, raced, pages }));
-  drawHeadings(pages);
   drawStory(turn, flight);
+  drawNodes(turn, states, before, scale);
   drawTimeline(turn, states, flight, scale);
   reveal(regions.source.querySelector(".now") ?? regions.source.querySelector(".badge"), regions.source);
   if (turn) reveal(document.getElementById(`node-${turn.node}`), regions.nodes);
-  for (const word of regions.nodes.querySelectorAll(".node.now .word.touched")) revealWord(word);
+  for (const word of regions.nodes.querySelectorAll(".node.now .touched, #arrays .touched")) revealWord(word);
   regions.slider.value = at;
   regions.slider.setAttribute("aria-valuetext", regions.headline.textContent);
 }
@@ -372,16 +365,47 @@ function revealWord(word) {
 /** Scrolls a region, where it scrolls by itself, until a part of it is seen. */
 function reveal(part, region) { if (region.scrollHeight > region.clientHeight) part.scrollIntoView({ block: "nearest" }); }
 
-/** The words in use, by page, each in its place from the start; where they are many, those of the turns in the picture. */
-function pagesShown({ first, shown }) {
-  const near = run.moments.slice(first, first + shown).flatMap(({ turn }) => turn?.act?.word ?? []);
-  const pages = new Map();
-  for (const word of run.inUse.length <= 64 ? run.inUse : [...new Set(near)].sort((one, other) => one - other)) {
-    const page = Math.floor(word / run.page);
-    pages.set(page, [...pages.get(page) ?? [], word]);
+/** First without grids; then with those that what is left of the window has room for. */
+function drawNodes(turn, states, before, scale) {
+  const raced = racesAt(at).flatMap(turnsOf);
+  const views = states.map((state, node) => ({ node, state, before: before[node], turn: turn?.node === node ? turn : null, raced }));
+  const alone = wordsAlone(scale);
+  drawPanels(views, alone, []);
+  if (!run.slices.length) return;
+  const words = run.nodes > 4 ? [...alone, ...touchedLately(alone)].sort((one, other) => one - other) : alone;
+  if (words.length > alone.length) drawPanels(views, words, []);
+  const room = roomForGrids();
+  for (let tries = 0; tries < 3; tries++) {
+    drawPanels(views, words, gridsFor(room));
+    const over = nodesHeight() - room.most;
+    if (over < 1) return;
+    room.height -= over / room.em;
   }
+}
+
+function drawPanels(views, words, grids) {
+  const isTable = run.nodes > 4;
+  const pages = byPage(words, isTable ? [] : grids.flatMap(wordsOfGrid));
+  for (const view of views) drawNode({ ...view, pages, grids: isTable ? [] : grids });
+  drawHeadings(pages);
+  const acting = views.find(({ turn }) => turn) ?? views[0];
+  regions.arrays.replaceChildren(...isTable && grids.length ? arraysOfNode(acting, grids) : []);
+}
+
+/** The words in use that are no array's, each in its place from the start; where they are many, those of the turns in the picture. */
+function wordsAlone({ first, shown }) {
+  const alone = run.inUse.filter(word => !run.arrays.has(word));
+  const near = new Set(run.moments.slice(first, first + shown).flatMap(({ turn }) => turn?.act?.word ?? []));
+  return alone.length <= 64 ? alone : alone.filter(word => near.has(word));
+}
+
+/** Words by their pages; pages that only words in grids have stand there too, without words. */
+function byPage(words, inGrids) {
+  const pages = new Map([...words, ...inGrids].map(word => [pageNumber(word), []]).sort(([one], [other]) => one - other));
+  for (const word of words) pages.get(pageNumber(word)).push(word);
   return pages;
 }
+function pageNumber(word) { return Math.floor(word / run.page); }
 
 function drawNode(view) {
   const { node, state, before, turn } = view;
@@ -393,6 +417,7 @@ function drawNode(view) {
     make("span", { class: classes({ line: true, changed: state.at !== before.at }) }, caption(/ended|trapped/.test(state.waits) ? "at line " : "next line "), state.at),
     make("span", { class: "waits", title: waits }, marked(waits, { changed: waits && waits !== waitsInWords(before) })),
     make("ol", { class: "time", "aria-label": "time" }, ...time),
+    ...view.grids.length ? [make("div", { class: "grids" }, ...view.grids.map(grid => gridTable(view, grid)))] : [],
     make("div", { class: "pages" }, ...[...view.pages].map(([page, words]) => pageCopy(view, pageOf(state, page), words))),
     make("p", { class: "chips" }, ...tokens(view), ...namesAndPrints(view)),
     make("p", { class: "chips stored" }, caption(`${state.intervals.length} stored`), ...notices(view)));
@@ -411,8 +436,9 @@ function drawHeadings(pages) {
 function pageCopy(view, copy, words) {
   const { node, state, before } = view;
   const { page, lacks, keeper, base } = copy;
-  const newer = words.map(word => newerWrite(state, word)).filter(write => write && !isToldOf(state, write));
-  const untold = [...new Set(newer.map(write => `${write.node}.${write.interval}`))];
+  const inGrids = view.grids.flatMap(wordsOfGrid).filter(word => pageNumber(word) === page);
+  const newer = [...words, ...inGrids].map(word => newerWrite(state, word)).filter(write => write && !isToldOf(state, write));
+  const untold = [...new Set(newer.sort((one, other) => one.position - other.position).map(write => `${write.node}.${write.interval}`))];
   const kept = keeper === node ? `kept here${base ? ", with a base" : ""}` : copy.copy === "absent" ? `kept by node ${keeper}` : "";
   return make("div", { class: "page", "data-copy": copy.copy },
     make("h3", {}, `page ${page} `, make("b", { class: classes({ changed: copy.copy !== pageOf(before, page).copy }) }, copy.copy)),
@@ -420,24 +446,32 @@ function pageCopy(view, copy, words) {
       lacks.length ? marked(`lacks ${listed(lacks)}`, { off: true }) : null,
       untold.length ? marked(`not told of ${listed(untold)}`, { off: true }) : null,
       run.isCollected ? caption(kept) : null),
-    make("ul", { class: "words" }, ...words.map(word => wordCell(view, copy, word))));
+    words.length ? make("ul", { class: "words" }, ...words.map(word => wordCell(view, word))) : null);
 }
 
-function wordCell({ node, state, before, turn, raced }, { copy, twin }, word) {
+/** What is shown of a word in a node's copy: its value, its marks, and in words what was done to it, its twin, or what it gives now. */
+function wordIn({ node, state, before, turn, raced }, word) {
+  const { copy, twin } = copyOf(state, word);
   const value = valueOf(state, word);
   const newer = newerWrite(state, word);
-  const twinValue = twin?.[word] ?? "0";
-  const isTouched = turn?.act?.word === word;
+  const twinned = twin?.[word] ?? "0";
+  const done = turn?.act?.word === word ? { read: "read", write: "written" }[turn.act.kind] : "";
   const isRaced = raced.some(other => other.node === node && other.act.word === word);
-  const note = isTouched ? { read: "read", write: "written" }[turn.act.kind] : twin && twinValue !== value && !newer ? `twin ${twinValue}` : "";
-  return make("li", {
-    class: classes({ word: true, touched: isTouched || isRaced, raced: isRaced, stale: newer, changed: value !== valueOf(before, word) }),
-    style: labelWidth(word),
+  return {
+    copy, newer, done,
+    text: copy === "absent" ? "\u2013" : value,
+    twinValue: twin && twinned !== value && !newer && !done ? twinned : null,
+    holds: { touched: done || isRaced, raced: isRaced, stale: newer, changed: value !== valueOf(before, word) },
     title: newer ? `node ${newer.node} wrote ${newer.value} at act ${newer.position}, line ${newer.line}` : labelled("word", word),
-  },
+  };
+}
+
+function wordCell(view, word) {
+  const { text, done, twinValue, newer, holds, title } = wordIn(view, word);
+  return make("li", { class: classes({ word: true, ...holds }), style: labelWidth(word), title },
     marked(labelled("word", word).slice("word ".length), { name: true }),
-    marked(copy === "absent" ? "\u2013" : value, { value: true }),
-    make("span", { class: "note" }, note, newer ? marked(` now ${newer.value}`, { off: true }) : null));
+    marked(text, { value: true }),
+    make("span", { class: "note" }, done || (twinValue === null ? "" : `twin ${twinValue}`), newer ? marked(` now ${newer.value}`, { off: true }) : null));
 }
 
 function tokens({ state, before }) {
@@ -704,11 +738,12 @@ function play(isOn) {
 function start() {
   const pages = run.turns.flatMap(({ state }) => state.pages);
   const digits = pages.flatMap(({ words }) => Object.values(words)).reduce((most, value) => Math.max(most, value.length), 1);
+  run.digits = digits;
   run.isCollected = pages.some(({ keeper, base }) => keeper > 0 || base);
   document.title = run.turns.length ? `${run.program}, turns ${run.turns[0].turn} to ${run.turns.at(-1).turn}` : `${run.program}, no turn`;
   document.body.style = `--digits: ${digits}; --narrow: ${Math.min(1, 12 / digits)}; --badges: ${Math.min(4, run.nodes)}; --nodes: ${run.nodes}`;
-  document.body.className = run.nodes > 4 ? "rows" : run.nodes < 3 ? "wide" : "";
-  regions.nodes.append(...run.states.map((_, node) => make("section", { class: "node", id: `node-${node}`, "aria-label": `node ${node}` })));
+  document.body.className = classes({ rows: run.nodes > 4, wide: run.nodes < 3, dense: run.nodes < 5 && run.slices.length }) ?? "";
+  regions.nodes.append(...run.states.map((_, node) => make("section", { class: "node", id: `node-${node}`, "aria-label": `node ${node}` })), regions.arrays);
   regions.slider.max = lastMoment;
   regions.slider.oninput = () => go(+regions.slider.value);
   for (const button of document.querySelectorAll("[data-key]")) button.onclick = () => press(button.dataset.key);
