@@ -320,11 +320,11 @@ def grids(pages, made):
         knows(pages, made[name])
         turns = [turn for turn in moments if turn is not None]
         touching = [turn for turn, _, act in acts_of(moments) if thing_of(act)[0] == "word"]
-        for width, height in [(1366, 768), (1920, 1080), (3840, 2160), (1024, 768), (390, 844)]:
+        for width, height in [(1366, 768), (1920, 1080), (3840, 2160), (390, 844)]:
             browser.size(width, height)
             browser.media(prefers_color_scheme="dark" if width == 1920 else "light")
             browser.open(url)
-            for turn in sorted({touching[k * (len(touching) - 1) // 7] for k in range(8)}):
+            for turn in sorted({touching[k * (len(touching) - 1) // 4] for k in range(5)}):
                 pages.at_turn(turn)
                 pages.looks.moment(browser.value(SHOWN), moments[turn], f"{name} at {turn}, {width}", place_of(name, turns))
                 if width > 1000:

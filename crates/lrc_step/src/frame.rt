@@ -387,30 +387,29 @@ function wordsOfGrid(grid) { return counting(grid.top, grid.rows).flatMap(row =>
 /** A part of a slice in a node's copy. */
 function gridTable(view, grid) {
   const { slice, rows, columns, top, left } = grid;
+  const words = new Map(wordsOfGrid(grid).map(word => [word, wordIn(view, word)]));
   const index = (number, shown) => make("th", {}, shown ? number : "");
   const heading = make("tr", {}, make("th", {}), ...counting(left, columns).map(column => index(column, true)));
-  const lines = counting(top, rows).map(row => make("tr", {}, index(row, slice.array.sizes.length > 1), ...rowOf(grid, row).map(word => gridCell(view, word))));
+  const lines = counting(top, rows).map(row => make("tr", {}, index(row, slice.array.sizes.length > 1), ...rowOf(grid, row).map(word => gridCell(word, words.get(word)))));
   const cut = classes({ "cut-left": left > 0, "cut-right": left + columns < slice.columns, "cut-top": top > 0, "cut-bottom": top + rows < slice.rows });
   return make("div", { class: "grid", style: `--cell: ${cellWidth(slice)}; --head: ${headWidth(slice)}; --columns: ${columns}` },
     make("h3", {}, make("b", {}, slice.title), " ", caption(slice.array.sizes.join(" \u00d7 "))),
     make("table", { class: cut }, heading, ...lines),
-    make("p", { class: "grid-notes" }, ...gridNotes(view, grid)));
+    make("p", { class: "grid-notes" }, ...gridNotes(slice, words)));
 }
 
-function gridCell(view, word) {
-  const { text, copy, holds, title } = wordIn(view, word);
+function gridCell(word, { text, copy, holds, title }) {
   return make("td", { class: classes(holds), "data-copy": copy, "data-word": word, title: `${labelled("word", word)}: ${text}; ${title}` }, text);
 }
 
 /** Of the words shown: what this turn does, which have another value now, and twins. */
-function gridNotes(view, grid) {
-  const { first, array } = grid.slice;
-  const words = wordsOfGrid(grid).map(word => ({ ...wordIn(view, word), at: bracketed(indicesOf(word - first, array.sizes.slice(-2))) }));
-  const touched = words.find(({ done }) => done);
-  const old = words.filter(({ newer }) => newer).map(({ newer, at }) => `${newer.value} at ${at}`);
-  const twins = words.filter(({ twinValue }) => twinValue !== null).map(({ twinValue, at }) => `${twinValue} at ${at}`);
+function gridNotes({ first, array }, words) {
+  const at = word => bracketed(indicesOf(word - first, array.sizes.slice(-2)));
+  const [place, touched] = [...words].find(([, { done }]) => done) ?? [];
+  const old = [...words].filter(([, { newer }]) => newer).map(([word, { newer }]) => `${newer.value} at ${at(word)}`);
+  const twins = [...words].filter(([, { twinValue }]) => twinValue !== null).map(([word, { twinValue }]) => `${twinValue} at ${at(word)}`);
   return [
-    touched ? `${touched.at} ${touched.done}${touched.newer ? ", " : " "}` : null,
+    touched ? `${at(place)} ${touched.done}${touched.newer ? ", " : " "}` : null,
     touched?.newer ? marked(`now ${touched.newer.value} `, { off: true }) : null,
     old.length > (touched?.newer ? 1 : 0) ? marked(`now ${listed(old)} `, { off: true }) : null,
     twins.length ? caption(`twin ${listed(twins)}`) : null,

@@ -103,8 +103,11 @@ function usesOf(run) {
   return { writes, inUse: [...inUse].sort((one, other) => one - other) };
 }
 
+const copiesByPage = new WeakMap();
+
 function pageOf(state, page) {
-  return state.pages.find(other => other.page === page) ?? { page, copy: "valid", words: {}, twin: null, lacks: [], keeper: 0, base: null };
+  if (!copiesByPage.has(state)) copiesByPage.set(state, new Map(state.pages.map(copy => [copy.page, copy])));
+  return copiesByPage.get(state).get(page) ?? { page, copy: "valid", words: {}, twin: null, lacks: [], keeper: 0, base: null };
 }
 function copyOf(state, word) { return pageOf(state, pageNumber(word)); }
 function valueOf(state, word) { return copyOf(state, word).words[word] ?? "0"; }
