@@ -1,4 +1,2 @@
 pub mod Filling
 pub mod Tables
-mod Closing
-mod Marking
