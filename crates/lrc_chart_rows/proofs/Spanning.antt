@@ -17,11 +17,12 @@ use Rattle.lrc_protocol.specs.Run.{Input, run, taken}
 use Rattle.lrc_turns_text.specs.Turns.{Made}
 use Rattle.lrc_turns_text.specs.TurnsText.{takes_numbered}
 use Rattle.lrc_text.specs.Each.{each}
-use Rattle.lrc_chart_rows.specs.declared.taking.Name.{Name}
-use Rattle.lrc_chart_rows.specs.declared.taking.Span.{Span}
-use Rattle.lrc_chart_rows.specs.declared.taking.Takings.{Takings}
+use Rattle.lrc_chart_rows.specs.declared.takings.Name.{Name}
+use Rattle.lrc_chart_rows.specs.declared.takings.Span.{Span}
+use Rattle.lrc_chart_rows.specs.declared.takings.Takings.{Takings}
 use Rattle.lrc_chart_rows.specs.Takers.{takers, takes_it}
 use Rattle.lrc_chart_rows.specs.Takings.{AreTakings, IsFromTo, IsSpan, first_or, name_cmp, name_of, named_by, takes_named}
+use Rattle.lrc_chart_rows.proofs.Taking.{position_if}
 use Rattle.lrc_chart_rows.proofs.Spans.{any_none, any_there, none_more, places_none}
 
 -- ---- names
@@ -130,9 +131,6 @@ module _ (turns : List Made) (i : ℕ) (turn : Made) (lt : i < length turns) (tu
 -- ---- what the spans say
 
 module _ (turns : List Made) (e : EnvelopeRecord) where
-  abbrev position_if : ℕ → Made → List ℕ
-  position_if position turn = cond (takes_it e turn) (position ∷ []) []
-
   abbrev None_in : (low high : ℕ) → Type 0
   None_in low high = AllWithin (λ turn. takes_named (name_of e) turn ≡ false) turns low high
 
@@ -144,15 +142,15 @@ module _ (turns : List Made) (e : EnvelopeRecord) where
       first [] less = absurd (omega (arith, less))
       first (turn ∷ more) less = turn
 
-  pub before_first : (span : Span) → IsFromTo turns (length turns) (name_of e) span → each position_if (take span.first turns) ≡ []
+  pub before_first : (span : Span) → IsFromTo turns (length turns) (name_of e) span → each (position_if e) (take span.first turns) ≡ []
   before_first span is =
       places_none (takes_it e) turns 0 span.first (omega arith) (omega (arith, is.ordered, is.within))
       (some_turn span.last is.within) is.before
 
-  pub behind_last : (span : Span) → IsFromTo turns (length turns) (name_of e) span → each position_if (take (span.last + 1) turns) ≡ takers turns e
+  pub behind_last : (span : Span) → IsFromTo turns (length turns) (name_of e) span → each (position_if e) (take (span.last + 1) turns) ≡ takers turns e
   behind_last span is =
       sym (places_none (takes_it e) turns (span.last + 1) (length turns) (omega (arith, is.within)) (omega arith) (some_turn span.last is.within) is.behind)
-      ∙ ap (each position_if) (take_all (length turns) turns (omega arith))
+      ∙ ap (each (position_if e)) (take_all (length turns) turns (omega arith))
 
   -- the turns before a position are the first ones, as many as there are
   clipped : (n : ℕ) → (m : ℕ) × (m ≤ length turns) × (take n turns ≡ take m turns) × ((k : ℕ) → k < length turns → k < n → k < m) × (m ≤ n)
@@ -189,3 +187,17 @@ module _ (turns : List Made) (e : EnvelopeRecord) where
             ∙ sym (ap (list_any (takes_it e)) same
             ∙ any_none (takes_it e) turns m within d (λ k x low high. is.before k x low (omega (arith, high, le, past))))
       ]
+
+-- where no turn takes the message
+pub takers_none : (turns : List Made) (e : EnvelopeRecord) → IsSpan turns (length turns) (name_of e) None → [] ≡ takers turns e
+takers_none [] e none = refl
+takers_none (turn ∷ more) e none =
+    let turns : List Made = turn ∷ more in
+    let all : take (length turns) turns ≡ turns = take_all (length turns) turns (omega arith) in
+    sym (ap (each (position_if e)) (sym all)
+    ∙ places_none (takes_it e) turns 0 (length turns) (omega arith) (omega arith) turn none)
+
+-- what the span of a message says of it
+pub span_of : (turns : List Made) (takings : Takings) (e : EnvelopeRecord) (o : Option Span) → AreTakings turns takings
+    → o ≡ get name_cmp takings.spans (name_of e) → IsSpan turns (length turns) (name_of e) o
+span_of turns takings e o are is = subst (IsSpan turns (length turns) (name_of e)) (sym is) (are (name_of e))

@@ -7,7 +7,7 @@ use Rattle.lrc_text.specs.Each.{each}
 use Rattle.lrc_text.proofs.Each.{each_more}
 use Rattle.lrc_chart_rows.specs.Takers.{takes_it}
 
-abbrev position_if : EnvelopeRecord → ℕ → Made → List ℕ
+abbrev pub position_if : EnvelopeRecord → ℕ → Made → List ℕ
 position_if envelope position turn = if takes_it envelope turn then position ∷ [] else []
 
 pub takers_more : (turns : List Made) (envelope : EnvelopeRecord) (k : ℕ) (turn : Made) (old new : List ℕ) (holds : Bool) → k < length turns

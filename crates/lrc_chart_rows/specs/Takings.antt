@@ -8,9 +8,9 @@ use Rattle.lrc_envelope.specs.Envelope.{EnvelopeRecord}
 use Rattle.lrc_protocol.specs.Run.{Input, run, taken}
 use Rattle.lrc_turns_text.specs.Turns.{Made}
 use Rattle.lrc_turns_text.specs.TurnsText.{takes_numbered}
-use Rattle.lrc_chart_rows.specs.declared.taking.Name.{Name}
-use Rattle.lrc_chart_rows.specs.declared.taking.Span.{Span}
-use Rattle.lrc_chart_rows.specs.declared.taking.Takings.{Takings}
+use Rattle.lrc_chart_rows.specs.declared.takings.Name.{Name}
+use Rattle.lrc_chart_rows.specs.declared.takings.Span.{Span}
+use Rattle.lrc_chart_rows.specs.declared.takings.Takings.{Takings}
 
 -- by receivers, then by senders, then by numbers
 abbrev pub name_cmp : Name → Name → Ordering

@@ -5,10 +5,10 @@
 mod counts;
 mod row;
 mod taker;
-mod taking;
+mod takings;
 mod turn;
 
 pub use row::{Row, rows_of};
 pub use taker::{takers, takes};
-pub use taking::{Takings, takings_of};
+pub use takings::{Takings, takings_of};
 pub use turn::{TurnOf, turns_of};

@@ -4,7 +4,7 @@ ghost use Rattle.std.specs.Prelude.{◌≡◌, ◌∷◌, ◌++◌, [], IfOk, On
 ghost use Rattle.lrc_chart_rows.specs.Takers.{takers, takes_it};
 ghost use Rattle.lrc_chart_rows.specs.Takings.{AreTakings, IsFromTo, name_of};
 
-use crate::taking::{Span, Takings};
+use crate::takings::{Span, Takings};
 use crate::turn::TurnOf;
 use lrc_envelope::Envelope;
 use lrc_node::Input;
