@@ -1,9 +1,8 @@
 -- The accesses of a run by lanes, from the last to the first.
-use Rattle.std.proofs.Common.{◌≡◌, ◌∙◌, ◌<◌, ◌≤◌, ◌+◌, ℕ, List, Bool, true, false, cond, Option, Some, None, ap, arith, eqb-true, get_or, inl, inr, length, refl, set, subst, sym}
+use Rattle.std.proofs.Common.{◌≡◌, ◌∙◌, ◌<◌, ◌≤◌, ◌+◌, ℕ, List, true, false, cond, Option, Some, None, ap, arith, eqb-true, get_or, inl, inr, length, refl, set, subst, sym}
 use Rattle.std.specs.Prelude.{◌==◌, ◌&&◌, unwrap_or}
-use Rattle.std.specs.BTreeMap.{BTreeMap, Updates, get}
+use Rattle.std.specs.BTreeMap.{Updates, get}
 use Rattle.std.specs.Cmp.{IsTotalOrder, eq_by_cmp_equiv}
-use Rattle.std.specs.List.{AllWithin}
 use Rattle.std.specs.Ordering.{is_eq}
 use Rattle.std.proofs.Math.ListN.{length-set}
 use Rattle.std.proofs.lemmas.Bool.{and_parts, cases_Bool, cases_lt, eq-eqb, false_from_ne_true, true≢false}

@@ -5,7 +5,6 @@ use Rattle.std.specs.List.{AllWithin}
 use Rattle.std.specs.Ordering.{nat_cmp, ordering_then}
 use Rattle.std.specs.declared.cmp.Ordering.{Ordering}
 use Rattle.lrc_trace.specs.declared.act.Act.{Act}
-use Rattle.lrc_trace.specs.declared.act.Deed.{Deed}
 use Rattle.lrc_why.specs.Deeds.{word_accessed}
 use Rattle.lrc_why.specs.declared.lanes.Lane.{Lane}
 use Rattle.lrc_why.specs.declared.lanes.Lanes.{Lanes}

@@ -1,4 +1,4 @@
-use Rattle.std.proofs.Common.{◌≡◌, ◌∙◌, ◌+◌, ◌-◌, ◌<◌, Option, Some, None, ap, arith, get_or, length, refl, set, subst, sym}
+use Rattle.std.proofs.Common.{◌≡◌, ◌∙◌, ◌+◌, ◌-◌, ◌<◌, Option, Some, None, ap, arith, length, refl, set, subst, sym}
 use Rattle.lrc_why.specs.Lanes.{AreLanesFrom}
 use Rattle.lrc_why.specs.declared.lanes.Lane.{Lane}
 use Rattle.lrc_why.specs.declared.lanes.Lanes.{Lanes}
