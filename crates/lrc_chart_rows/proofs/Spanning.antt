@@ -69,26 +69,26 @@ module _ (turns : List Made) (i : ℕ) (turn : Made) (lt : i < length turns) (tu
   here d = get_or_default turns i d turn lt ∙ sym turn_is
 
   span_passed : (q : Name) (o : Option Span) → IsSpan turns i q o → takes_named q turn ≡ false → IsSpan turns (i + 1) q o
-  span_passed q None before no =
-      none_more (takes_named q) turns 0 i before (λ d. ap (takes_named q) (here d) ∙ no)
-  span_passed q (Some span) before no = record {
+  span_passed q None before off =
+      none_more (takes_named q) turns 0 i before (λ d. ap (takes_named q) (here d) ∙ off)
+  span_passed q (Some span) before off = record {
     before = before.before;
     first = before.first;
     ordered = before.ordered;
     within = omega (arith, before.within);
-    behind = none_more (takes_named q) turns (span.last + 1) i before.behind (λ d. ap (takes_named q) (here d) ∙ no);
+    behind = none_more (takes_named q) turns (span.last + 1) i before.behind (λ d. ap (takes_named q) (here d) ∙ off);
   }
 
   span_hit : (q : Name) (o : Option Span) → IsSpan turns i q o → takes_named q turn ≡ true
       → IsFromTo turns (i + 1) q (record { first = first_or o i; last = i })
-  span_hit q None before yes = record {
+  span_hit q None before on = record {
     before = before;
-    first = λ d. ap (takes_named q) (here d) ∙ yes;
+    first = λ d. ap (takes_named q) (here d) ∙ on;
     ordered = omega arith;
     within = omega arith;
     behind = λ k d low high. absurd (omega (arith, low, high));
   }
-  span_hit q (Some span) before yes = record {
+  span_hit q (Some span) before on = record {
     before = before.before;
     first = before.first;
     ordered = omega (arith, before.ordered, before.within);

@@ -9,8 +9,9 @@ loop-position-init c = c.requires.none ∙ sym (before_first c.args.turns.now c.
 
 pub loop-position-preserved : goal.loop-position-preserved
 loop-position-preserved c =
+    let is = c.requires.span in
     takers_more c.args.turns.now c.args.envelope.now c.loop-position.position c.index-turns-position.result c.loop-position.positions.items
-    c.push_if.new.positions.items c.takes.result c.index-turns-position.within c.index-turns-position.is c.takes.ensures c.loop-position.invariant
+    c.push_if.new.positions.items c.takes.result (omega (arith, c.loop-position-test.true, is.within)) c.index-turns-position.is c.takes.ensures c.loop-position.invariant
     c.in_ok-push_if.ensures
 
 pub returns : goal.returns
