@@ -13,7 +13,7 @@ _treadmarks_options() {
     stats) echo "--nodes --steps --collect --order --page --events --then --seed --threads" ;;
     chart) echo "--nodes --steps --collect --order --page --events --then --seed --threads --acts --text --from --to --hide --source" ;;
     judge) echo "--nodes --pairs --all --memory --page --collect" ;;
-    races) echo "--as --group --locations --sure --json --strict --score --why --witness" ;;
+    races) echo "--as --group --locations --sure --json --strict --why --witness" ;;
     explore) echo "--nodes --most --outcomes --outcome --memory --tries --ignore-races --ends --as --tell" ;;
     esac
 }
@@ -31,7 +31,7 @@ _treadmarks_values() {
     *,--hide) echo "quiet" ;;
     judge,--memory) echo "exact" ;;
     *,--memory) echo "flat lazy" ;;
-    *,--events | *,--acts | *,--score) echo FILE ;;
+    *,--events | *,--acts) echo FILE ;;
     *,--threads | *,--messages | *,--text | *,--source | *,--pairs | *,--all | *,--group | *,--locations | *,--sure | *,--json | *,--strict | *,--outcomes | *,--ignore-races | *,--ends) ;;
     *,--*) echo NUMBER ;;
     esac

@@ -113,7 +113,6 @@ complete -c treadmarks -n '__fish_seen_subcommand_from races' -l locations -d 'e
 complete -c treadmarks -n '__fish_seen_subcommand_from races' -l sure -d 'only sure races'
 complete -c treadmarks -n '__fish_seen_subcommand_from races' -l json -d 'print objects'
 complete -c treadmarks -n '__fish_seen_subcommand_from races' -l strict -d 'an event that no program would give is a fault'
-complete -c treadmarks -n '__fish_seen_subcommand_from races' -l score -r -F -d 'judge the report of a detector'
 complete -c treadmarks -n '__fish_seen_subcommand_from races' -l why -r -f -d 'how two events are ordered'
 complete -c treadmarks -n '__fish_seen_subcommand_from races' -l witness -r -f -d 'show a sure race'
 complete -c treadmarks -n '__fish_seen_subcommand_from explore' -l nodes -r -f -d 'how many nodes'

@@ -1,7 +1,7 @@
 // Lines of words, and the choice that they make.
 
 use crate::checks::passes;
-use crate::traces::{Report, TwoLines, is_wanted_of_trace};
+use crate::traces::{TwoLines, is_wanted_of_trace};
 use lrc_cli_args::choice::{
     Asking, ChartedActs, Charting, Choice, ChooseFault, Exploring, ForeignActs, Form, Judging,
     Memory, Part, PlainRun, Racing, Request, RunOptions, Shape, Tell, Then, Topic, Way,
@@ -43,7 +43,6 @@ pub enum Wanted {
     Races(Racing<'static>),
     Witness(TwoLines),
     Reasons(TwoLines),
-    Score(Report),
     /// Of a run: of which act it is asked, and of which other.
     Why(Run, u64, Option<u64>),
     /// The same of acts from a file, of so many nodes, with pages of this size.
@@ -256,7 +255,7 @@ fn is_wanted_topic(made: &Topic<'_>, wanted: &Wanted) -> bool {
 fn is_wanted_request(made: &Request<'_>, wanted: &Wanted) -> bool {
     match made {
         Request::About(topic) => is_wanted_topic(topic, wanted),
-        Request::Races(_) | Request::Witness(_) | Request::Reasons(_) | Request::Score(_) => {
+        Request::Races(_) | Request::Witness(_) | Request::Reasons(_) => {
             is_wanted_of_trace(made, wanted)
         }
         Request::Answer(choice) => is_wanted(choice, wanted),

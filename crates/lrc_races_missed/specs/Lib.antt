@@ -1,5 +1,0 @@
-pub mod Keys
-pub mod Locating
-pub mod Missed
-pub mod Keyless
-pub mod Racings

@@ -1,3 +1,0 @@
-pub mod Zipping
-pub mod SortLemmas
-pub mod TracedLemmas
