@@ -25,6 +25,14 @@ pub(crate) fn text_of<'w>(options: &ArgMatches<'w>, name: &str) -> &'w str
     options.get_str(name).unwrap()
 }
 
+/// Returns the value of an option or argument that may be absent.
+pub(crate) fn some_text_of<'w>(options: &ArgMatches<'w>, name: &str) -> Option<&'w str>
+    ensures { option_map (λ text. text.now) result
+        ≡ first_of name.now (rows_of (found_of options.now)) }
+{
+    options.get_str(name)
+}
+
 /// Returns the values of an option that takes several and may be absent.
 pub(crate) fn some_texts_of<'q, 'w>(
     options: &'q ArgMatches<'w>,
