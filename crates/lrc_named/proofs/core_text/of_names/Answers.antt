@@ -21,8 +21,8 @@ returns-in_ok-traps-in-Core-clause-core c =
     core_found c.args.text.now c.requires.tokens.0 tree layout lines _ c.in-Core.text.items (map origin_of c.in-Core.origins.items) told traps
     c.requires.tokens.1 c.requires.clean c.requires.tokens.2
     c.nodes_asked-nodes.ensures (subst (IsWritten (declared_of layout.names) lines tree) c.in-Core.is c.in_ok-written.ensures)
-    (c.in_ok-lines-in-Core.ensures ∙ ap (λ (l : List Origin). lines_told lines (map origin_of l) ++ last_of lines ∷ []) c.deref-in-Core.ensures.value)
-    (c.in_ok-traps-in-Core.ensures ∙ ap (λ (l : List Origin). traps_told (map origin_of l)) c.deref-in-Core-2.ensures.value)
+    (c.in_ok-lines-in-Core.ensures ∙ ap (λ (l : List Origin). lines_told lines (map origin_of l) ++ last_of lines ∷ []) c.deref.ensures.value)
+    (c.in_ok-traps-in-Core.ensures ∙ ap (λ (l : List Origin). traps_told (map origin_of l)) c.deref-in-Core.ensures.value)
 
 pub returns-in-Over-clause-fault : goal.returns-in-Over-clause-fault
 returns-in-Over-clause-fault c =
