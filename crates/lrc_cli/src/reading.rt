@@ -1,10 +1,12 @@
 // How the text of a program is read: a text of the core as it stands, and a named program as its core, which the named
 // program tells.
 
-ghost use Rattle.std.specs.Prelude.{◌≡◌, IfErr, IfOk};
+ghost use Rattle.std.specs.Prelude.{◌≡◌, IfErr, IfOk, map};
 ghost use Rattle.lrc_cli.specs.Reading.{IsReadAs, IsUnread, exploring_for, fault_of_named, nodes_for, run_for};
 ghost use Rattle.lrc_cli.specs.ReadingSeen.{asked_by, text_read};
 ghost use Rattle.lrc_named.specs.Named.{IsReadAsNamed};
+ghost use Rattle.lrc_named_core.specs.View.{trap_of};
+ghost use Rattle.lrc_source.specs.Telling.{as_translated, as_written};
 
 use lrc_cli_answer::fault::Fault;
 use lrc_cli_args::choice::{Exploring, RunChoice, RunOptions};
@@ -39,10 +41,8 @@ impl Reading<'_> {
         ensures { result ≡ text_read self.now }
     {
         match self {
-            Reading::Written(text) => ReadText::written(*text),
-            Reading::Translated(text, core) => {
-                ReadText::translated(&core.text, *text, &core.lines, &core.traps)
-            }
+            Reading::Written(text) => written(text),
+            Reading::Translated(text, core) => translated_by(text, core),
         }
     }
 
@@ -55,6 +55,21 @@ impl Reading<'_> {
             Reading::Translated(_, core) => core.nodes,
         }
     }
+}
+
+// A text of the core as it was written.
+fn written<'r>(text: &'r &[u8]) -> ReadText<'r>
+    ensures { result ≡ as_written text.now.now }
+{
+    ReadText::written(*text)
+}
+
+// The core of a named program with this text, which tells it.
+fn translated_by<'r>(text: &'r &[u8], core: &'r CoreText<'_>) -> ReadText<'r>
+    ensures { result ≡ as_translated core.now.text.items text.now.now core.now.lines.items
+        (map trap_of core.now.traps.items) }
+{
+    ReadText::translated(&core.text, *text, &core.lines, &core.traps)
 }
 
 // The fault of a named program, as it is told.
