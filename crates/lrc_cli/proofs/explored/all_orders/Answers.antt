@@ -1,4 +1,4 @@
-use Rattle.std.proofs.Common.{◌≡◌, ◌∙◌, Bor, ℕ, List, Option, ap, map, option_map, subst}
+use Rattle.std.proofs.Common.{◌≡◌, ◌∙◌, Bor, ℕ, List, Option, ap, ap₂, map, option_map, subst}
 use Rattle.std.proofs.lemmas.Result.{IfOk-weaker}
 use Rattle.lrc_labels.specs.Reading.{Label, label_seen}
 use Rattle.lrc_labels.specs.declared.label.Label as code_label
@@ -13,8 +13,8 @@ use Rattle.lrc_cli.proofs.explored.all_orders.Goals as goal
 
 -- of the same labels and the same traps is the same wording
 same_wording : {one other : List Label} {traps more : Option (List Trap)} → one ≡ other → traps ≡ more
-    → Id Wording (record { labels = one; traps = traps }) (record { labels = other; traps = more })
-same_wording is are = cc
+    → ◌≡◌ {A = Wording} (record { labels = one; traps = traps }) (record { labels = other; traps = more })
+same_wording is are = ap₂ (λ (l : List Label) (t : Option (List Trap)). let w : Wording = record { labels = l; traps = t } in w) is are
 
 pub returns-clause-ok : goal.returns-clause-ok
 returns-clause-ok c =

@@ -5,7 +5,7 @@ use Rattle.lrc_cli.proofs.ReadingLemmas.{unread_named}
 use Rattle.lrc_cli.proofs.reading.translated.Goals as goal
 
 pub returns-in-Ok-clause-ok : goal.returns-in-Ok-clause-ok
-returns-in-Ok-clause-ok c = inr (c.requires, (c.in-Ok.core.lines.items, (map trap_of c.in-Ok.core.traps.items, (c.in-Ok.ensures.core, refl))))
+returns-in-Ok-clause-ok c = inr (c.requires, (c.in-Ok.core.lines.items, map trap_of c.in-Ok.core.traps.items, c.in-Ok.ensures.core, refl))
 
 pub returns-in-Err-clause-err : goal.returns-in-Err-clause-err
 returns-in-Err-clause-err c =
