@@ -275,6 +275,8 @@ dialog { margin: auto; padding: 1.2rem 1.6rem; border: .1rem solid var(--line); 
     <dt class="off">lacks 0.2</dt><dd>it was told of interval 2 of node 0 and has not fetched its changes</dd>
     <dt class="off">not told of 0.3</dt><dd>no notice of interval 3 of node 0 has come</dd>
     <dt>twin 0</dt><dd>the value before the first write in this interval</dd>
+    <dt>grid[0] <span class="caption">2 &times; 8 &times; 8</span></dt><dd>an array and its sizes; a dotted edge is where rows or columns are left out</dd>
+    <dt>now 2 at [1][4]</dt><dd>the word in that row and column, which has a mark in its corner</dd>
     <dt><span class="chip">0.2 p0</span></dt><dd>a notice: interval 2 of node 0 wrote page 0; bold where its changes are here</dd>
     <dt>next 1, last asked: 2</dt><dd>who gets the lock at its release; whom its manager forwards to</dd>
     <dt>r1=0, w1=2</dt><dd>word 1 is read, written; a ring is a turn without an act, a dot a step of the node's own</dd>
