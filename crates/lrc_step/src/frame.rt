@@ -408,12 +408,12 @@ function gridCell(word, { text, copy, holds, title }) {
 function gridNotes({ first, array }, words) {
   const at = word => bracketed(indicesOf(word - first, array.sizes.slice(-2)));
   const [place, touched] = [...words].find(([, { done }]) => done) ?? [];
-  const old = [...words].filter(([, { newer }]) => newer).map(([word, { newer }]) => `${newer.value} at ${at(word)}`);
+  const old = [...words].filter(([word, { newer }]) => newer && word !== place).map(([word, { newer }]) => `${newer.value} at ${at(word)}`);
   const twins = [...words].filter(([, { twinValue }]) => twinValue !== null).map(([word, { twinValue }]) => `${twinValue} at ${at(word)}`);
   return [
-    touched ? `${at(place)} ${touched.done}${touched.newer ? ", " : " "}` : null,
-    touched?.newer ? marked(`now ${touched.newer.value} `, { off: true }) : null,
-    old.length > (touched?.newer ? 1 : 0) ? marked(`now ${listed(old)} `, { off: true }) : null,
+    touched ? `${at(place)} ${touched.done} ` : null,
+    touched?.newer ? marked(`now ${touched.newer.value}; `, { off: true }) : null,
+    old.length ? marked(`now ${listed(old)} `, { off: true }) : null,
     twins.length ? caption(`twin ${listed(twins)}`) : null,
   ];
 }
