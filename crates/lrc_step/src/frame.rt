@@ -1,6 +1,6 @@
 // The frame of the document: what stands before the run's lines, and behind them.
 
-/// The document before its lines: style and markup, up to the start of the element
+/// The document before its lines: style, markup and the functions that show arrays as grids, up to the start of the element
 /// `<script type="application/json" ..>` that holds the lines. Its head forbids the page to fetch anything.
 pub const OPENING: &[u8] = br##"<!doctype html>
 <html lang="en">
