@@ -356,6 +356,7 @@ def part(pages, whole, shorter):
     """A part of a run shows what the whole run shows at the same turns, old values by writes before it too."""
     browser, moments = pages.browser, moments_of(documents.lines_of(whole))
     turns = [turn for turn in moments_of(documents.lines_of(shorter)) if turn is not None]
+    knows(pages, whole)
     browser.size(1280, 800)
     panels_shown = "[...document.querySelectorAll('section.node')].map(element => element.outerHTML)"
     panels = {}
@@ -414,6 +415,7 @@ def empty(pages, document):
 
 def past_the_end(pages, document):
     """No turns either, and nothing is said of the start of the run."""
+    knows(pages, document)
     pages.browser.open(pages.save("past_the_end", document))
     pages.looks.moment(pages.browser.value(SHOWN), moments_of(documents.lines_of(document))[None], "past the end", "")
     pages.same("past the end", pages.text("#headline"), "No turn is shown")
