@@ -396,7 +396,7 @@ def hostile(pages, document):
     pages.same("the text", pages.texts("#source code"), wanted.removesuffix("\n").split("\n") + ["# end"])
     pages.same("markup of the text", browser.value("document.querySelectorAll('#source b, #source script, #place b').length"), 0)
     browser.key("End")
-    pages.same("64 bits", "18446744073709551615" in pages.texts("section.node .value"), True)
+    pages.same("64 bits", "18446744073709551615" in pages.texts("section.node .value, section.node td"), True)
     pages.is_quiet("hostile")
 
 
