@@ -101,8 +101,8 @@ main > * { min-height: 0; overflow: auto; scrollbar-width: thin; }
 .dense .word .value { font-size: 1em; }
 .dense .word .note, .dense .chips { min-height: 0; }
 .grids { display: flex; flex-wrap: wrap; gap: 0 1em; align-items: start; }
-.grid { font-size: .85em; min-width: 0; }
-.grid h3, .grid .grid-notes { height: 1.5em; line-height: 1.5; overflow: hidden; text-overflow: ellipsis; white-space: nowrap; }
+.grid { font-size: calc(.85em * var(--scale)); min-width: 0; }
+.grid h3, .grid .grid-notes { font-size: calc((.5 + .5 / var(--scale)) * 1em); height: 1.5em; line-height: 1.5; overflow: hidden; text-overflow: ellipsis; white-space: nowrap; }
 .grid table { border-spacing: 0; table-layout: fixed; width: calc((var(--head) + var(--columns) * var(--cell)) * 1em); }
 .grid th { width: calc(var(--cell) * 1em); height: 1.3em; overflow: hidden; color: var(--soft); font-weight: 400; line-height: 1.2; }
 .grid th:first-child { width: calc(var(--head) * 1em); }
@@ -352,8 +352,18 @@ function cellWidth({ array, columns }) { return .62 * Math.max(array.digits, Str
 function headWidth({ rows }) { return .62 * (rows > 1 ? String(rows - 1).length : 0) + .5; }
 function gridWidth(slice) { return headWidth(slice) + slice.columns * cellWidth(slice) + 1.5; }
 
-/** The slices that there is room for, those touched last before all others, and the part of each that is shown. */
+/** The grids that there is room for; larger ones, where all slices are whole even so. */
 function gridsFor({ width, height, least }) {
+  const isWhole = ({ slice, rows, columns }) => rows === slice.rows && columns === slice.columns;
+  for (const scale of [1.7, 1.3]) {
+    const grids = partsFor({ width: width / scale, height: height / scale, least });
+    if (grids.length === run.slices.length && grids.every(isWhole)) return grids.map(grid => ({ ...grid, scale }));
+  }
+  return partsFor({ width, height, least }).map(grid => ({ ...grid, scale: 1 }));
+}
+
+/** The slices that there is room for, those touched last before all others, and the part of each that is shown. */
+function partsFor({ width, height, least }) {
   const latest = [...run.slices].sort((one, other) => focusOf(other).moment - focusOf(one).moment || one.first - other.first);
   for (let count = Math.min(latest.length, 24); count > 0; count--) {
     const slices = latest.slice(0, count).sort((one, other) => one.first - other.first);
@@ -388,13 +398,13 @@ function wordsOfGrid(grid) { return counting(grid.top, grid.rows).flatMap(row =>
 
 /** A part of a slice in a node's copy. */
 function gridTable(view, grid) {
-  const { slice, rows, columns, top, left } = grid;
+  const { slice, rows, columns, top, left, scale } = grid;
   const words = new Map(wordsOfGrid(grid).map(word => [word, wordIn(view, word)]));
   const index = (number, shown) => make("th", {}, shown ? number : "");
   const heading = make("tr", {}, make("th", {}), ...counting(left, columns).map(column => index(column, true)));
   const lines = counting(top, rows).map(row => make("tr", {}, index(row, slice.array.sizes.length > 1), ...rowOf(grid, row).map(word => gridCell(word, words.get(word)))));
   const cut = classes({ "cut-left": left > 0, "cut-right": left + columns < slice.columns, "cut-top": top > 0, "cut-bottom": top + rows < slice.rows });
-  return make("div", { class: "grid", style: `--cell: ${cellWidth(slice)}; --head: ${headWidth(slice)}; --columns: ${columns}` },
+  return make("div", { class: "grid", style: `--cell: ${cellWidth(slice)}; --head: ${headWidth(slice)}; --columns: ${columns}; --scale: ${scale}` },
     make("h3", {}, make("b", {}, slice.title), " ", caption(slice.array.sizes.join(" \u00d7 "))),
     make("table", { class: cut }, heading, ...lines),
     make("p", { class: "grid-notes" }, ...gridNotes(slice, words)));
@@ -412,9 +422,9 @@ function gridNotes({ first, array }, words) {
   const twins = [...words].filter(([, { twinValue }]) => twinValue !== null).map(([word, { twinValue }]) => `${twinValue} at ${at(word)}`);
   return [
     touched ? `${at(place)} ${touched.done} ` : null,
-    touched?.newer ? marked(`now ${touched.newer.value}; `, { off: true }) : null,
-    old.length ? marked(`now ${listed(old)} `, { off: true }) : null,
-    twins.length ? caption(`twin ${listed(twins)}`) : null,
+    touched?.newer ? marked(`now ${touched.newer.value}`, { off: true }) : null,
+    old.length ? marked(`${touched?.newer ? "; " : ""}now ${listed(old)} `, { off: true }) : null,
+    twins.length ? caption(` twin ${listed(twins)}`) : null,
   ];
 }
 
