@@ -1,7 +1,7 @@
 -- Whether the parser takes a token, from its answers of parts.
-use Rattle.std.proofs.Common.{◌≡◌, ◌<◌, ℕ, true, List, [], ◌∷◌, Some, is_some, length, map, get_or, refl, sym, ap, ◌∙◌, arith, get_or-reverse}
+use Rattle.std.proofs.Common.{◌≡◌, ◌<◌, ℕ, true, List, [], ◌∷◌, Some, is_some, length, map, get_or, refl, sym, ap, ◌∙◌, arith}
 use Rattle.std.specs.Prelude.{◌-◌, reverse, slice_get}
-use Rattle.std.proofs.lemmas.List.{length-map, length-reverse, get_or-map}
+use Rattle.std.proofs.lemmas.List.{length-map, length-reverse, get_or-map, get_or-reverse}
 use Rattle.std.proofs.lemmas.Option.{get_or_from_slice_get, slice_get_within}
 use Rattle.lrc_named_tokens.specs.declared.token.Sign.TheVariants as signs
 use Rattle.lrc_named_tokens.specs.Token.{Token, sign}

@@ -18,21 +18,22 @@ use Rattle.lrc_named_parse.proofs.Behind.{IsBehind, IsBehind-push, IsFaultless-t
 use Rattle.lrc_named_may.specs.declared.first_fault.Stop.{Stop}
 use Rattle.lrc_named_may.specs.declared.kind.Kind.{Kind}
 use Rattle.lrc_named_may.specs.FirstFault.{TellsKinds, IsFirstFaultOf}
-use Rattle.lrc_named_may.specs.Stops.{IsRefused, ListsKinds, Stops}
+use Rattle.lrc_named_may.specs.Stops.{IsRefused, ListsKinds, Stops, kinds_taken}
 use Rattle.lrc_named_may.proofs.MayStand.{exactly}
 
 -- ---- why the parser stops
 
--- what it refuses it does not take
-pub refused : (kind : FaultKind) (s s' : code_state.State) (l l' : code_limits.Limits) (at : ℕ) (next : Lexeme)
-    → IsRefused kind at (state_seen s) next → TakesLexeme (Err kind) s l at next s' l'
-refused Unexpected s s' l l' at (token t) h = inl h
-refused Unexpected s s' l l' at bad_byte h = absurd h
-refused Unexpected s s' l l' at bad_number h = absurd h
-refused BadByte s s' l l' at (token t) h = absurd h
-refused BadByte s s' l l' at bad_byte h = refl
-refused BadByte s s' l l' at bad_number h = absurd h
-refused _ s s' l l' at next h = absurd h
+-- what it refuses it does not take, and tells what it takes in place of it
+pub refused : (kind : FaultKind) (s : code_state.State) (l : code_limits.Limits) (at : ℕ) (next : Lexeme) (some : List Kind)
+    → IsRefused kind at (state_seen s) next → some ≡ kinds_taken at (state_seen s)
+    → TakesLexeme (Err kind) s l at next s l × (kind ≢ NoMemory) × ListsKinds kind at (state_seen s) some
+refused Unexpected s l at (token t) some h are = (inl h, λ e. absurd (cc), are)
+refused Unexpected s l at bad_byte some h are = absurd h
+refused Unexpected s l at bad_number some h are = absurd h
+refused BadByte s l at (token t) some h are = absurd h
+refused BadByte s l at bad_byte some h are = (refl, λ e. absurd (cc), are)
+refused BadByte s l at bad_number some h are = absurd h
+refused _ s l at next some h are = absurd h
 
 -- ---- what has been read
 

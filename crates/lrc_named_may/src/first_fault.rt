@@ -130,9 +130,9 @@ fn stop_at<'t>(
 
 // Why the parser does not take what stands next, whatever the limits.
 fn refusal<'t>(state: &State<'t>, lexeme: Lexeme<'t>) -> Option<FaultKind>
-    ensures { (at : ℕ) → MatchOption result
-        (IsTaken at (state_seen state.now) (lexeme_of lexeme.entry))
-        (λ kind. IsRefused kind at (state_seen state.now) (lexeme_of lexeme.entry)) }
+    ensures { MatchOption result
+        ((at : ℕ) → IsTaken at (state_seen state.now) (lexeme_of lexeme.entry))
+        (λ kind. (at : ℕ) → IsRefused kind at (state_seen state.now) (lexeme_of lexeme.entry)) }
 {
     match lexeme {
         Lexeme::Token(token) => refusal_of(state, token),
@@ -142,9 +142,9 @@ fn refusal<'t>(state: &State<'t>, lexeme: Lexeme<'t>) -> Option<FaultKind>
 }
 
 fn refusal_of<'t>(state: &State<'t>, found: Token<'t>) -> Option<FaultKind>
-    ensures { (at : ℕ) → MatchOption result
-        (IsTaken at (state_seen state.now) (token (token_of found.entry)))
-        (λ kind. IsRefused kind at (state_seen state.now) (token (token_of found.entry))) }
+    ensures { MatchOption result
+        ((at : ℕ) → IsTaken at (state_seen state.now) (token (token_of found.entry)))
+        (λ kind. (at : ℕ) → IsRefused kind at (state_seen state.now) (token (token_of found.entry))) }
 {
     if state.takes(found) {
         None
@@ -155,7 +155,7 @@ fn refusal_of<'t>(state: &State<'t>, found: Token<'t>) -> Option<FaultKind>
 
 // The kinds of tokens that the parser takes.
 fn kinds_taken(alloc: Global, state: &State<'_>) -> Result<Vec<Kind>, AllocError>
-    ensures { (at : ℕ) → IfOk result (λ kinds. kinds.items
+    ensures { IfOk result (λ kinds. (at : ℕ) → kinds.items
         ≡ kinds_taken at (state_seen state.now)) }
 {
     all_kinds()

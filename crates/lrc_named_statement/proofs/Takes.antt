@@ -1,14 +1,17 @@
 -- Whether a token can stand in an expression or end it, and whether the statements can end.
-use Rattle.std.proofs.Common.{◌≡◌, ℕ, Bool, true, false, List, [], ◌∷◌, Option, Some, None, is_some, refl, sym}
-use Rattle.std.specs.Prelude.{◌&&◌, ◌||◌}
+use Rattle.std.proofs.Common.{◌≡◌, ℕ, Bool, true, false, List, [], ◌∷◌, Option, Some, None, is_some, length, map, refl, sym, ap, ◌∙◌}
+use Rattle.std.specs.Prelude.{◌==◌, ◌&&◌, ◌||◌, not, reverse}
+use Rattle.std.proofs.lemmas.List.{length-map, length-reverse}
 use Rattle.lrc_named_tokens.specs.declared.token.Keyword.TheVariants as keywords
 use Rattle.lrc_named_tokens.specs.declared.token.Sign.TheVariants as signs
 use Rattle.lrc_named_tokens.specs.Token.{Token, number, name, keyword, sign, finish}
 use Rattle.lrc_named_tree.specs.Tree.{Expression, Expressions, Named, Block}
 use Rattle.lrc_named_expression.specs.Partial.{Partial}
+use Rattle.lrc_named_statement.specs.declared.body.Around as code_around
 use Rattle.lrc_named_statement.specs.Body as body
-use Rattle.lrc_named_statement.specs.Body.{Around, Body, Branch, Purpose, Target, begin, behind_branch, behind_place, continued, end_place, ended, ended_or_continued, place_at}
+use Rattle.lrc_named_statement.specs.Body.{Around, Body, Branch, Owner, Purpose, Target, begin, close, close_for, behind_branch, behind_place, continued, end_place, ended, ended_or_continued, place_at}
 use Rattle.lrc_named_statement.specs.Body.{printed_with, whole_if, with_statement}
+use Rattle.lrc_named_statement.specs.Seen.{around_seen}
 
 printed_some : (outer : List Around) (before : Block) (first : ℕ) (values : Expressions) (t : Token) → is_some (printed_with outer before first values t) ≡ true
 printed_some outer before first values (sign signs.Comma) = refl
@@ -64,3 +67,23 @@ pub branch_other : (outer : List Around) (before : Block) (branch : Branch) (i :
     → is_some (behind_branch outer before branch i t) ≡ is_some (begin outer (with_statement before (whole_if branch Block.empty)) i t)
 branch_other outer before branch i (keyword keywords.Else) other = absurd (other refl)
 branch_other outer before branch i _ other = refl
+
+-- ---- a block may end where one is open
+
+closed_some : (outer : List Around) (before : Block) (owner : Owner) (inside : Block) (i : ℕ) → is_some (close_for outer before owner inside i) ≡ true
+closed_some outer before (body.then_of first condition) inside i = refl
+closed_some outer before (body.arm_of branch first condition) inside i = refl
+closed_some outer before (body.else_of branch) inside i = refl
+closed_some outer before (body.guarded first place) inside i = refl
+closed_some outer before (body.while_of first condition) inside i = refl
+closed_some outer before (body.for_of first name from end) inside i = refl
+
+some_close : (outer : List Around) (inside : Block) (i : ℕ) → not (length outer == 0) ≡ is_some (close outer inside i)
+some_close [] inside i = refl
+some_close (around ∷ outer) inside i = sym (closed_some outer around.before around.owner inside i)
+
+pub closes_where_open : (blocks : List code_around.Around) (inside : Block) (i : ℕ) →
+    not (length blocks == 0) ≡ is_some (close (reverse (map around_seen blocks)) inside i)
+closes_where_open blocks inside i =
+    let all = map around_seen blocks in
+    ap (λ n. not (n == 0)) (sym (length-reverse all ∙ length-map blocks around_seen)) ∙ some_close (reverse all) inside i
