@@ -12,9 +12,9 @@ use Rattle.lrc_named_parse.specs.State as state
 use Rattle.lrc_named_parse.specs.State.{Purpose, continued, expressed, expressed_or_continued, stated, finished, go_on}
 
 expressed_some : (before : List Declaration) (purpose : Purpose) (value : Expression) → is_some (expressed before purpose value) ≡ true
-expressed_some before (state.value_of_constant first name) value = refl
-expressed_some before (state.size_of items name sizes) value = refl
-expressed_some before (state.body_of first name parameters) value = refl
+expressed_some before (state.value_of_constant first own) value = refl
+expressed_some before (state.size_of items own sizes) value = refl
+expressed_some before (state.body_of first own parameters) value = refl
 
 continued_some : (before : List Declaration) (purpose : Purpose) (next : Option Partial) → is_some (continued before purpose next) ≡ is_some next
 continued_some before purpose None = refl

@@ -1,10 +1,11 @@
 -- Whether a token can stand in an expression or end it, and whether the statements can end.
-use Rattle.std.proofs.Common.{◌≡◌, ℕ, Bool, true, false, List, [], ◌∷◌, Option, Some, None, is_some, length, map, refl, sym, ap, ◌∙◌}
+use Rattle.std.proofs.Common.{◌≡◌, ℕ, Bool, true, false, List, [], ◌∷◌, Option, Some, None, is_some, length, map, refl, sym, ap, ◌∙◌, arith}
 use Rattle.std.specs.Prelude.{◌==◌, ◌&&◌, ◌||◌, not, reverse}
+use Rattle.std.proofs.lemmas.Bool.{ne_eqb}
 use Rattle.std.proofs.lemmas.List.{length-map, length-reverse}
 use Rattle.lrc_named_tokens.specs.declared.token.Keyword.TheVariants as keywords
 use Rattle.lrc_named_tokens.specs.declared.token.Sign.TheVariants as signs
-use Rattle.lrc_named_tokens.specs.Token.{Token, number, name, keyword, sign, finish}
+use Rattle.lrc_named_tokens.specs.Token.{Token, keyword, sign}
 use Rattle.lrc_named_tree.specs.Tree.{Expression, Expressions, Named, Block}
 use Rattle.lrc_named_expression.specs.Partial.{Partial}
 use Rattle.lrc_named_statement.specs.declared.body.Around as code_around
@@ -80,7 +81,8 @@ closed_some outer before (body.for_of first name from end) inside i = refl
 
 some_close : (outer : List Around) (inside : Block) (i : ℕ) → not (length outer == 0) ≡ is_some (close outer inside i)
 some_close [] inside i = refl
-some_close (around ∷ outer) inside i = sym (closed_some outer around.before around.owner inside i)
+some_close (around ∷ outer) inside i =
+    ap not (ne_eqb (length (around ∷ outer)) 0 (λ e. omega (arith, e))) ∙ sym (closed_some outer around.before around.owner inside i)
 
 pub closes_where_open : (blocks : List code_around.Around) (inside : Block) (i : ℕ) →
     not (length blocks == 0) ≡ is_some (close (reverse (map around_seen blocks)) inside i)

@@ -13,8 +13,8 @@ returns-then-ends c = λ before at.
     let purpose = purpose_seen c.args.purpose.now in
     let x = partial_seen c.args.self.now.expression in
     let t = token_of c.args.token in
-    c.if-ends.ensures
-    ∙ or_holds _ _ _ (sym c.if-ends.ensures ∙ c.if-ends.true) (ends_or_goes_on before purpose (value_of x) (is_ending purpose t) (partial_with x at t))
+    c.if-ends.true ∙ c.if-ends.ensures
+    ∙ or_holds _ _ _ (sym c.if-ends.ensures) (ends_or_goes_on before purpose (value_of x) (is_ending purpose t) (partial_with x at t))
 
 pub returns-else-ends : goal.returns-else-ends
 returns-else-ends c = λ before at.
@@ -22,4 +22,4 @@ returns-else-ends c = λ before at.
     let x = partial_seen c.args.self.now.expression in
     let t = token_of c.args.token in
     c.takes.ensures at
-    ∙ or_other _ _ _ (sym c.if-ends.ensures ∙ c.if-ends.false) (ends_or_goes_on before purpose (value_of x) (is_ending purpose t) (partial_with x at t))
+    ∙ or_other _ _ _ (sym c.if-ends.ensures) (ends_or_goes_on before purpose (value_of x) (is_ending purpose t) (partial_with x at t))

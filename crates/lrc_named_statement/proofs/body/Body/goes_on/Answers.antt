@@ -13,9 +13,8 @@ returns-then-ends c = λ outer before at.
     let purpose = purpose_seen c.args.purpose.now in
     let x = partial_seen c.args.self.now.expression in
     let t = token_of c.args.token in
-    c.if-ends.ensures
-    ∙ or_holds _ _ _ (sym c.if-ends.ensures ∙ c.if-ends.true)
-    (ends_or_goes_on outer before purpose (value_of x) (is_ending purpose t) (partial_with x at t) t)
+    c.if-ends.true ∙ c.if-ends.ensures
+    ∙ or_holds _ _ _ (sym c.if-ends.ensures) (ends_or_goes_on outer before purpose (value_of x) (is_ending purpose t) (partial_with x at t) t)
 
 pub returns-else-ends : goal.returns-else-ends
 returns-else-ends c = λ outer before at.
@@ -23,5 +22,5 @@ returns-else-ends c = λ outer before at.
     let x = partial_seen c.args.self.now.expression in
     let t = token_of c.args.token in
     c.takes.ensures at
-    ∙ or_other _ _ _ (sym c.if-ends.ensures ∙ c.if-ends.false)
+    ∙ or_other _ _ _ (sym c.if-ends.ensures)
     (ends_or_goes_on outer before purpose (value_of x) (is_ending purpose t) (partial_with x at t) t)
