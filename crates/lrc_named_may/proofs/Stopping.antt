@@ -1,5 +1,5 @@
 -- Reading a text on, token by token, up to its first fault and what may stand there.
-use Rattle.std.proofs.Common.{◌≡◌, ◌≢◌, ◌⊎◌, ◌<◌, ◌≤◌, ◌+◌, ℕ, true, List, [], ◌∷◌, ◌++◌, length, map, get_or, take, drop, None, Some, Option, Ok, Err, refl}
+use Rattle.std.proofs.Common.{◌≡◌, ◌≢◌, ◌⊎◌, ◌<◌, ◌≤◌, ◌+◌, ℕ, true, List, [], ◌∷◌, ◌++◌, length, map, get_or, take, drop, None, Some, Option, is_some, Ok, Err, refl}
 use Rattle.std.proofs.Common.{sym, ap, subst, ◌∙◌, inl, inr, ⊎_elim, append_assoc, append-nil, arith, length-append, length-take}
 use Rattle.std.proofs.lemmas.List.{length-map, map-append, take_all, take_more, drop_more, take-append-drop}
 use Rattle.lrc_lang.specs.declared.fault.FaultKind.{FaultKind}
@@ -18,7 +18,7 @@ use Rattle.lrc_named_parse.proofs.Behind.{IsBehind, IsBehind-push, IsFaultless-t
 use Rattle.lrc_named_may.specs.declared.first_fault.Stop.{Stop}
 use Rattle.lrc_named_may.specs.declared.kind.Kind.{Kind}
 use Rattle.lrc_named_may.specs.FirstFault.{TellsKinds, IsFirstFaultOf}
-use Rattle.lrc_named_may.specs.Stops.{IsRefused, ListsKinds, Stops, kinds_taken}
+use Rattle.lrc_named_may.specs.Stops.{IsRefused, IsTaken, ListsKinds, Stops, kinds_taken}
 use Rattle.lrc_named_may.proofs.MayStand.{exactly}
 
 -- ---- why the parser stops
@@ -34,6 +34,21 @@ refused BadByte s l at (token t) some h are = absurd h
 refused BadByte s l at bad_byte some h are = (refl, λ e. absurd (cc), are)
 refused BadByte s l at bad_number some h are = absurd h
 refused _ s l at next some h are = absurd h
+
+fails_not : {A : Type 0} (x : Option A) → is_some x ≡ true → x ≡ None → ⊥
+fails_not None h e = absurd (cc)
+fails_not (Some a) h e = absurd (cc)
+
+-- of what it takes but for a limit or a bad number it tells nothing
+pub limited : (kind : FaultKind) (s s' : code_state.State) (l l' : code_limits.Limits) (at : ℕ) (next : Lexeme) (some : List Kind)
+    → IsTaken at (state_seen s) next → TakesLexeme (Err kind) s l at next s' l' → ListsKinds kind at (state_seen s) some
+limited Unexpected s s' l l' at (token t) some is taken = ⊎_elim (λ none. absurd (fails_not _ is none)) (λ limits. absurd limits.2) taken
+limited Unexpected s s' l l' at bad_byte some is taken = absurd is
+limited Unexpected s s' l l' at bad_number some is taken = absurd (cc)
+limited BadByte s s' l l' at (token t) some is taken = ⊎_elim (λ none. absurd none) (λ limits. absurd limits.2) taken
+limited BadByte s s' l l' at bad_byte some is taken = absurd is
+limited BadByte s s' l l' at bad_number some is taken = absurd (cc)
+limited _ s s' l l' at next some is taken = tt
 
 -- ---- what has been read
 

@@ -1,7 +1,8 @@
 // The first fault of a text as such, where it is, and what may stand there.
 
-ghost use Rattle.std.specs.Prelude.{◌≡◌, ◌≤◌, ℕ, [], List, length, map, IfOk, MatchOption};
+ghost use Rattle.std.specs.Prelude.{◌≡◌, ◌≢◌, ◌≤◌, ◌∷◌, ◌++◌, ℕ, [], List, filter, length, map, IfOk, MatchOption, OnOk};
 ghost use Rattle.lrc_lang.specs.declared.fault.FaultKind.{FaultKind as FaultKindSeen};
+ghost use Rattle.lrc_lang.specs.declared.fault.FaultKind.TheVariants.{NoMemory};
 ghost use Rattle.lrc_named_parse.specs.Counts.{apart};
 ghost use Rattle.lrc_named_parse.specs.Faults.{AreFaultless, HasFirstFault};
 ghost use Rattle.lrc_named_parse.specs.SeenLimits.{counted_seen};
@@ -120,11 +121,21 @@ fn stop_at<'t>(
     }
     match take(state, limits, at, lexeme) {
         Ok(()) => Ok(None),
-        Err(FaultKind::NoMemory) => Err(AllocError),
-        Err(kind) => Ok(Some(Stop {
+        Err(kind) => Ok(Some(stop_for(alloc, kind)?)),
+    }
+}
+
+// Why the parser goes no further, unless memory ran out, where it tells nothing of what may stand there.
+fn stop_for(alloc: Global, kind: FaultKind) -> Result<Stop, AllocError>
+    ensures kind { IfOk result (λ stop. stop.kind ≡ kind) }
+    ensures other { IfOk result (λ _. kind ≢ NoMemory) }
+{
+    match kind {
+        FaultKind::NoMemory => Err(AllocError),
+        _ => Ok(Stop {
             kind,
             may_stand: Vec::new(alloc),
-        })),
+        }),
     }
 }
 
@@ -158,11 +169,21 @@ fn kinds_taken(alloc: Global, state: &State<'_>) -> Result<Vec<Kind>, AllocError
     ensures { IfOk result (λ kinds. (at : ℕ) → kinds.items
         ≡ kinds_taken at (state_seen state.now)) }
 {
-    all_kinds()
-        .iter()
-        .copied()
-        .filter(|kind| takes_kind(state, *kind))
-        .collect(alloc)
+    let mut kinds = Vec::new(alloc);
+    for kind in all_kinds() {
+        push_if_taken(&mut kinds, state, *kind)?;
+    }
+    Ok(kinds)
+}
+
+fn push_if_taken(kinds: &mut Vec<Kind>, state: &State<'_>, kind: Kind) -> Result<(), AllocError>
+    ensures { OnOk result ((at : ℕ) → kinds.new.items
+        ≡ kinds.old.items ++ filter (takes_kind at (state_seen state.now)) (kind ∷ [])) }
+{
+    if takes_kind(state, kind) {
+        kinds.push(kind)?;
+    }
+    Ok(())
 }
 
 fn takes_kind(state: &State<'_>, kind: Kind) -> bool

@@ -1,5 +1,5 @@
 use Rattle.lrc_named_tokens.specs.View.{lexeme_of}
-use Rattle.lrc_named_may.proofs.Stopping.{refused}
+use Rattle.lrc_named_may.proofs.Stopping.{limited, refused}
 use Rattle.lrc_named_may.proofs.first_fault.stop_at.Goals as goal
 
 pub returns-in-Some : goal.returns-in-Some
