@@ -1,28 +1,31 @@
--- Exact runs: their beginnings, one act more, and what they are of lazy runs.
+-- Exact runs: their beginnings, and one act more.
 use Rattle.std.proofs.Common.{◌≡◌, ℕ, ◌+◌, ◌<◌, ◌≤◌, List, [], ◌∷◌, ◌++◌, length, take, drop, refl, sym, subst, ap, ◌∙◌, arith}
-use Rattle.std.specs.Prelude.{◌↔◌}
-use Rattle.std.proofs.lemmas.List.{length-append, length-take-le, take-append-drop}
+use Rattle.std.specs.Prelude.{◌↔◌, Option, Some}
+use Rattle.std.proofs.lemmas.List.{length-append, length-take-le, map-append, take-append-drop}
+use Rattle.std.proofs.lemmas.Option.{same_Some}
 use Rattle.lrc_lang.specs.declared.program.Program.{Program}
 use Rattle.lrc_trace.specs.declared.act.Act.{Act}
 use Rattle.lrc_trace.specs.declared.act.Deed.{Deed}
 use Rattle.lrc_trace.specs.declared.act.Deed.TheVariants.{Read}
 use Rattle.lrc_trace.specs.Run.{Does, act_of}
 use Rattle.lrc_trace.proofs.Positions.{Does-last, Does-longer, Does-within}
-use Rattle.lrc_trace.proofs.Prefixes.{IsWellSynchronized-more, MayGoOn-last}
-use Rattle.lrc_consistency_laws.specs.Follows.{FollowsText, nodes_of_acts}
+use Rattle.lrc_trace.proofs.Prefixes.{IsWellSynchronized-more, IsWellSynchronized-shorter, MayGoOn-last}
+use Rattle.lrc_exec.specs.Meaning.{Thread}
+use Rattle.lrc_exec.specs.Plain.{start_of}
+use Rattle.lrc_consistency_laws.specs.Follows.{FollowsText, Makes, nothing_more, and_then, deeds_of, nodes_of_acts}
 use Rattle.lrc_consistency_laws.specs.Kinds.{SameKind, same, reads}
 use Rattle.lrc_consistency_laws.proofs.UpToRace.{in_range}
-use Rattle.lrc_consistency_laws.proofs.Waiting.{waits_at_barriers}
 use Rattle.lrc_exact.specs.LocalRule.{KeepsStates}
 use Rattle.lrc_exact.specs.Rule.{Shape, State, exact_rule, exact_value, KeepsExact, ReadsExactly}
 use Rattle.lrc_exact.proofs.LocalRules.{before-same, keeps-prefix, one_list, prefix-alike}
 use Rattle.lrc_exact_laws.specs.Laws.{IsExactRun}
+use Rattle.lrc_exact_laws.proofs.Lists.{same_last}
 use Rattle.lrc_exact_judge.proofs.Reading.{reads-more, one_read}
+use Rattle.lrc_exact_machine.specs.Machine.{exact}
 use Rattle.lrc_exact_machine.proofs.Making.{is_made, makes_exact_run}
-use Rattle.lrc_exact_reading.proofs.Giving.{reads_lazily}
-use Rattle.lrc_lazy.specs.Lazy.{IsLazyRun, IsLazyOutcome, IsOver, MayComeNext}
-use Rattle.lrc_lazy.proofs.Deeds.{lazy_front}
-use Rattle.lrc_lazy.proofs.Onward.{free_read, other_follows}
+use Rattle.lrc_lazy.specs.Lazy.{IsOver, MayComeNext}
+use Rattle.lrc_lazy.proofs.Deeds.{deeds_joined}
+use Rattle.lrc_lazy.proofs.Onward.{all_in_range, free_read, other_follows}
 use Rattle.lrc_exact_outcomes.specs.Outcome.{IsExactOutcome, IsExactOutcomeFrom}
 use Rattle.lrc_exact_outcomes.specs.Laws.{IsMachineOutcome}
 
@@ -55,21 +58,20 @@ module _ (shape : Shape) (run more : List Act) (exact : ReadsExactly shape (run 
   }
 
 module _ (program : Program) (shape : Shape) where
-  pub is_lazy : (run : List Act) → IsExactRun program shape run → IsLazyRun program shape.nodes run
-  is_lazy run exact = record {
-    follows = exact.follows;
-    synchronized = exact.synchronized;
-    lazily = reads_lazily shape run exact.synchronized (waits_at_barriers program shape.nodes run exact.follows) exact.exact;
-  }
+  makes_front : {o : Option Thread} (ds es : List Deed) → Makes o (ds ++ es) → Makes o ds
+  makes_front [] es m = nothing_more
+  makes_front (d ∷ ds) es (and_then g m) = and_then g (makes_front ds es m)
 
   pub exact_front : (run more : List Act) → IsExactRun program shape (run ++ more) → IsExactRun program shape run
-  exact_front run more exact =
-      let lazy = lazy_front program shape.nodes run more (is_lazy (run ++ more) exact) in
-      record {
-        follows = lazy.follows;
-        synchronized = lazy.synchronized;
-        exact = reads_front shape run more exact.exact;
-      }
+  exact_front run more exact = record {
+    follows = record {
+      in_range = all_in_range shape.nodes run (λ k n d does. in_range exact.follows k n d (Does-longer more does));
+      each = λ n lt. makes_front (deeds_of n run) (deeds_of n more)
+          (subst (λ ds. Makes (Some (start_of program shape.nodes n)) ds) (deeds_joined n run more) (exact.follows.each n lt));
+    };
+    synchronized = IsWellSynchronized-shorter run more shape.nodes exact.synchronized;
+    exact = reads_front shape run more exact.exact;
+  }
 
   -- ---- one act more
 
@@ -130,5 +132,15 @@ by_machine program shape notes = (
   λ o. record { acts = o.acts; run = (makes_exact_run program shape o.order o.acts o.made).0; over = o.over; are = o.are },
 )
 
-pub lazy_outcome : (program : Program) (shape : Shape) (notes : List Act) → IsExactOutcome program shape notes → IsLazyOutcome program shape.nodes notes
-lazy_outcome program shape notes o = record { acts = o.acts; run = is_lazy program shape o.acts o.run; over = o.over; are = o.are }
+-- ---- a node can do one thing next
+
+pub one_deed : (program : Program) (shape : Shape) (acts : List Act) (node : ℕ) (d e : Deed) → IsExactRun program shape (acts ++ act_of node d ∷ [])
+    → IsExactRun program shape (acts ++ act_of node e ∷ []) → d ≡ e
+one_deed program shape acts node d e a b =
+    let run = acts ++ act_of node d ∷ [] in
+    let other = acts ++ act_of node e ∷ [] in
+    let order : nodes_of_acts run ≡ nodes_of_acts other =
+    map-append (λ (x : Act). x.node) acts (act_of node d ∷ []) ∙ sym (map-append (λ (x : Act). x.node) acts (act_of node e ∷ [])) in
+    let same : run ≡ other =
+    same_Some run other (sym (is_made program shape run a) ∙ ap (exact program shape) order ∙ is_made program shape other b) in
+    ap (λ (x : Act). x.deed) (same_last acts acts (act_of node d) (act_of node e) same)

@@ -7,7 +7,7 @@ use Rattle.lrc_trace.specs.Run.{act_of}
 use Rattle.lrc_consistency_laws.specs.Kinds.{SameKind}
 use Rattle.lrc_orders.specs.Notes.{notes_of}
 use Rattle.lrc_lazy.specs.Front.{MayGoFirst}
-use Rattle.lrc_lazy.specs.Lazy.{IsLazyOutcome, IsOver, MayComeNext}
+use Rattle.lrc_lazy.specs.Lazy.{IsOver, MayComeNext}
 use Rattle.lrc_lazy.specs.Swapped.{pair, MayComeFirst}
 use Rattle.lrc_exact.specs.Rule.{Shape}
 use Rattle.lrc_exact_laws.specs.Laws.{IsExactRun}
@@ -40,7 +40,7 @@ abbrev pub AreFromTheBeginning : Type 0
 AreFromTheBeginning = (program : Program) (shape : Shape) (notes : List Act)
     → IsExactOutcome program shape notes ↔ IsExactOutcomeFrom program shape [] notes
 
--- those of what the exact machine makes,
+-- and those of what the exact machine makes.
 pub record IsMachineOutcome (program : Program) (shape : Shape) (notes : List Act) : Type 0 where
   pub order : List ℕ
   pub acts : List Act
@@ -51,8 +51,3 @@ pub record IsMachineOutcome (program : Program) (shape : Shape) (notes : List Ac
 abbrev pub AreMadeByTheMachine : Type 0
 AreMadeByTheMachine = (program : Program) (shape : Shape) (notes : List Act)
     → IsExactOutcome program shape notes ↔ IsMachineOutcome program shape notes
-
--- and lazy outcomes.
-abbrev pub AreLazyOutcomes : Type 0
-AreLazyOutcomes = (program : Program) (shape : Shape) (notes : List Act) → IsExactOutcome program shape notes
-    → IsLazyOutcome program shape.nodes notes

@@ -1,6 +1,6 @@
 // Laws of exact outcomes. Each function is a theorem: its body is empty, and its clause is the law.
 
-ghost use Rattle.lrc_exact_outcomes.specs.Laws.{ActsChangePlaces, AreFromTheBeginning, AreLazyOutcomes, AreMadeByTheMachine, EachRunGoesOn, IsOverWhereNoneGoesOn, MayBeMadeFirst};
+ghost use Rattle.lrc_exact_outcomes.specs.Laws.{ActsChangePlaces, AreFromTheBeginning, AreMadeByTheMachine, EachRunGoesOn, IsOverWhereNoneGoesOn, MayBeMadeFirst};
 
 /// If the second of two neighbouring acts of an exact run may come before the first, the run with these two swapped is
 /// exact too.
@@ -22,9 +22,8 @@ pub fn an_exact_run_goes_on_where_a_node_can_act()
 {}
 
 /// The exact outcomes of a program are those of the runs that go on from no act. They are those of what the exact machine
-/// makes, led by any order. Each is a lazy outcome.
+/// makes, led by any order.
 pub fn exact_outcomes_are_those_of_the_exact_machine()
     ensures beginning { AreFromTheBeginning }
     ensures machine { AreMadeByTheMachine }
-    ensures lazy { AreLazyOutcomes }
 {}
