@@ -7,7 +7,7 @@ use Rattle.lrc_trace.specs.declared.act.Act.{Act}
 use Rattle.lrc_trace.specs.declared.act.Deed.{Deed}
 use Rattle.lrc_trace.specs.declared.act.Deed.TheVariants.{Read, Acquire, Release, Arrive, Depart}
 use Rattle.lrc_trace.specs.Run.{Does, is_arrive, is_depart, arrives_before, departs_before}
-use Rattle.lrc_trace.specs.Synchronization.{IsWellSynchronized}
+use Rattle.lrc_trace.specs.Synchronization.{Holds, IsWellSynchronized}
 use Rattle.lrc_trace.proofs.Holding.{one_holder}
 use Rattle.lrc_trace.proofs.Intervals.{count_of-rises}
 use Rattle.lrc_trace.proofs.Positions.{Does-deed, Does-one_node, Does-one_deed, arrives_before-prefix, departs_before-prefix}
@@ -96,15 +96,15 @@ module _ {S : Type 0} (rule : LocalRule S) (nodes : ℕ) (front : List Act) (fir
   released_same {j} {i} {node} {l} at does =
       last_moved (releases_at run l) (releases_at other l) states later k (λ x y mv. tests_same (λ a. is_release l a.deed) x y mv) gets j i at
       (λ is passes.
-          let two = releases_at-act run (k + 1) l passes in
-          ws.acquires k node l (subst (λ x. Does run x node (Acquire l)) is does) second.node (holds (at_second refl two.1).1))
+      let two = releases_at-act run (k + 1) l passes in
+      ws.acquires k node l (subst (λ x. Does run x node (Acquire l)) is does) second.node (holds (at_second refl two.1).1))
       (λ is passes. m.no_acquire l (at_second is does).1)
       (λ a b.
-          let one = releases_at-act run k l a in
-          let two = releases_at-act run (k + 1) l b in
-          m.apart ((at_first refl one.1).0 ∙ one_holder ws k one.0 second.node l (ws.releases k one.0 l one.1) (holds (at_second refl two.1).1)))
+      let one = releases_at-act run k l a in
+      let two = releases_at-act run (k + 1) l b in
+      m.apart ((at_first refl one.1).0 ∙ one_holder ws k one.0 second.node l (ws.releases k one.0 l one.1) (holds (at_second refl two.1).1)))
     where
-      holds : second.deed ≡ Release l → _
+      holds : second.deed ≡ Release l → Holds run k second.node l
       holds is = Holds-longer front (first ∷ second ∷ rest) (let le : k ≤ length front = omega arith in le) (m.may.releases l is)
 
   arrived_same : {j i node : ℕ} → Moved k j i → Does run j node Depart → (p : ℕ)
@@ -113,29 +113,29 @@ module _ {S : Type 0} (rule : LocalRule S) (nodes : ℕ) (front : List Act) (fir
       let number = departs_before run node j in
       last_moved (arrives_there run number p) (arrives_there other number p) states later k
       (λ x y mv.
-          ap (λ b. b && acts_at run p x) (arrives_same number x y mv)
-          ∙ ap (λ b. arrives_at other number y && b) (tests_same (λ a. a.node == p) x y mv)) gets j i at
+      ap (λ b. b && acts_at run p x) (arrives_same number x y mv)
+      ∙ ap (λ b. arrives_at other number y && b) (tests_same (λ a. a.node == p) x y mv)) gets j i at
       (λ is passes.
-          let both = and_parts (arrives_at run number (k + 1)) (acts_at run p (k + 1)) passes in
-          let (n, arrives, count) = arrives_at-act run (k + 1) number both.0 in
-          let less = ws.departs j node does n (keeps.in_range (k + 1) n Arrive arrives) in
-          let same = ap (λ x. arrives_before run n x) is in
-          let rises = count_of-rises is_arrive run n k (k + 1) (omega arith) in
-          omega (arith, less, count, same, rises))
+      let both = and_parts (arrives_at run number (k + 1)) (acts_at run p (k + 1)) passes in
+      let (n, arrives, count) = arrives_at-act run (k + 1) number both.0 in
+      let less = ws.departs j node does n (keeps.in_range (k + 1) n Arrive arrives) in
+      let same = ap (λ x. arrives_before run n x) is in
+      let rises = count_of-rises is_arrive run n k (k + 1) (omega arith) in
+      omega (arith, less, count, same, rises))
       (λ is passes.
-          let both = and_parts (arrives_at run number k) (acts_at run p k) passes in
-          let (n, arrives, count) = arrives_at-act run k number both.0 in
-          let own = at_second is does in
-          let less = m.may.departs own.1 first.node m.first_among in
-          let arrived = arrives_before-prefix front (first ∷ second ∷ rest) first.node k (omega arith) in
-          let departed = departs_before-prefix front (first ∷ second ∷ rest) second.node k (omega arith) in
-          let past = count_past is_depart front first second rest second.node m.apart in
-          let count_first = ap (λ x. arrives_before run x k) (at_first refl arrives).0 in
-          let number_is = ap (λ x. departs_before run x j) own.0 in
-          let number_at = ap (λ x. departs_before run second.node x) is in
-          omega (arith, less, arrived, departed, past, count, count_first, number_is, number_at))
+      let both = and_parts (arrives_at run number k) (acts_at run p k) passes in
+      let (n, arrives, count) = arrives_at-act run k number both.0 in
+      let own = at_second is does in
+      let less = m.may.departs own.1 first.node m.first_among in
+      let arrived = arrives_before-prefix front (first ∷ second ∷ rest) first.node k (omega arith) in
+      let departed = departs_before-prefix front (first ∷ second ∷ rest) second.node k (omega arith) in
+      let past = count_past is_depart front first second rest second.node m.apart in
+      let count_first = ap (λ x. arrives_before run x k) (at_first refl arrives).0 in
+      let number_is = ap (λ x. departs_before run x j) own.0 in
+      let number_at = ap (λ x. departs_before run second.node x) is in
+      omega (arith, less, arrived, departed, past, count, count_first, number_is, number_at))
       (λ a b.
-          not_both p (and_parts (arrives_at run number k) (acts_at run p k) a).1 (and_parts (arrives_at run number (k + 1)) (acts_at run p (k + 1)) b).1)
+      not_both p (and_parts (arrives_at run number k) (acts_at run p k) a).1 (and_parts (arrives_at run number (k + 1)) (acts_at run p (k + 1)) b).1)
 
   after_same : {j i node : ℕ} (d : Deed) → Moved k j i → Does run j node d → state_after rule run states j node d ≡ state_after rule other later i node d
   after_same {j} {i} {node} (Acquire l) at does =
@@ -183,10 +183,10 @@ reads_then shape front first second rest ws m exact =
     let c = length-append front (first ∷ second ∷ rest) in
     go (parted exact.states (length front) (omega (arith, size, c)))
   where
-    abbrev rule : LocalRule State
+    rule : LocalRule State
     rule = exact_rule shape
 
-    abbrev before : List Act
+    before : List Act
     before = pair front first second rest
 
     go : Parted exact.states (length front) → ReadsExactly shape (pair front second first rest)

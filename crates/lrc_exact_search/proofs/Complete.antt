@@ -93,21 +93,20 @@ module _ (program : Program) (shape : Shape) (runs : List Met) (outcomes : List 
 
   ends : (count : ℕ) (acts notes : List Act) (most : ℕ) → most ≤ length acts + count → IsSearched program shape runs outcomes acts
       → Left acts notes most → HasOutcome outcomes notes
+
   goes_on : (count : ℕ) (acts ahead notes : List Act) (most : ℕ) → most ≤ length acts + count → length acts ≤ length ahead
       → GoesOn program shape runs outcomes acts ahead → Left ahead notes most → HasOutcome outcomes notes
+
   part : (count : ℕ) (acts notes : List Act) (most : ℕ) → most ≤ length acts + count → Parts program shape runs outcomes acts
       → (more : List Act) → IsExactRun program shape (acts ++ more) → IsOver program nodes (acts ++ more) → notes_of nodes (acts ++ more) ≡ notes
       → length acts + length more ≤ most → HasOutcome outcomes notes
-
   ends count acts notes most le s l =
       goes_on count acts s.ahead notes most le (ahead_long s.goes) s.then (left_ahead acts s.ahead notes most s.goes l)
-
   goes_on zero acts ahead notes most le long (further lt met) l = let few = l.few in absurd (omega (arith, le, lt, few))
   goes_on (suc count) acts ahead notes most le long (further lt met) l =
       ends count ahead notes most (omega (arith, le, lt)) (met_searched ahead met) l
   goes_on count acts ahead notes most le long (parts p) l =
       part count ahead notes most (omega (arith, le, long)) p l.more l.run l.over l.are l.few
-
   part count acts notes most le p [] run over are few =
       let is = append-nil acts in
       subst (HasOutcome outcomes) (ap (notes_of nodes) (sym is) ∙ are) (p.gathered (subst (IsOver program nodes) is over))

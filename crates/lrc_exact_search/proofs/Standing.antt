@@ -137,11 +137,11 @@ module _ (task : Task) (is : IsTask task) (run : ExactRun) (at : IsAt task run) 
           follows = other_follows acts node w program shape.nodes u v (next_is (Read w u) can).follows;
           may = free_read shape.nodes acts node w v;
         }) (λ word value states e keeps.
-            let parts = one_read e in
-            let given = gives states (subst (λ (l : Layout). KeepsExact (shape_of l) acts states) (sym at.layout) keeps) in
-            sym parts.1 ∙ given
-            ∙ ap (λ (l : Layout). exact_value (shape_of l) acts states node (length acts) w) at.layout
-            ∙ ap (λ x. exact_value shape acts states node (length acts) x) parts.0)
+        let parts = one_read e in
+        let given = gives states (subst (λ (l : Layout). KeepsExact (shape_of l) acts states) (sym at.layout) keeps) in
+        sym parts.1 ∙ given
+        ∙ ap (λ (l : Layout). exact_value (shape_of l) acts states node (length acts) w) at.layout
+        ∙ ap (λ x. exact_value shape acts states node (length acts) x) parts.0)
 
 -- ---- one act more
 

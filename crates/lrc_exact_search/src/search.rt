@@ -305,12 +305,7 @@ impl Searched {
     }
 
     // Meets each run to which a run parts; where there is none, its outcome is taken.
-    fn part(
-        &mut self,
-        alloc: Global,
-        task: &Task<'_>,
-        run: &ExactRun,
-    ) -> Result<(), AllocError>
+    fn part(&mut self, alloc: Global, task: &Task<'_>, run: &ExactRun) -> Result<(), AllocError>
         requires task { IsTask task.now }
         requires at { IsAt task.now run.now }
         requires order { AreInOrder task.now.program.now (shape_of task.now.layout)
