@@ -1,6 +1,6 @@
 -- Where all runs are looked at, the outcomes are exactly those of the exact runs.
-use Rattle.std.proofs.Common.{◌≡◌, ℕ, zero, suc, ◌+◌, ◌<◌, ◌≤◌, List, [], ◌∷◌, ◌++◌, length, refl, sym, subst, ◌∙◌, ap, arith, append_assoc}
-use Rattle.std.specs.Prelude.{◌↔◌, Some, slice_get}
+use Rattle.std.proofs.Common.{◌≡◌, ℕ, zero, suc, ◌+◌, ◌<◌, ◌≤◌, List, [], ◌∷◌, ◌++◌, length, inl, inr, refl, sym, subst, ◌∙◌, ap, arith, append_assoc}
+use Rattle.std.specs.Prelude.{◌↔◌, ◌⊎◌, Some, slice_get}
 use Rattle.std.proofs.lemmas.List.{append-nil, length_push}
 use Rattle.std.proofs.lemmas.Option.{slice_get_within}
 use Rattle.lrc_lang.specs.declared.program.Program.{Program}
@@ -91,31 +91,49 @@ module _ (program : Program) (shape : Shape) (runs : List Met) (outcomes : List 
   met_searched acts m =
       subst (IsSearched program shape runs outcomes) m.same (searched m.place m.met (slice_get_within runs m.place m.met m.there) m.there)
 
+  -- a run that was looked at goes on to one that was too, and is longer
+  record Kept (acts notes : List Act) (most : ℕ) : Type 0 where
+    later : List Act
+    searched_too : IsSearched program shape runs outcomes later
+    left : Left later notes most
+    longer : length acts < length later
+
+  part : (acts ahead notes : List Act) (most : ℕ) → length acts ≤ length ahead → Parts program shape runs outcomes ahead → (more : List Act)
+      → IsExactRun program shape (ahead ++ more) → IsOver program nodes (ahead ++ more) → notes_of nodes (ahead ++ more) ≡ notes
+      → length ahead + length more ≤ most → HasOutcome outcomes notes ⊎ Kept acts notes most
+  part acts ahead notes most long p [] run over are few =
+      let is = append-nil ahead in
+      inl (subst (HasOutcome outcomes) (ap (notes_of nodes) (sym is) ∙ are) (p.gathered (subst (IsOver program nodes) is over)))
+  part acts ahead notes most long p (x ∷ more) run over are few =
+      let front = exact_front program shape (ahead ++ x ∷ []) more (subst (IsExactRun program shape) (one_behind ahead x more) run) in
+      let one = length_push ahead x in
+      inr (record {
+        later = ahead ++ x ∷ [];
+        searched_too = met_searched (ahead ++ x ∷ []) (p.nexts x front);
+        left = left_behind ahead x more notes most run over are few;
+        longer = omega (arith, long, one);
+      })
+
+  goes_on : (acts ahead notes : List Act) (most : ℕ) → length acts ≤ length ahead → GoesOn program shape runs outcomes acts ahead
+      → Left ahead notes most → HasOutcome outcomes notes ⊎ Kept acts notes most
+  goes_on acts ahead notes most long (further lt met) l =
+      inr (record { later = ahead; searched_too = met_searched ahead met; left = l; longer = lt })
+  goes_on acts ahead notes most long (parts p) l = part acts ahead notes most long p l.more l.run l.over l.are l.few
+
+  -- so each run that ends has an outcome that was gathered
   ends : (count : ℕ) (acts notes : List Act) (most : ℕ) → most ≤ length acts + count → IsSearched program shape runs outcomes acts
       → Left acts notes most → HasOutcome outcomes notes
-
-  goes_on : (count : ℕ) (acts ahead notes : List Act) (most : ℕ) → most ≤ length acts + count → length acts ≤ length ahead
-      → GoesOn program shape runs outcomes acts ahead → Left ahead notes most → HasOutcome outcomes notes
-
-  part : (count : ℕ) (acts notes : List Act) (most : ℕ) → most ≤ length acts + count → Parts program shape runs outcomes acts
-      → (more : List Act) → IsExactRun program shape (acts ++ more) → IsOver program nodes (acts ++ more) → notes_of nodes (acts ++ more) ≡ notes
-      → length acts + length more ≤ most → HasOutcome outcomes notes
-  ends count acts notes most le s l =
-      goes_on count acts s.ahead notes most le (ahead_long s.goes) s.then (left_ahead acts s.ahead notes most s.goes l)
-  goes_on zero acts ahead notes most le long (further lt met) l = let few = l.few in absurd (omega (arith, le, lt, few))
-  goes_on (suc count) acts ahead notes most le long (further lt met) l =
-      ends count ahead notes most (omega (arith, le, lt)) (met_searched ahead met) l
-  goes_on count acts ahead notes most le long (parts p) l =
-      part count ahead notes most (omega (arith, le, long)) p l.more l.run l.over l.are l.few
-  part count acts notes most le p [] run over are few =
-      let is = append-nil acts in
-      subst (HasOutcome outcomes) (ap (notes_of nodes) (sym is) ∙ are) (p.gathered (subst (IsOver program nodes) is over))
-  part zero acts notes most le p (x ∷ more) run over are few = absurd (omega (arith, le, few))
-  part (suc count) acts notes most le p (x ∷ more) run over are few =
-      let front = exact_front program shape (acts ++ x ∷ []) more (subst (IsExactRun program shape) (one_behind acts x more) run) in
-      let long = length_push acts x in
-      ends count (acts ++ x ∷ []) notes most (omega (arith, le, long)) (met_searched (acts ++ x ∷ []) (p.nexts x front))
-      (left_behind acts x more notes most run over are few)
+  ends zero acts notes most le s l = elim (goes_on acts s.ahead notes most (ahead_long s.goes) s.then (left_ahead acts s.ahead notes most s.goes l)) [
+    | inl has ↦ has
+    | inr k ↦
+        let few = k.left.few in
+        let longer = k.longer in
+        absurd (omega (arith, le, few, longer))
+  ]
+  ends (suc count) acts notes most le s l = elim (goes_on acts s.ahead notes most (ahead_long s.goes) s.then (left_ahead acts s.ahead notes most s.goes l)) [
+    | inl has ↦ has
+    | inr k ↦ let longer = k.longer in ends count k.later notes most (omega (arith, le, longer)) k.searched_too k.left
+  ]
 
   has_outcome : IsMet runs [] → (notes : List Act) → IsExactOutcome program shape notes → HasOutcome outcomes notes
   has_outcome begun notes o =

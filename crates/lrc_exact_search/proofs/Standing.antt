@@ -1,7 +1,7 @@
 -- What a run so far says of what its nodes can do next, and where that leads them.
-use Rattle.std.proofs.Common.{◌≡◌, ℕ, ◌+◌, ◌<◌, ◌≤◌, ◌^◌, ◌-◌, List, [], ◌∷◌, ◌++◌, length, refl, sym, subst, ap, ◌∙◌, arith}
+use Rattle.std.proofs.Common.{◌≡◌, ℕ, ◌+◌, ◌<◌, ◌≤◌, ◌^◌, ◌-◌, List, [], ◌∷◌, ◌++◌, length, drop, get_or, take, refl, sym, subst, ap, ◌∙◌, arith}
 use Rattle.std.specs.Prelude.{Option, Some, None, option_map, slice_index, slice_set}
-use Rattle.std.proofs.lemmas.List.{get_or-set_same, length_push}
+use Rattle.std.proofs.lemmas.List.{get_or-set_same, length_push, take-append-drop, take_more}
 use Rattle.std.proofs.lemmas.Option.{same_Some}
 use Rattle.lrc_lang.specs.declared.program.Program.{Program}
 use Rattle.lrc_trace.specs.declared.act.Act.{Act}
@@ -36,7 +36,7 @@ use Rattle.lrc_exact_judge.specs.Shape.{shape_of}
 use Rattle.lrc_exact_judge.specs.declared.layout.Layout.{Layout}
 use Rattle.lrc_exact_judge.specs.declared.memory.Memory.{Memory}
 use Rattle.lrc_exact_judge.proofs.Reading.{one_read, reads-none}
-use Rattle.lrc_exact_outcomes.proofs.Running.{exact_more}
+use Rattle.lrc_exact_outcomes.proofs.Running.{exact_front, exact_more}
 use Rattle.lrc_exact_search.specs.declared.run.ExactRun.{ExactRun}
 use Rattle.lrc_exact_search.specs.declared.run.Task.{Task}
 use Rattle.lrc_exact_search.specs.Run.{IsAt, IsLedTo, IsTask}
@@ -253,3 +253,11 @@ begun task run is none first valid memory layout =
       memory = subst (λ xs. IsMemoryOf xs run.memory) (sym none) memory;
       layout = layout;
     }
+
+-- ---- the acts of a run, one after another
+
+pub front_next : (program : Program) (shape : Shape) (acts : List Act) (i : ℕ) (d : Act) → i < length acts → IsExactRun program shape acts
+    → IsExactRun program shape (take i acts ++ get_or acts i d ∷ [])
+front_next program shape acts i d lt run =
+    subst (IsExactRun program shape) (take_more acts i d lt)
+    (exact_front program shape (take (i + 1) acts) (drop (i + 1) acts) (subst (IsExactRun program shape) (sym (take-append-drop (i + 1) acts)) run))
