@@ -62,6 +62,10 @@ parted (x ∷ y ∷ xs) (suc n) lt =
 
 -- ---- the last state
 
+never_true : (b : Bool) → (b ≡ true → ⊥) → b ≡ false
+never_true true h = absurd (h refl)
+never_true false h = refl
+
 step_over : {S : Type 0} (passes : ℕ → Bool) (states : List S) (j : ℕ) → passes j ≡ false → last_state passes states (j + 1) ≡ last_state passes states j
 step_over passes states j fails =
     ap (last_state passes states) (let at : j + 1 ≡ suc j = omega arith in at)
@@ -114,16 +118,8 @@ module _ {S : Type 0} (p q : ℕ → Bool) (ss ts : List S) (k : ℕ) (tests : (
   last_moved j i (before lt e) first second both = in_front j (omega arith) ∙ ap (last_state q ts) (sym e)
   last_moved j i (forward at e) first second both =
       ap (last_state p ss) at ∙ in_front k (omega arith)
-      ∙ sym (step_over q ts k (sym (tests (k + 1) k (back refl refl)) ∙ fails (p (k + 1)) (first at)))
+      ∙ sym (step_over q ts k (sym (tests (k + 1) k (back refl refl)) ∙ never_true (p (k + 1)) (first at)))
       ∙ ap (last_state q ts) (sym e)
-    where
-      fails : (b : Bool) → (b ≡ true → ⊥) → b ≡ false
-      fails true no = absurd (no refl)
-      fails false no = refl
   last_moved j i (back at e) first second both =
-      ap (last_state p ss) at ∙ step_over p ss k (fails (p k) (second at)) ∙ in_front k (omega arith) ∙ ap (last_state q ts) (sym e)
-    where
-      fails : (b : Bool) → (b ≡ true → ⊥) → b ≡ false
-      fails true no = absurd (no refl)
-      fails false no = refl
+      ap (last_state p ss) at ∙ step_over p ss k (never_true (p k) (second at)) ∙ in_front k (omega arith) ∙ ap (last_state q ts) (sym e)
   last_moved j i (behind lt e) first second both = far both j (omega arith) ∙ ap (last_state q ts) (sym e)
