@@ -126,8 +126,8 @@ module _ (program : Program) (shape : Shape) where
 -- ---- how many acts there are
 
 pub acts_front : (n : ℕ) (runs : List Met) → acts_in (take n runs) ≤ acts_in runs
-acts_front n [] = omega arith
-acts_front zero (x ∷ runs) = omega arith
+acts_front zero runs = omega arith
+acts_front (suc n) [] = omega arith
 acts_front (suc n) (x ∷ runs) = let few = acts_front n runs in omega (arith, few)
 
 pub acts_next : (n : ℕ) (runs : List Met) (met : Met) → slice_get runs n ≡ Some met → acts_in (take (suc n) runs) ≡ acts_in (take n runs) + length met.acts.items
@@ -137,6 +137,16 @@ acts_next (suc n) (x ∷ runs) met at = let rest = acts_next n runs met at in om
 
 pub acts_grown : {old new : List Met} → Grows old new → (n : ℕ) → n ≤ length old → acts_in (take n new) ≡ acts_in (take n old)
 acts_grown {old} {new} g n le = ap (λ l. acts_in (take n l)) g.is ∙ ap acts_in (take-append-le n old g.more le)
+
+pub counted_more : (old new : List Met) (place : ℕ) (met : Met) (few more : ℕ) → Grows old new → slice_get old place ≡ Some met
+    → few ≤ acts_in (take place old) → more ≤ few + length met.acts.items → more ≤ acts_in (take (place + 1) new)
+counted_more old new place met few more g at counted added =
+    let within = slice_get_within old place met at in
+    let step : acts_in (take (place + 1) old) ≡ acts_in (take (suc place) old) =
+    ap (λ k. acts_in (take k old)) (let one : place + 1 ≡ suc place = omega arith in one) in
+    let next = acts_next place old met at in
+    let same = acts_grown g (place + 1) (omega (arith, within)) in
+    omega (arith, counted, added, step, next, same)
 
 pub grows_long : {A : Type 0} {old new : List A} → Grows old new → length old ≤ length new
 grows_long {old = old} g = let long = ap length g.is ∙ length-append old g.more in omega (arith, long)

@@ -39,10 +39,12 @@ pub struct ExactRun {
 }
 
 impl ExactRun {
-    ghost use Rattle.std.specs.Prelude.{◌≡◌, ◌++◌, ◌∷◌, [], ◌<◌, ◌×◌, IfOk, OnOk, Some, None, true, length};
+    ghost use Rattle.std.specs.Prelude.{◌≡◌, ◌++◌, ◌∷◌, [], ◌<◌, IfOk, OnOk, Some, None, true, length, option_map};
     ghost use Rattle.lrc_trace.specs.declared.act.Act.{Act as ActType};
     ghost use Rattle.lrc_trace.specs.declared.act.Deed.{Deed as DeedType};
     ghost use Rattle.lrc_trace.specs.Run.{act_of};
+    ghost use Rattle.lrc_exec.specs.Plain.{plain_step};
+    ghost use Rattle.lrc_exec.specs.States.{plain_at};
     ghost use Rattle.lrc_lazy.specs.Lazy.{MayComeNext};
     ghost use Rattle.lrc_exact_laws.specs.Laws.{IsExactRun};
     ghost use Rattle.lrc_exact_judge.specs.Shape.{shape_of};
@@ -73,12 +75,29 @@ impl ExactRun {
             → ¬ MayComeNext task.now.program.now task.now.layout.nodes self.now.acts.items
             (act_of node deed) }
     {
-        match self.state.next_deed(&task.flat, usize::from(node)) {
-            Some(Deed::Read(word, _)) => {
+        match self.state.next_deed(&task.flat, node as usize) {
+            Some(deed) => Some(self.valued(task, node, deed)),
+            None => None,
+        }
+    }
+
+    // What a node can do next, where a read gives what the memory has.
+    fn valued(&self, task: &Task<'_>, node: u8, deed: Deed) -> Deed
+        requires task { IsTask task.now }
+        requires at { IsAt task.now self.now }
+        requires node { node < task.now.layout.nodes }
+        requires can { option_map (λ step. step.0)
+            (plain_step (plain_at task.now.flat self.now.state) node) ≡ Some deed }
+        ensures { IsExactRun task.now.program.now (shape_of task.now.layout)
+            (self.now.acts.items ++ act_of node result ∷ []) }
+    {
+        let _task = task;
+        match deed {
+            Deed::Read(word, _) => {
                 let value = self.memory.value(&self.acts, node, word);
-                Some(Deed::Read(word, value))
+                Deed::Read(word, value)
             }
-            deed => deed,
+            _ => deed,
         }
     }
 
@@ -198,5 +217,5 @@ fn follow(state: &mut State, flat: &Flat<'_>, act: Act)
     if let Deed::Read(word, value) = act.deed {
         state.memory[word as usize] = value;
     }
-    state.make(flat, usize::from(act.node), act.deed);
+    state.make(flat, act.node as usize, act.deed);
 }

@@ -1,9 +1,9 @@
 // The search through the exact runs of a program.
 
-ghost use Rattle.std.specs.Prelude.{◌≡◌, ◌≢◌, ◌↔◌, List, IfOk, IfErr};
+ghost use Rattle.std.specs.Prelude.{◌≡◌, ◌≢◌, ◌↔◌, ◌++◌, ◌∷◌, ◌<◌, ◌≤◌, ◌+◌, ◌-◌, ◌*◌, ◌^◌, [], ℕ, List, IfOk, IfErr};
 ghost use Rattle.lrc_trace.specs.declared.act.Act.{Act as ActType};
-ghost use Rattle.lrc_trace.specs.Run.{Does};
-ghost use Rattle.lrc_consistency_laws.specs.Follows.{FollowsText};
+ghost use Rattle.lrc_trace.specs.declared.act.Deed.{Deed as DeedType};
+ghost use Rattle.lrc_trace.specs.Run.{Does, act_of};
 ghost use Rattle.lrc_orders.specs.Notes.{notes_of};
 ghost use Rattle.lrc_orders.specs.Outcome.{HasOutcome};
 ghost use Rattle.lrc_exact_judge.specs.Shape.{shape_of};
@@ -114,7 +114,7 @@ fn task_of<'c>(code: &'c Code<'c>, layout: Layout, most: usize) -> Task<'c>
 
 // What is noted of acts.
 fn notes_of(alloc: Global, nodes: u8, acts: &[Act]) -> Result<Vec<Act>, AllocError>
-    requires { (j node : _) (deed : _) → Does acts.now j node deed → node < nodes }
+    requires { (j node : ℕ) (deed : DeedType) → Does acts.now j node deed → node < nodes }
     ensures { IfOk result (λ notes. notes.items ≡ notes_of nodes acts.now) }
 {
     let mut notes = Vec::new(alloc);
@@ -135,7 +135,7 @@ fn with_act(alloc: Global, acts: &[Act], node: u8, deed: Deed) -> Result<Vec<Act
 
 // The most acts that the runs may have together.
 fn most_acts(most: usize) -> usize
-    ensures { result ≤ 1000000 + 20 * most }
+    ensures at_most { result ≤ 1000000 + 20 * most }
     ensures least { result < 2 ^ 64 - 1 → result ≡ 1000000 + 20 * most }
 {
     most.saturating_mul(20).saturating_add(1_000_000)
@@ -149,7 +149,7 @@ struct Searched {
 }
 
 impl Searched {
-    ghost use Rattle.std.specs.Prelude.{◌≡◌, ◌≢◌, ◌↔◌, ◌×◌, ◌++◌, ◌∷◌, ◌<◌, ◌≤◌, ◌+◌, ◌*◌, ◌⊎◌, List, IfOk, IfErr, OnOk, Some, [], true, false, length, slice_get};
+    ghost use Rattle.std.specs.Prelude.{◌≡◌, ◌≢◌, ◌↔◌, ◌++◌, ◌∷◌, ◌<◌, ◌≤◌, ◌+◌, ◌*◌, ◌⊎◌, List, IfOk, IfErr, OnOk, Some, [], true, false, length, slice_get};
     ghost use Rattle.lrc_trace.specs.declared.act.Act.{Act as ActType};
     ghost use Rattle.lrc_orders.specs.Kept.{Grows};
     ghost use Rattle.lrc_orders.specs.Notes.{notes_of};
