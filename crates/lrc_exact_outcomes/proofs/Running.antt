@@ -1,5 +1,5 @@
 -- Exact runs: their beginnings, and one act more.
-use Rattle.std.proofs.Common.{◌≡◌, ℕ, ◌+◌, ◌<◌, ◌≤◌, List, [], ◌∷◌, ◌++◌, length, take, drop, refl, sym, subst, ap, ◌∙◌, arith}
+use Rattle.std.proofs.Common.{◌≡◌, ℕ, List, [], ◌∷◌, ◌++◌, length, take, drop, sym, subst, ap, ◌∙◌, arith}
 use Rattle.std.specs.Prelude.{◌↔◌, Option, Some}
 use Rattle.std.proofs.lemmas.List.{length-append, length-take-le, map-append, take-append-drop}
 use Rattle.std.proofs.lemmas.Option.{same_Some}
@@ -7,15 +7,14 @@ use Rattle.lrc_lang.specs.declared.program.Program.{Program}
 use Rattle.lrc_trace.specs.declared.act.Act.{Act}
 use Rattle.lrc_trace.specs.declared.act.Deed.{Deed}
 use Rattle.lrc_trace.specs.declared.act.Deed.TheVariants.{Read}
-use Rattle.lrc_trace.specs.Run.{Does, act_of}
+use Rattle.lrc_trace.specs.Run.{act_of}
 use Rattle.lrc_trace.proofs.Positions.{Does-last, Does-longer, Does-within}
 use Rattle.lrc_trace.proofs.Prefixes.{IsWellSynchronized-more, IsWellSynchronized-shorter, MayGoOn-last}
 use Rattle.lrc_exec.specs.Meaning.{Thread}
 use Rattle.lrc_exec.specs.Plain.{start_of}
-use Rattle.lrc_consistency_laws.specs.Follows.{FollowsText, Makes, nothing_more, and_then, deeds_of, nodes_of_acts}
+use Rattle.lrc_consistency_laws.specs.Follows.{Makes, nothing_more, and_then, deeds_of, nodes_of_acts}
 use Rattle.lrc_consistency_laws.specs.Kinds.{SameKind, same, reads}
 use Rattle.lrc_consistency_laws.proofs.UpToRace.{in_range}
-use Rattle.lrc_exact.specs.LocalRule.{KeepsStates}
 use Rattle.lrc_exact.specs.Rule.{Shape, State, exact_rule, exact_value, KeepsExact, ReadsExactly}
 use Rattle.lrc_exact.proofs.LocalRules.{before-same, keeps-prefix, one_list, prefix-alike}
 use Rattle.lrc_exact_laws.specs.Laws.{IsExactRun}

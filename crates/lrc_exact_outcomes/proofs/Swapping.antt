@@ -1,16 +1,16 @@
 -- Two neighbouring acts of a run change places: the states that a local rule makes of the run change places with them.
-use Rattle.std.proofs.Common.{◌≡◌, ℕ, ◌+◌, ◌<◌, ◌≤◌, Bool, true, false, ◌&&◌, List, [], ◌∷◌, ◌++◌, length, inl, inr, refl, sym, subst, ap, ◌∙◌, arith}
+use Rattle.std.proofs.Common.{◌≡◌, ℕ, ◌+◌, ◌≤◌, Bool, true, ◌&&◌, List, ◌∷◌, ◌++◌, length, refl, sym, subst, ap, ◌∙◌, arith}
 use Rattle.std.specs.Prelude.{◌==◌, Option, Some, None, slice_get, unwrap_or}
-use Rattle.std.proofs.lemmas.Bool.{and_parts, false≢true}
+use Rattle.std.proofs.lemmas.Bool.{and_parts}
 use Rattle.std.proofs.lemmas.List.{length-append}
 use Rattle.lrc_trace.specs.declared.act.Act.{Act}
 use Rattle.lrc_trace.specs.declared.act.Deed.{Deed}
-use Rattle.lrc_trace.specs.declared.act.Deed.TheVariants.{Read, Acquire, Release, Arrive, Depart}
+use Rattle.lrc_trace.specs.declared.act.Deed.TheVariants.{Acquire, Release, Arrive, Depart}
 use Rattle.lrc_trace.specs.Run.{Does, is_arrive, is_depart, arrives_before, departs_before}
 use Rattle.lrc_trace.specs.Synchronization.{Holds, IsWellSynchronized}
 use Rattle.lrc_trace.proofs.Holding.{one_holder}
 use Rattle.lrc_trace.proofs.Intervals.{count_of-rises}
-use Rattle.lrc_trace.proofs.Positions.{Does-deed, Does-one_node, Does-one_deed, arrives_before-prefix, departs_before-prefix}
+use Rattle.lrc_trace.proofs.Positions.{Does-one_node, Does-one_deed, arrives_before-prefix, departs_before-prefix}
 use Rattle.lrc_trace.proofs.Prefixes.{Holds-longer}
 use Rattle.lrc_clock.specs.Times.{is_act, acts_at, releases_at, arrives_at, is_release}
 use Rattle.lrc_clock.proofs.Passing.{acts_at-act, releases_at-act, arrives_at-act}

@@ -1,6 +1,6 @@
 -- Where all runs are looked at, the outcomes are exactly those of the exact runs.
-use Rattle.std.proofs.Common.{◌≡◌, ℕ, zero, suc, ◌+◌, ◌<◌, ◌≤◌, List, [], ◌∷◌, ◌++◌, length, inl, inr, refl, sym, subst, ◌∙◌, ap, arith, append_assoc}
-use Rattle.std.specs.Prelude.{◌↔◌, ◌⊎◌, Some, slice_get}
+use Rattle.std.proofs.Common.{◌≡◌, ℕ, zero, suc, ◌+◌, ◌<◌, ◌≤◌, List, [], ◌∷◌, ◌++◌, length, inl, inr, sym, subst, ◌∙◌, ap, arith, append_assoc}
+use Rattle.std.specs.Prelude.{◌↔◌, ◌⊎◌}
 use Rattle.std.proofs.lemmas.List.{append-nil, length_push}
 use Rattle.std.proofs.lemmas.Option.{slice_get_within}
 use Rattle.lrc_lang.specs.declared.program.Program.{Program}
@@ -17,7 +17,7 @@ use Rattle.lrc_exact_outcomes.proofs.Fronting.{in_front}
 use Rattle.lrc_exact_outcomes.proofs.Running.{exact_front, may_come, one_deed}
 use Rattle.lrc_exact_search.specs.declared.search.Met.{Met}
 use Rattle.lrc_exact_search.specs.Run.{IsAhead, still, onward, IsFree}
-use Rattle.lrc_exact_search.specs.Searching.{AreRunsOf, IsMet, Parts, GoesOn, further, parts, IsSearched, AreSearched, AreInOrder}
+use Rattle.lrc_exact_search.specs.Searching.{AreRunsOf, IsMet, Parts, GoesOn, further, parts, IsSearched, AreSearched}
 
 -- ---- what lies ahead of a run
 

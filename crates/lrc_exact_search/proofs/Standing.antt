@@ -1,5 +1,5 @@
 -- What a run so far says of what its nodes can do next, and where that leads them.
-use Rattle.std.proofs.Common.{◌≡◌, ℕ, ◌+◌, ◌<◌, ◌≤◌, ◌^◌, ◌-◌, List, [], ◌∷◌, ◌++◌, length, drop, get_or, take, refl, sym, subst, ap, ◌∙◌, arith}
+use Rattle.std.proofs.Common.{◌≡◌, ℕ, ◌+◌, ◌<◌, ◌≤◌, List, [], ◌∷◌, ◌++◌, length, drop, get_or, take, refl, sym, subst, ap, ◌∙◌, arith}
 use Rattle.std.specs.Prelude.{Option, Some, None, option_map, slice_index, slice_set}
 use Rattle.std.proofs.lemmas.List.{get_or-set_same, length_push, take-append-drop, take_more}
 use Rattle.std.proofs.lemmas.Option.{same_Some}
@@ -7,14 +7,12 @@ use Rattle.lrc_lang.specs.declared.program.Program.{Program}
 use Rattle.lrc_trace.specs.declared.act.Act.{Act}
 use Rattle.lrc_trace.specs.declared.act.Deed.{Deed}
 use Rattle.lrc_trace.specs.declared.act.Deed.TheVariants.{Read}
-use Rattle.lrc_trace.specs.Run.{act_of, arrives_before, departs_before, is_depart}
+use Rattle.lrc_trace.specs.Run.{act_of, arrives_before, departs_before}
 use Rattle.lrc_trace.specs.Synchronization.{MayGoOn, WaitsAtBarriers}
 use Rattle.lrc_trace.proofs.Positions.{Does-last, Does-within}
 use Rattle.lrc_trace.proofs.Prefixes.{MayGoOn-last, WaitsAtBarriers-last}
 use Rattle.lrc_exec.specs.Meaning.{Thread, next_of}
-use Rattle.lrc_exec.specs.Plain.{Plain, plain_start, plain_step, thread_in}
-use Rattle.lrc_exec.specs.declared.spot.Flat.{Flat}
-use Rattle.lrc_exec.specs.declared.state.State.{State}
+use Rattle.lrc_exec.specs.Plain.{Plain, plain_step, thread_in}
 use Rattle.lrc_exec.specs.States.{plain_at, IsFirst, IsStateOf}
 use Rattle.lrc_exec.proofs.NextLaws.{next_of-fine}
 use Rattle.lrc_consistency_laws.specs.Follows.{Goes}
@@ -22,7 +20,7 @@ use Rattle.lrc_consistency_laws.proofs.Runs.{CanDo, is_sound}
 use Rattle.lrc_consistency_laws.proofs.UpToRace.{in_range}
 use Rattle.lrc_consistency_laws.proofs.Waiting.{waits_at_barriers}
 use Rattle.lrc_orders_laws.proofs.Parts.{stepped}
-use Rattle.lrc_lazy.specs.Following.{IsFlatOf, IsFollowed, MayFollow, machine_for, poked}
+use Rattle.lrc_lazy.specs.Following.{IsFollowed, MayFollow, machine_for, poked}
 use Rattle.lrc_lazy.specs.Lazy.{MayComeNext}
 use Rattle.lrc_lazy.specs.Standing.{with_memory}
 use Rattle.lrc_lazy.proofs.Coming.{may_go}
@@ -34,7 +32,6 @@ use Rattle.lrc_exact_laws.specs.Laws.{IsExactRun}
 use Rattle.lrc_exact_judge.specs.Current.{IsMemoryOf}
 use Rattle.lrc_exact_judge.specs.Shape.{shape_of}
 use Rattle.lrc_exact_judge.specs.declared.layout.Layout.{Layout}
-use Rattle.lrc_exact_judge.specs.declared.memory.Memory.{Memory}
 use Rattle.lrc_exact_judge.proofs.Reading.{one_read, reads-none}
 use Rattle.lrc_exact_outcomes.proofs.Running.{exact_front, exact_more}
 use Rattle.lrc_exact_search.specs.declared.run.ExactRun.{ExactRun}

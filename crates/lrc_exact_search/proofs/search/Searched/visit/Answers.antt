@@ -1,13 +1,8 @@
-use Rattle.std.proofs.Common.{◌≡◌, ◌∙◌, sym, subst, ap}
-use Rattle.std.specs.Prelude.{Some, slice_get}
-use Rattle.std.proofs.lemmas.Option.{same_Some}
-use Rattle.lrc_orders.proofs.Faults.{ok_says}
+use Rattle.std.proofs.Common.{◌∙◌, sym, subst, ap}
 use Rattle.lrc_orders.proofs.Keeping.{item_in}
 use Rattle.lrc_exact_laws.specs.Laws.{IsExactRun}
 use Rattle.lrc_exact_judge.specs.Shape.{shape_of}
 use Rattle.lrc_exact_search.specs.declared.search.Met.{Met}
-use Rattle.lrc_exact_search.specs.Run.{IsAhead}
-use Rattle.lrc_exact_search.specs.Searching.{IsSearched, further, parts}
 use Rattle.lrc_exact_search.proofs.search.Searched.visit.Goals as goal
 
 pub replayed-requires-clause-exact : goal.replayed-requires-clause-exact
