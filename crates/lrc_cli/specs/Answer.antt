@@ -44,9 +44,14 @@ use Rattle.lrc_chart_model.specs.declared.picture.Picture.{Picture}
 use Rattle.lrc_cli_runs.specs.Charted.{IsDrawn, part_of}
 use Rattle.lrc_chart_title.specs.Title.{title_text_of_acts}
 use Rattle.lrc_cli_args.specs.declared.choice.ForeignActs.{ForeignActs}
+use Rattle.lrc_cli_args.specs.declared.choice.ExactOptions.{ExactOptions}
 use Rattle.lrc_cli_args.specs.declared.choice.Exploring.{Exploring}
 use Rattle.lrc_cli_args.specs.declared.choice.Memory.{Memory}
-use Rattle.lrc_cli_args.specs.declared.choice.Memory.TheVariants.{Flat, Lazy}
+use Rattle.lrc_cli_args.specs.declared.choice.Memory.TheVariants.{Flat, Lazy, Exact}
+use Rattle.lrc_exact.specs.Rule.{Shape as MemoryShape}
+use Rattle.lrc_exact_search.specs.Searching.{MeetsMore as MeetsMoreExactly}
+use Rattle.lrc_exact_text.specs.Listed.{FitExactRuns, TellsExactOutcomes}
+use Rattle.lrc_exact_text.specs.One.{HasFewerExactOutcomes, TellsNumberedExactRun}
 use Rattle.lrc_lazy_text.specs.Listed.{FitLazyRuns, MetTooManyLazily, TellsLazyOutcomes}
 use Rattle.lrc_lazy_text.specs.One.{HasFewerLazyOutcomes, TellsNumberedLazyRun}
 use Rattle.lrc_cli_args.specs.declared.choice.OutcomeNumber.{OutcomeNumber}
@@ -134,12 +139,37 @@ IsLazyAnswer (Some outcome) outcomes exploring labels program places out status 
 IsLazyAnswer None true exploring labels program places out status = ShowsLazyOutcomes exploring program out status
 IsLazyAnswer None false exploring labels program places out status = ShowsOrders exploring labels program places out status
 
+-- the exact memory that is asked for, for the nodes
+abbrev pub exact_shape : ExactOptions → Exploring → MemoryShape
+exact_shape options exploring = record { nodes = exploring.nodes.count; size = words_of options.size; collect = options.collect.count }
+
+-- the text lists the outcomes of all exact runs, and the search met no more runs than it may
+abbrev pub ShowsExactOutcomes : ExactOptions → Exploring → Program → List ℕ → ℕ → Type 0
+ShowsExactOutcomes options exploring program out status = TellsExactOutcomes program (exact_shape options exploring) out × (status ≡ 0)
+    × FitExactRuns program (exact_shape options exploring) exploring.most.count
+
+-- the text shows an exact run that has the outcome of this number, and the search for the outcomes met no more runs than it may
+abbrev pub ShowsExactRun : ExactOptions → Exploring → Program → (places : List ℕ) → (number : ℕ) → List ℕ → ℕ → Type 0
+ShowsExactRun options exploring program places number out status =
+    TellsNumberedExactRun program (exact_shape options exploring) places number out × (status ≡ 0)
+    × FitExactRuns program (exact_shape options exploring) exploring.most.count
+
+-- of the exact memory: of the outcome that is asked for, of all outcomes, or else of every order, since races are the same
+abbrev pub IsExactAnswer : Option OutcomeNumber → (outcomes : Bool) → ExactOptions → Exploring → List Label → Program → (places : List ℕ) → List ℕ
+    → ℕ → Type 0
+IsExactAnswer (Some outcome) outcomes options exploring labels program places out status =
+    ShowsExactRun options exploring program places outcome.number out status
+IsExactAnswer None true options exploring labels program places out status = ShowsExactOutcomes options exploring program out status
+IsExactAnswer None false options exploring labels program places out status = ShowsOrders exploring labels program places out status
+
 -- of the memory that is asked for
 abbrev pub IsAnswerTo : Memory → Exploring → List Label → Program → (places : List ℕ) → List ℕ → ℕ → Type 0
 IsAnswerTo Flat exploring labels program places out status =
     IsFlatAnswer exploring.outcome exploring.ends exploring.ignores_races exploring labels program places out status
 IsAnswerTo Lazy exploring labels program places out status =
     IsLazyAnswer exploring.outcome exploring.outcomes exploring labels program places out status
+IsAnswerTo (Exact options) exploring labels program places out status =
+    IsExactAnswer exploring.outcome exploring.outcomes options exploring labels program places out status
 
 -- The text and the status are what is said of the program that this text is of, with the labels of the text.
 abbrev pub IsExploration : Exploring → List ℕ → Program → List ℕ → ℕ → Type 0
@@ -242,6 +272,22 @@ HasLazyRunFault exploring program number (TooManyStates most) = (most ≡ explor
 HasLazyRunFault exploring program number NoMemory = Unit {0}
 HasLazyRunFault exploring program number _ = ⊥
 
+-- of one through all exact runs
+abbrev pub HasExactFault : ExactOptions → Exploring → Program → Fault → Type 0
+HasExactFault options exploring program (TooManyStates most) =
+    (most ≡ exploring.most.count) × MeetsMoreExactly program (exact_shape options exploring) most
+HasExactFault options exploring program NoMemory = Unit {0}
+HasExactFault options exploring program _ = ⊥
+
+-- the same where the outcome of this number is asked for: there are fewer, too
+abbrev pub HasExactRunFault : ExactOptions → Exploring → Program → (number : ℕ) → Fault → Type 0
+HasExactRunFault options exploring program number (NoOutcome missed) =
+    (missed ≡ number) × HasFewerExactOutcomes program (exact_shape options exploring) number
+HasExactRunFault options exploring program number (TooManyStates most) =
+    (most ≡ exploring.most.count) × MeetsMoreExactly program (exact_shape options exploring) most
+HasExactRunFault options exploring program number NoMemory = Unit {0}
+HasExactRunFault options exploring program number _ = ⊥
+
 -- of one that looks for no race, and of one for ends
 abbrev pub HasFindingsFault : Exploring → Program → Fault → Type 0
 HasFindingsFault exploring program (TooManyStates most) = (most ≡ exploring.most.count) × MeetsTooMany program exploring.nodes.count most false
@@ -260,10 +306,16 @@ IsLazyFault (Some outcome) outcomes exploring program fault = HasLazyRunFault ex
 IsLazyFault None true exploring program fault = HasLazyFault exploring program fault
 IsLazyFault None false exploring program fault = HasOrdersFault exploring program fault
 
+abbrev pub IsExactFault : Option OutcomeNumber → (outcomes : Bool) → ExactOptions → Exploring → Program → Fault → Type 0
+IsExactFault (Some outcome) outcomes options exploring program fault = HasExactRunFault options exploring program outcome.number fault
+IsExactFault None true options exploring program fault = HasExactFault options exploring program fault
+IsExactFault None false options exploring program fault = HasOrdersFault exploring program fault
+
 -- the fault of a search through the runs of the memory that is asked for
 abbrev pub IsFaultIn : Memory → Exploring → Program → Fault → Type 0
 IsFaultIn Flat exploring program fault = IsFlatFault exploring.outcome exploring.ends exploring.ignores_races exploring program fault
 IsFaultIn Lazy exploring program fault = IsLazyFault exploring.outcome exploring.outcomes exploring program fault
+IsFaultIn (Exact options) exploring program fault = IsExactFault exploring.outcome exploring.outcomes options exploring program fault
 
 abbrev pub IsSearchFault : Exploring → Program → Fault → Type 0
 IsSearchFault exploring program fault = IsFaultIn exploring.memory exploring program fault

@@ -1,6 +1,8 @@
 // What the program answers to the command `explore`.
 
 ghost use Rattle.std.specs.Prelude.{◌≡◌, ◌≤◌, IfErr, IfOk, None};
+ghost use Rattle.lrc_cli.specs.Answer.{HasExactFault, HasExactRunFault, IsExactAnswer, IsExactFault, ShowsExactOutcomes, ShowsExactRun, exact_shape};
+ghost use Rattle.lrc_exact_judge.specs.Shape.{shape_of};
 ghost use Rattle.lrc_cli.specs.Answer.{HasFindingsFault, HasLazyFault, HasLazyRunFault, HasOrdersFault, HasOutcomeFault, IsExploration, IsFault, IsFlatAnswer, IsFlatFault};
 ghost use Rattle.lrc_cli.specs.Answer.{IsLazyAnswer, IsLazyFault, IsSearchFault, Prints, ShowsEnds, ShowsFindings, ShowsLazyOutcomes, ShowsLazyRun, ShowsOrders, ShowsOutcome, tries_asked};
 ghost use Rattle.lrc_cli_answer.specs.Labels.{labels_in};
@@ -10,7 +12,10 @@ ghost use Rattle.lrc_cli_args.specs.declared.choice.Choice.TheVariants.{Explore}
 
 use lrc_cli_answer::fault::Fault;
 use lrc_cli_answer::printout::{Printout, in_one};
-use lrc_cli_args::choice::{Exploring, Memory};
+use lrc_cli_args::choice::{ExactOptions, Exploring, Memory};
+use lrc_exact_judge::layout::Layout;
+use lrc_exact_text::listed::exact_outcomes_told;
+use lrc_exact_text::one::exact_run_told;
 use lrc_explore_text::ends::explored_ends;
 use lrc_explore_text::orders::findings_told;
 use lrc_explore_text::outcome_run::outcome_run_told;
@@ -53,6 +58,93 @@ fn all_orders(
     match exploring.memory {
         Memory::Flat => of_flat(alloc, exploring, text, program, &lines),
         Memory::Lazy => of_lazy(alloc, exploring, text, program, &lines),
+        Memory::Exact(options) => of_exact(alloc, exploring, options, text, program, &lines),
+    }
+}
+
+// What is said of the runs of the exact memory.
+fn of_exact(
+    alloc: Global,
+    exploring: &Exploring<'_>,
+    options: ExactOptions,
+    text: &[u8],
+    program: &Program,
+    lines: &[u32],
+) -> Result<Printout, Fault>
+    requires { IsTextOf text.now program.now }
+    ensures ok { IfOk result (λ printout.
+        IsExactAnswer exploring.now.outcome exploring.now.outcomes options exploring.now
+        (labels_in text.now program.now) program.now lines.now
+        (whole_text printout.parts.items) printout.status) }
+    ensures err { IfErr result (IsExactFault exploring.now.outcome exploring.now.outcomes options
+        exploring.now program.now) }
+{
+    match exploring.outcome {
+        Some(outcome) => one_exact_run(alloc, exploring, options, program, lines, outcome.number),
+        None if exploring.outcomes => all_exact_runs(alloc, exploring, options, program),
+        None => every_order(alloc, exploring, text, program, lines),
+    }
+}
+
+// How the exact memory is laid out for the nodes.
+fn layout_of(exploring: &Exploring<'_>, options: ExactOptions) -> Layout
+    ensures { shape_of result ≡ exact_shape options exploring.now }
+{
+    Layout {
+        nodes: exploring.nodes.number(),
+        page_words: u32::from(options.size.words()),
+        collect: options.collect.count,
+    }
+}
+
+// What is said of the outcomes of all exact runs.
+fn all_exact_runs(
+    alloc: Global,
+    exploring: &Exploring<'_>,
+    options: ExactOptions,
+    program: &Program,
+) -> Result<Printout, Fault>
+    ensures ok { IfOk result (λ printout.
+        ShowsExactOutcomes options exploring.now program.now
+        (whole_text printout.parts.items) printout.status) }
+    ensures err { IfErr result (HasExactFault options exploring.now program.now) }
+{
+    let most = exploring.most.count;
+    let layout = layout_of(exploring, options);
+    match exact_outcomes_told(alloc, program, layout, most as usize) {
+        Ok(parts) => Ok(Printout { parts, status: 0 }),
+        Err(ExploreFault::TooMany) => Err(Fault::TooManyStates(most)),
+        Err(ExploreFault::NoMemory) => Err(Fault::NoMemory),
+        Err(ExploreFault::BadNodes) => unreachable!(),
+    }
+}
+
+// What is said of the outcome of this number of all exact runs.
+fn one_exact_run(
+    alloc: Global,
+    exploring: &Exploring<'_>,
+    options: ExactOptions,
+    program: &Program,
+    lines: &[u32],
+    number: u64,
+) -> Result<Printout, Fault>
+    requires { 1 ≤ number }
+    ensures ok { IfOk result (λ printout.
+        ShowsExactRun options exploring.now program.now lines.now number
+        (whole_text printout.parts.items) printout.status) }
+    ensures err { IfErr result (HasExactRunFault options exploring.now program.now number) }
+{
+    let most = exploring.most.count;
+    let layout = layout_of(exploring, options);
+    match exact_run_told(alloc, program, lines, layout, most as usize, number) {
+        Ok(Some(text)) => Ok(Printout {
+            parts: in_one(alloc, text)?,
+            status: 0,
+        }),
+        Ok(None) => Err(Fault::NoOutcome(number)),
+        Err(ExploreFault::TooMany) => Err(Fault::TooManyStates(most)),
+        Err(ExploreFault::NoMemory) => Err(Fault::NoMemory),
+        Err(ExploreFault::BadNodes) => unreachable!(),
     }
 }
 

@@ -284,7 +284,13 @@ explore_keyed = (
                 record { own = refl; acts = inr (inl (refl, lit< tt)) },
                 (
                   record { own = refl; acts = inr (inl (refl, lit< tt)) },
-                  (record { own = refl; acts = inr (inr refl) }, tt),
+                  (
+                    record { own = refl; acts = inl (refl, lit< tt) },
+                    (
+                      record { own = refl; acts = inl (refl, lit< tt) },
+                      (record { own = refl; acts = inr (inr refl) }, tt),
+                    ),
+                  ),
                 ),
               ),
             ),
@@ -516,6 +522,8 @@ explore_taken words none =
       tries = bare_taken explore_built rows level (codes "tries") refl;
       races = flag_taken explore_built rows level (codes "ignore-races") refl;
       ends = flag_taken explore_built rows level (codes "ends") refl;
+      page = level.there (filled page) refl (lit< tt);
+      collect = number_taken explore_built rows level (codes "collect") (codes "0") refl;
     }
 
 lint_taken : (words : List Text) → level_fault lint_built [] nothing_held words false [] ≡ [] → HasValue (codes "FILE") (rows_after lint_built.rules [] words)
