@@ -32,10 +32,10 @@ module _ (form : Form) (held : Held) (noter : Noter) where
       record { lines = k.lines; first = k.first; meant = omega arith; so = k.so }
   known_explained less whys.lacking k = tt
 
-  pub known_stopped : {events : List Event} {first last : ℕ} {stop : Stop} {answer : Answer} → IsStopAnswered events first stop answer
+  pub known_stopped : (last : ℕ) {events : List Event} {first : ℕ} {stop : Stop} {answer : Answer} → IsStopAnswered events first stop answer
       → IsKnownAt form held noter stop → IsKnown form held last noter answer
-  known_stopped {first = first} {stop = stop} (whys.none behind no) k = known_behind form held noter first stop behind k
-  known_stopped (whys.why has) k = k
+  known_stopped last {first = first} {stop = stop} (whys.none behind lacks) k = known_behind form held noter first stop behind k
+  known_stopped last (whys.why has) k = k
 
   pub known_answered : {kept : Kept} {first second : ℕ} {answer : Answer} → IsAnswered kept first second answer
       → IsOf held (λ lines. length lines ≡ second) (λ lines. HasNoted form lines noter) → IsKnown form held second noter answer

@@ -46,21 +46,21 @@ module _ {K : Type 0} (Has : Sought → Keeping K) (sought : Sought) (form : For
   kept_bad_in (bad_line lines rest is_cut few b) = bad_line lines rest is_cut few (kept_bad_at b)
   kept_bad_in (bad_rest lines rest is_cut few long b) = bad_rest lines rest is_cut few long (kept_bad_at b)
 
-  kept_stops : {bytes : List ℕ} (fault : Fault) → Stops (HasBoth Has sought) form last bytes noting fault
+  kept_stops : (bytes : List ℕ) (fault : Fault) → Stops (HasBoth Has sought) form last bytes noting fault
       → Stops (Has sought) form last bytes noting.kept fault
-  kept_stops (faults.BadEvent line why) b = kept_bad_in b
-  kept_stops faults.NoMemory b = tt
+  kept_stops bytes (faults.BadEvent line why) b = kept_bad_in b
+  kept_stops bytes faults.NoMemory b = tt
 
-  kept_fails : {bytes : List ℕ} (fault : Fault) → Fails (HasBoth Has sought) form last bytes noting fault
+  kept_fails : (bytes : List ℕ) (fault : Fault) → Fails (HasBoth Has sought) form last bytes noting fault
       → Fails (Has sought) form last bytes noting.kept fault
-  kept_fails (faults.BadEvent line why) b = record { lines = b.lines; rest = b.rest; cut = b.cut; few = b.few; bad = kept_bad_at b.bad }
-  kept_fails faults.NoMemory b = tt
+  kept_fails bytes (faults.BadEvent line why) b = record { lines = b.lines; rest = b.rest; cut = b.cut; few = b.few; bad = kept_bad_at b.bad }
+  kept_fails bytes faults.NoMemory b = tt
 
   pub kept_stop : {held : Held} {stop : Stop} → IsStop (HasBoth Has sought) form last held noting stop
       → IsStop (Has sought) form last held noting.kept stop
   kept_stop (past lines are has counted few) = past lines are has.0 counted few
-  kept_stop (bad bytes left {fault = fault} read stops) = bad bytes left read (kept_stops fault stops)
-  kept_stop (cut bytes left {fault = fault} read end fails) = cut bytes left read end (kept_fails fault fails)
+  kept_stop (bad bytes left {fault = fault} read stops) = bad bytes left read (kept_stops bytes fault stops)
+  kept_stop (cut bytes left {fault = fault} read end fails) = cut bytes left read end (kept_fails bytes fault fails)
   kept_stop exhausted = exhausted
   kept_stop (unread bytes left lines rest read is_cut few has cause) = unread bytes left lines rest read is_cut few has.0 cause
 
@@ -160,6 +160,10 @@ part_of form held last noter part (Answered printed status) is k = noted_all is 
 part_of form held last noter part (NoEvent line) is k = noted_first line is k
 part_of form held last noter part (Stopped stop) is k = part_at form held last noter part stop is k
 
+pub none_at : (noter : Noter) → noter ≡ record { marked = false; blank = None } → (told : Noter) (stop : Stop)
+    → stop ≡ Faulted faults.NoMemory → IsPartAt told stop noter
+none_at noter is told stop same = subst (λ (s : Stop). IsPartAt told s noter) (sym same) (ap notes_of is)
+
 pub new_notes : (noter : Noter) → noter ≡ record { marked = false; blank = None } → notes_of noter ≡ []
 new_notes noter is = ap notes_of is
 
@@ -171,5 +175,5 @@ kept_appends (Some bytes) (Some more) keeps = keeps ∙ sym (append-nil bytes)
 pub noted_so : {noter : Noter} {answer result : Answer} {err err' : Option (List ℕ)} (P : Answer → Type 0) (form : Form) (held : Held) (last : ℕ)
     → P (Stopped (Faulted faults.NoMemory)) → IsNotedBefore noter answer err err' result → P answer → IsKnown form held last noter answer
     → P result × Notes form held last result err err'
-noted_so P form held last lack (noted text so told) p known = (p, text, so form held last known, told)
-noted_so {err = err} {err' = err'} P form held last lack (lacking keeps) p known = (lack, [], refl, inl (kept_appends err err' keeps))
+noted_so P form held last lack (noted text so told) p known = (p, (text, so form held last known, told))
+noted_so {err = err} {err' = err'} P form held last lack (lacking keeps) p known = (lack, ([], refl, inl (kept_appends err err' keeps)))

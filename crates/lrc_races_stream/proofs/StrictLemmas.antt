@@ -70,7 +70,7 @@ tells form lines said naming events (Some ill) says trace (Some fault, first, an
 pub kept_tells : (kept : Kept) (events : List Event) (result : Result (Option Ill) AllocError) → events ≡ kept.events.items
     → IfOk result (IsFirstIllOf (naming_of kept.names) events) → IfOk result (TellsIll (λ (sought : Sought). HasKept) kept)
 kept_tells kept events (Err error) same finds = tt
-kept_tells kept events (Ok ill) same finds sought form lines h =
+kept_tells kept events (Ok ill) same finds = λ sought form lines h.
     tells form lines h.said (naming_of kept.names) kept.events.items ill h.says h.trace
     (subst (λ (es : List Event). IsFirstIllOf (naming_of kept.names) es ill) same finds)
 
@@ -78,7 +78,7 @@ pub located_tells : (located : Located) (fault : Option IllEvent) (result : Resu
     → ((events : List Event) (n : ℕ) → HasLooked events n located.finder → IsFirstFault events n fault)
     → IfOk result (IsIllIfAny (naming_of located.names) fault) → IfOk result (TellsIll IsLocated located)
 located_tells located fault (Err error) finds any = tt
-located_tells located fault (Ok ill) finds any sought form lines h =
+located_tells located fault (Ok ill) finds any = λ sought form lines h.
     let k = h.kept in
     let looked = subst (λ (es : List Event). HasLooked es (length k.events) located.finder) (append-nil k.events) (k.looked []) in
     tells form lines h.said (naming_of located.names) k.events ill h.says (record { names = k.naming; numbered = k.are })

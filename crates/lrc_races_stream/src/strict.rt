@@ -45,13 +45,14 @@ fn heed<K: Vet>(alloc: Global, strict: bool, kept: &K) -> Result<(), Stop>
     ensures none { OnOk result (HasNone strict K.has_kept kept.now) }
     ensures ill { IfErr result (IsIllFound strict K.has_kept kept.now) }
 {
-    if !strict {
-        return Ok(());
-    }
-    match kept.ill(alloc) {
-        Ok(Some(ill)) => Err(Stop::IllFormed(ill)),
-        Ok(None) => Ok(()),
-        Err(_error) => Err(Stop::Faulted(Fault::NoMemory)),
+    if strict {
+        match kept.ill(alloc) {
+            Ok(Some(ill)) => Err(Stop::IllFormed(ill)),
+            Ok(None) => Ok(()),
+            Err(_error) => Err(Stop::Faulted(Fault::NoMemory)),
+        }
+    } else {
+        Ok(())
     }
 }
 

@@ -7,13 +7,13 @@ use Rattle.lrc_races_stream.proofs.locating.play_locations.Goals as goal
 
 pub returns-then-eq : goal.returns-then-eq
 returns-then-eq g c =
-    played _ c.tell_locations.ensures.0 c.tell_locations.ensures.2 (inl (is_dash c.args.path.now c.eq.result c.eq.ensures c.if-eq.true, c.open_input-trace.ensures))
-    c.tell_locations.ensures.1 c.tell_locations.ensures.3 c.tell_locations.ensures.4
+    played _ c.tell_locations.ensures.0 c.tell_locations.ensures.2.0 (inl (is_dash c.args.path.now c.eq.result c.eq.ensures c.if-eq.true, c.open_input-trace.ensures))
+    c.tell_locations.ensures.1 c.tell_locations.ensures.2.1 c.tell_locations.ensures.2.2
 
 pub returns-in-Ok : goal.returns-in-Ok
 returns-in-Ok g c =
-    played _ c.tell_locations-in-Ok.ensures.0 c.tell_locations-in-Ok.ensures.2 (inr (is_other c.args.path.now c.eq.result c.eq.ensures c.if-eq.false, c.in-Ok.ensures.ok))
-    c.tell_locations-in-Ok.ensures.1 c.tell_locations-in-Ok.ensures.3 c.tell_locations-in-Ok.ensures.4
+    played _ c.tell_locations-in-Ok.ensures.0 c.tell_locations-in-Ok.ensures.2.0 (inr (is_other c.args.path.now c.eq.result c.eq.ensures c.if-eq.false, c.in-Ok.ensures.ok))
+    c.tell_locations-in-Ok.ensures.1 c.tell_locations-in-Ok.ensures.2.1 c.tell_locations-in-Ok.ensures.2.2
 
 pub returns-in-Err : goal.returns-in-Err
 returns-in-Err g c =

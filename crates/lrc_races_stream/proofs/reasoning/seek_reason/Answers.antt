@@ -21,5 +21,5 @@ pub returns-in-Err : goal.returns-in-Err
 returns-in-Err g c held u = (
   stop_answered c.args.strict c.args.form held c.args.first c.args.second _ _ _ (c.in-Err.ensures.halt AllRaces c.args.form c.args.second held u)
       c.stopped.ensures,
-  known_stopped c.args.form held _ c.stopped.ensures (c.in-Err.ensures.known_halt AllRaces c.args.form c.args.second held u),
+  known_stopped c.args.form held _ c.args.second c.stopped.ensures (c.in-Err.ensures.known_halt AllRaces c.args.form c.args.second held u),
 )

@@ -6,8 +6,8 @@ use Rattle.lrc_races_stream.specs.Strict.{TellsIll}
 use Rattle.lrc_races_stream.proofs.StrictLemmas.{found_ill, found_none, lenient}
 use Rattle.lrc_races_stream.proofs.strict.heed.Goals as goal
 
-pub returns-then-strict-clause-none : goal.returns-then-strict-clause-none
-returns-then-strict-clause-none g c = lenient c.args.strict g.K.Keep.has_kept c.args.kept.now c.if-strict.false
+pub returns-else-strict-clause-none : goal.returns-else-strict-clause-none
+returns-else-strict-clause-none g c = lenient c.args.strict g.K.Keep.has_kept c.args.kept.now c.if-strict.false
 
 pub returns-in-Ok-Some-clause-ill : goal.returns-in-Ok-Some-clause-ill
 returns-in-Ok-Some-clause-ill g c =
