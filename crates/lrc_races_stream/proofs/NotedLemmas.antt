@@ -160,10 +160,6 @@ part_of form held last noter part (Answered printed status) is k = noted_all is 
 part_of form held last noter part (NoEvent line) is k = noted_first line is k
 part_of form held last noter part (Stopped stop) is k = part_at form held last noter part stop is k
 
-pub none_at : (noter : Noter) → noter ≡ record { marked = false; blank = None } → (told : Noter) (stop : Stop)
-    → stop ≡ Faulted faults.NoMemory → IsPartAt told stop noter
-none_at noter is told stop same = subst (λ (s : Stop). IsPartAt told s noter) (sym same) (ap notes_of is)
-
 pub new_notes : (noter : Noter) → noter ≡ record { marked = false; blank = None } → notes_of noter ≡ []
 new_notes noter is = ap notes_of is
 

@@ -1,6 +1,6 @@
 // What is noted on standard error of the lines of a trace that are read.
 
-ghost use Rattle.std.specs.Prelude.{◌≡◌, IfOk};
+ghost use Rattle.std.specs.Prelude.{◌≡◌, [], IfOk};
 ghost use Rattle.lrc_races_notes.specs.Noter.{notes_of};
 ghost use Rattle.lrc_races_stream.specs.Noted.{IsNotedBefore, IsPartAt, IsPartOf};
 
@@ -12,6 +12,13 @@ use lrc_shell_sources::refusal::tell_line;
 use std::alloc::{AllocError, Global};
 use std::io::Write;
 
+// Nothing to be noted.
+fn nothing() -> Noter
+    ensures { notes_of result ≡ [] }
+{
+    Noter::new()
+}
+
 // What is to be noted where a trace is read no further.
 fn noted_at(stop: &Stop, noter: Noter) -> Noter
     ensures { IsPartAt noter stop.now result }
@@ -19,7 +26,7 @@ fn noted_at(stop: &Stop, noter: Noter) -> Noter
     match stop {
         Stop::Past(_last) => noter,
         Stop::Faulted(Fault::BadEvent(_line, _why)) => noter,
-        Stop::Faulted(Fault::NoMemory) => Noter::new(),
+        Stop::Faulted(Fault::NoMemory) => nothing(),
         Stop::IllFormed(ill) => noter.up_to(ill.line),
         Stop::Unread(_kind) => noter,
     }
