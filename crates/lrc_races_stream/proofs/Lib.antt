@@ -6,5 +6,6 @@ mod Paths
 mod Reached
 mod SeekerLemmas
 mod StrictLemmas
+mod HearingLemmas
 mod KnownLemmas
 mod NotedLemmas
