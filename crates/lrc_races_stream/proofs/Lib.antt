@@ -9,3 +9,4 @@ mod StrictLemmas
 mod HearingLemmas
 mod KnownLemmas
 mod NotedLemmas
+mod ScoreLemmas
