@@ -9,4 +9,3 @@ mod StrictLemmas
 mod HearingLemmas
 mod KnownLemmas
 mod NotedLemmas
-mod ScoreLemmas
