@@ -1,6 +1,5 @@
 pub mod Answer
 pub mod Comes
-pub mod Heard
 pub mod Lines
 pub mod Locations
 pub mod Noted

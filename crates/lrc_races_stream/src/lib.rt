@@ -4,7 +4,6 @@
 #![tactic(auto)]
 
 mod answer;
-mod hearing;
 mod lines;
 mod locating;
 mod noted;
