@@ -19,7 +19,7 @@ use Rattle.lrc_races_claims.specs.Truth.{IsJudged}
 -- it judges claims about this trace: what it has found out so far is so
 pub record IsJudge (sought : Sought) (naming : Naming) (events : List Event) (last : ℕ) (judge : Judge) : Type 0 where
   pub lines : judge.last ≡ last
-  pub sought : judge.sought ≡ sought
+  pub seeks : judge.sought ≡ sought
   pub asks : judge.asker.sought ≡ sought
   pub asking : IsAsking events judge.asker
   pub variables : naming.variables ≡ known_names judge.variables
