@@ -72,7 +72,7 @@ module _ (sought : Sought) (naming : Naming) (events : List Event) (last : ℕ) 
       → IsJudge sought naming events last (record judge { variables = variables })
   with_variables variables e = record {
     lines = is.lines;
-    sought = is.sought;
+    seeks = is.seeks;
     asks = is.asks;
     asking = is.asking;
     variables = is.variables ∙ sym e;
@@ -85,14 +85,14 @@ module _ (sought : Sought) (naming : Naming) (events : List Event) (last : ℕ) 
   pub with_facts : (facts : Facts) → AreFacts judge.sought events facts → IsJudge sought naming events last (record judge { facts = Some facts })
   with_facts facts are = record {
     lines = is.lines;
-    sought = is.sought;
+    seeks = is.seeks;
     asks = is.asks;
     asking = is.asking;
     variables = is.variables;
     threads = is.threads;
     locations = is.locations;
     facts = λ other e.
-        subst (λ (f : Facts). AreFacts sought events f) (same_Some facts other e) (subst (λ (s : Sought). AreFacts s events facts) is.sought are);
+        subst (λ (f : Facts). AreFacts sought events f) (same_Some facts other e) (subst (λ (s : Sought). AreFacts s events facts) is.seeks are);
     places = is.places;
   }
 
@@ -100,7 +100,7 @@ module _ (sought : Sought) (naming : Naming) (events : List Event) (last : ℕ) 
       → IsJudge sought naming events last (record judge { places = Some places })
   with_places places are = record {
     lines = is.lines;
-    sought = is.sought;
+    seeks = is.seeks;
     asks = is.asks;
     asking = is.asking;
     variables = is.variables;
@@ -110,7 +110,7 @@ module _ (sought : Sought) (naming : Naming) (events : List Event) (last : ℕ) 
     places = λ other e.
         subst (λ (p : Places). ArePlaces sought naming events p) (same_Some places other e)
         (same_places sought (naming_of judge.names) naming events places (sym is.locations)
-        (subst (λ (s : Sought). ArePlaces s (naming_of judge.names) events places) is.sought are));
+        (subst (λ (s : Sought). ArePlaces s (naming_of judge.names) events places) is.seeks are));
   }
 
   -- and places that were looked for
@@ -118,7 +118,7 @@ module _ (sought : Sought) (naming : Naming) (events : List Event) (last : ℕ) 
       → IsJudge sought naming events last (record judge { places = Some after })
   with_same_places places after has same = record {
     lines = is.lines;
-    sought = is.sought;
+    seeks = is.seeks;
     asks = is.asks;
     asking = is.asking;
     variables = is.variables;
@@ -134,7 +134,7 @@ module _ (sought : Sought) (naming : Naming) (events : List Event) (last : ℕ) 
       → IsJudge sought naming events last (record judge { asker = asker })
   with_asker asker e asking = record {
     lines = is.lines;
-    sought = is.sought;
+    seeks = is.seeks;
     asks = e ∙ is.asks;
     asking = asking;
     variables = is.variables;
