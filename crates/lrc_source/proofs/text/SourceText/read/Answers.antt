@@ -15,7 +15,7 @@ memory_up p (Err f) fault is h = subst IsOutOfMemory (sym is) h
 
 pub returns-in_err-program-clause-of_program : goal.returns-in_err-program-clause-of_program
 returns-in_err-program-clause-of_program c p is =
-    memory_up p c.from_residual.result c.in_err-program.field-0.0 c.from_residual.ensures.1 
+    memory_up p c.from_residual.result c.in_err-program.field-0.0 c.from_residual.ensures.1
     (c.in_err-program.ensures.of_program p (subst (λ (t : List ℕ). IsText t p) (sym c.core.ensures) is))
 
 pub returns-in-Ok-clause-of_program : goal.returns-in-Ok-clause-of_program
