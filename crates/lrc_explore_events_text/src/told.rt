@@ -1,12 +1,13 @@
 // Events along the order that a search tells, of those of its lines.
 
-ghost use Rattle.std.specs.Prelude.{◌≡◌, ◌≢◌, IfErr, IfOk, option_map, is_some, Bool, false, true};
+ghost use Rattle.std.specs.Prelude.{◌≡◌, ◌≢◌, IfErr, IfOk, None, option_map, is_some, Bool, false, true};
 ghost use Rattle.lrc_exec.specs.Nodes.{AreNodes};
 ghost use Rattle.lrc_explore.specs.Answers.{FitsSettled, IsAnswer, MetTooMany};
 ghost use Rattle.lrc_explore_ends.specs.Answers.{GoesThrough, IsEndAnswer};
 ghost use Rattle.lrc_explore_text.specs.Ends.{ends_status};
 ghost use Rattle.lrc_explore_text.specs.Orders.{findings_status};
 ghost use Rattle.lrc_orders.specs.Verdict.{AreFindings, EndsInRace, FindsNoRace};
+ghost use Rattle.lrc_explore_events_text.specs.declared.told.Line.TheVariants.{First};
 ghost use Rattle.lrc_explore_events_text.specs.Shows.{ShowsCauses, ShowsFound, ShowsLine, ShowsRace, TellsEndIf, chosen};
 
 use crate::showing::{events_shown, order_shown};
@@ -229,11 +230,41 @@ fn chosen<'o>(
         (option_map (λ order. order.items) trap.now) (option_map (λ order. order.items) end.now) }
 {
     match line {
-        Line::First if stuck.is_some() => order_in(stuck),
-        Line::First if trap.is_some() => order_in(trap),
-        Line::First | Line::End => order_in(end),
+        Line::First => first_in(stuck, trap, end),
         Line::Stuck => order_in(stuck),
         Line::Trap => order_in(trap),
+        Line::End => order_in(end),
+    }
+}
+
+// The first order that is there.
+fn first_in<'o>(
+    stuck: &'o Option<Vec<usize>>,
+    trap: &'o Option<Vec<usize>>,
+    end: &'o Option<Vec<usize>>,
+) -> Option<&'o [usize]>
+    ensures { option_map (λ order. order.now) result
+        ≡ chosen First (option_map (λ order. order.items) stuck.now)
+        (option_map (λ order. order.items) trap.now) (option_map (λ order. order.items) end.now) }
+{
+    match stuck {
+        Some(order) => Some(order.as_slice()),
+        None => first_behind(trap, end),
+    }
+}
+
+// The same, where no order gets stuck.
+fn first_behind<'o>(
+    trap: &'o Option<Vec<usize>>,
+    end: &'o Option<Vec<usize>>,
+) -> Option<&'o [usize]>
+    ensures { option_map (λ order. order.now) result
+        ≡ chosen First None (option_map (λ order. order.items) trap.now)
+        (option_map (λ order. order.items) end.now) }
+{
+    match trap {
+        Some(order) => Some(order.as_slice()),
+        None => order_in(end),
     }
 }
 
@@ -252,9 +283,12 @@ fn status_of(stuck: &Option<Vec<usize>>, trap: &Option<Vec<usize>>, end: &Option
     ensures { result ≡ ends_status (findings_status (is_some stuck.now) (is_some trap.now))
         (is_some end.now) }
 {
-    if stuck.is_some() || trap.is_some() || end.is_some() {
-        4
-    } else {
-        0
-    }
+    status_where(stuck.is_some(), trap.is_some(), end.is_some())
+}
+
+// The same, where it is known which orders are there.
+fn status_where(stuck: bool, trap: bool, end: bool) -> u8
+    ensures { result ≡ ends_status (findings_status stuck trap) end }
+{
+    if stuck || trap || end { 4 } else { 0 }
 }

@@ -1,5 +1,6 @@
 use Rattle.std.proofs.Common.{◌∙◌, List, ℕ, Option, Vec, Global, ap₂, subst, sym}
 use Rattle.std.specs.Prelude.{option_map}
+use Rattle.std.specs.Borrow.{Bor}
 use Rattle.lrc_explore_text.specs.Ends.{ends_status}
 use Rattle.lrc_explore_text.specs.Orders.{findings_status}
 use Rattle.lrc_explore_events_text.specs.Shows.{ShowsOrder}
@@ -15,7 +16,7 @@ order_shown-requires-clause-led c =
     let nodes = c.args.nodes in
     let found = c.args.found.now in
     let end = items_of c.args.end.now in
-    led_there program nodes (λ o. o.now) c.chosen-order.result
+    led_there program nodes (λ (o : Bor (List ℕ)). o.now) c.chosen-order.result
     (subst (IsLed program nodes) (sym c.chosen-order.ensures)
     (chosen_led program nodes c.args.line (items_of found.stuck) (items_of found.trap) end (stuck_led program nodes (items_of found.stuck) c.requires.found.stuck)
     (trap_led program nodes (items_of found.trap) c.requires.found.trap) (end_led program nodes c.requires.end.0 end c.requires.end.1)))
