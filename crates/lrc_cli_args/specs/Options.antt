@@ -78,6 +78,10 @@ tries_in = some_number_in (codes "tries")
 abbrev pub texts_of : Bor (List (Bor Text)) → List Text
 texts_of texts = map (λ text. text.now) texts.now
 
+-- the report that is to be judged, if `--score` is named
+abbrev pub report_in : List Row → Option Text
+report_in = first_of (codes "score")
+
 -- the lines that `--why` is given, if it is named
 abbrev pub reasons_in : List Row → Option (List Text)
 reasons_in = all_of (codes "why")
@@ -386,19 +390,21 @@ IsGrouping rows groupings.Each = IsFlag (codes "group") false rows × IsFlag (co
 IsGrouping rows groupings.Groups = IsFlag (codes "group") true rows × IsFlag (codes "locations") false rows
 IsGrouping rows groupings.Locations = IsFlag (codes "group") false rows × IsFlag (codes "locations") true rows
 
--- One question among these options: reasons or a witness are asked for alone, and neither beside groups nor beside pairs of locations.
-abbrev pub IsOneOf : Grouping → (reasons witness : Option (List Text)) → Question → Type 0
-IsOneOf grouping reasons witness (questions.Told told) = (grouping ≡ told) × (reasons ≡ None) × (witness ≡ None)
-IsOneOf grouping reasons witness (questions.Reasoned texts) =
-    (grouping ≡ groupings.Each) × (reasons ≡ Some (texts_of texts)) × (witness ≡ None)
-IsOneOf grouping reasons witness (questions.Witnessed texts) =
-    (grouping ≡ groupings.Each) × (reasons ≡ None) × (witness ≡ Some (texts_of texts))
+-- One question among these options: a report, reasons or a witness are asked for alone, and neither beside groups nor beside pairs of locations.
+abbrev pub IsOneOf : Grouping → (report : Option Text) → (reasons witness : Option (List Text)) → Question → Type 0
+IsOneOf grouping report reasons witness (questions.Told told) = (grouping ≡ told) × (report ≡ None) × (reasons ≡ None) × (witness ≡ None)
+IsOneOf grouping report reasons witness (questions.Scored path) =
+    (grouping ≡ groupings.Each) × (report ≡ Some path.now) × (reasons ≡ None) × (witness ≡ None)
+IsOneOf grouping report reasons witness (questions.Reasoned texts) =
+    (grouping ≡ groupings.Each) × (report ≡ None) × (reasons ≡ Some (texts_of texts)) × (witness ≡ None)
+IsOneOf grouping report reasons witness (questions.Witnessed texts) =
+    (grouping ≡ groupings.Each) × (report ≡ None) × (reasons ≡ None) × (witness ≡ Some (texts_of texts))
 
 -- what these matches ask of a trace
 pub record IsQuestion (rows : List Row) (question : Question) : Type 0 where
   pub grouping : Grouping
   pub grouped : IsGrouping rows grouping
-  pub one : IsOneOf grouping (reasons_in rows) (witness_in rows) question
+  pub one : IsOneOf grouping (report_in rows) (reasons_in rows) (witness_in rows) question
 
 -- The order of which events are shown that a word names: the first where there is no word.
 abbrev pub IsTell : Option Text → Tell → Type 0
@@ -532,10 +538,13 @@ HasExactMisfit rows misfit =
     ⊎ ((misfit ≡ unfit.Number) × (first_of (codes "memory") rows ≡ Some (codes "exact"))
     × ((size : Size) × IsPageSize (first_of (codes "page") rows) size) × IsOutOfRange 0 1000000 (collect_in rows))
 
--- Beside what is asked of a trace: the order of two events and a sure race stand neither with sure races nor with objects, and a trace that
--- may be read twice is not standard input; then what are no two lines.
+-- Beside what is asked of a trace: a report that is to be judged stands with no objects, and is not standard input where the trace is; the
+-- order of two events and a sure race stand neither with sure races nor with objects, and a trace that may be read twice is not standard
+-- input; then what are no two lines.
 abbrev pub HasMisfitBeside : List Row → Question → Misfit → Type 0
 HasMisfitBeside rows (questions.Told grouping) misfit = ⊥
+HasMisfitBeside rows (questions.Scored report) misfit = (misfit ≡ unfit.Score)
+    × (IsFlag (codes "json") true rows ⊎ ((first_of (codes "FILE") rows ≡ Some (codes "-")) × (report.now ≡ codes "-")))
 HasMisfitBeside rows (questions.Reasoned texts) misfit = ((misfit ≡ unfit.Reasons) × (IsFlag (codes "sure") true rows ⊎ IsFlag (codes "json") true rows))
     ⊎ ((misfit ≡ unfit.ReasonLines) × IsFlag (codes "sure") false rows × IsFlag (codes "json") false rows
     × ((lines : LinePair) → ¬ AreLines (texts_of texts) lines))

@@ -72,7 +72,10 @@ const BAD_SOURCE: &str = "the argument '--source' cannot be used with '--text'";
 const BAD_TRACE_FORM: &str = "invalid value for '--as <FORM>': it is std or acts";
 
 const BAD_QUESTIONS: &str =
-    "the arguments '--group', '--locations', '--why <I> <J>' and '--witness <I> <J>' cannot be used with one another";
+    "the arguments '--group', '--locations', '--score <REPORT>', '--why <I> <J>' and '--witness <I> <J>' cannot be used with one another";
+
+const BAD_SCORE: &str =
+    "the argument '--score <REPORT>' cannot be used with '--json', or where FILE and REPORT are '-'";
 
 const BAD_REASONS: &str = "the argument '--why <I> <J>' cannot be used with '--sure' or '--json'";
 
@@ -147,6 +150,8 @@ pub(crate) enum Misfit {
     TraceForm,
     /// More than one thing is asked of a trace.
     Questions,
+    /// A report is to be judged, but objects are asked for, or both the trace and the report are standard input.
+    Score,
     /// It is asked how two events are ordered, but sure races or objects are asked for too.
     Reasons,
     /// The values of `--why` are not the numbers of two lines, the lesser one first.
@@ -218,6 +223,7 @@ fn usage_kind(misfit: Misfit) -> ErrorKind
         | Misfit::Events
         | Misfit::Tell
         | Misfit::Questions
+        | Misfit::Score
         | Misfit::Reasons
         | Misfit::Witness
         | Misfit::TextSource
@@ -256,6 +262,7 @@ fn message_of(misfit: Misfit) -> &'static str {
         Misfit::Topic => BAD_TOPIC,
         Misfit::TraceForm => BAD_TRACE_FORM,
         Misfit::Questions => BAD_QUESTIONS,
+        Misfit::Score => BAD_SCORE,
         Misfit::Reasons => BAD_REASONS,
         Misfit::ReasonLines => BAD_REASON_LINES,
         Misfit::Witness => BAD_WITNESS,

@@ -141,9 +141,9 @@ abbrev pub line_pair : Text → Rule
 line_pair name = record (new_rule name) { long = Some name; value_names = 2 }
 
 abbrev pub races_command : App
-races_command = with_rule (with_rule (with_rule (with_rule (with_rule (with_rule (with_rule (with_rule (with_rule (new_app (codes "races")) file)
+races_command = with_rule (with_rule (with_rule (with_rule (with_rule (with_rule (with_rule (with_rule (with_rule (with_rule (new_app (codes "races")) file)
     trace_form) (flag_option (codes "group"))) (flag_option (codes "locations"))) (flag_option (codes "sure"))) (flag_option (codes "json")))
-    (flag_option (codes "strict"))) (line_pair (codes "why"))) (line_pair (codes "witness"))
+    (flag_option (codes "strict"))) (option (codes "score"))) (line_pair (codes "why"))) (line_pair (codes "witness"))
 
 -- what help is wanted on need not be given
 abbrev pub help_command : App

@@ -138,6 +138,9 @@ const JSON_HELP: &str = "Prints each line as a JSON object";
 
 const STRICT_HELP: &str = "Takes the first event that no program would give for a fault";
 
+const SCORE_HELP: &str =
+    "Says of each claim of a detector's report, a file or `-`, whether it is true, and what the report missed; not with `--json`, or where FILE is `-` too";
+
 const REASONS_HELP: &str =
     "Says step by step how the events at lines I and J are ordered, or that they race. I is less than J; not with `--sure` or `--json`";
 
@@ -158,7 +161,14 @@ What orders, of two events the earlier before the later:
   an arrive and a depart in one cycle of a barrier: the first depart closes the cycle
   and what follows from these step by step
 
-Of `--group`, `--locations`, `--why` and `--witness` one can be given";
+Claims of a report, one on each line; status 3 where one is false, else 4 where something is missed:
+  event J                the access at line J races with an earlier one
+  pair I J               the accesses at lines I and J race
+  locations A|B          some two accesses race, one at the location A and the other at B
+  variable V             some two accesses of V race
+  first V J              line J is the first access of V that races with an earlier one
+
+Of `--group`, `--locations`, `--score`, `--why` and `--witness` one can be given";
 
 const WITNESS_HELP: &str =
     "Shows by which events the accesses at lines I and J were reached, if they are a sure race; else says why, with status 4. I is less than J; not with `--sure` or `--json`, or where FILE is `-`";
@@ -178,9 +188,9 @@ const STATUSES: &str = "Exit status:
   1  a fault of the text, a file, the events, memory or the output (check, core, lint: the text is no program)
   2  a fault of the words, or `--help` or `--version`. `number out of range` says that a number is not in the range that the help of
      its command gives
-  3  a race was found
+  3  a race was found (races --score: a claim is false)
   4  no race, and a node trapped or is unfinished (judge: the acts are of no run; explore: some order gets stuck or traps,
-     or can no longer end; races --witness: it is no sure race)";
+     or can no longer end; races --witness: it is no sure race; races --score: no claim is false, and something is missed)";
 
 // The names of the commands.
 static COMMANDS: [&str; 17] = [
@@ -485,6 +495,7 @@ fn races_command<'w>(alloc: Global) -> Result<Command<'w>, AllocError>
     let command = taking(command, flag_option(alloc, "sure", SURE_HELP));
     let command = taking(command, flag_option(alloc, "json", JSON_HELP));
     let command = taking(command, flag_option(alloc, "strict", STRICT_HELP));
+    let command = taking(command, text(alloc, "score", "REPORT", SCORE_HELP));
     let command = taking(command, line_pair(alloc, "why", REASONS_HELP));
     taking(command, line_pair(alloc, "witness", WITNESS_HELP))
 }
