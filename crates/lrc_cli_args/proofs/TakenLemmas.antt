@@ -266,7 +266,7 @@ judge_keyed = (
 )
 
 explore_keyed : AllByRecursion (IsKeyed explore_built.rules) explore_built.rules
-explore_keyed = (record { own = refl; acts = inl (refl, lit< tt) }, (record { own = refl; acts = inl (refl, lit< tt) }, (record { own = refl; acts = inl (refl, lit< tt) }, (record { own = refl; acts = inl (refl, lit< tt) }, (record { own = refl; acts = inr (inl (refl, lit< tt)) }, (record { own = refl; acts = inl (refl, lit< tt) }, (record { own = refl; acts = inl (refl, lit< tt) }, (record { own = refl; acts = inr (inl (refl, lit< tt)) }, (record { own = refl; acts = inr (inl (refl, lit< tt)) }, (record { own = refl; acts = inl (refl, lit< tt) }, (record { own = refl; acts = inl (refl, lit< tt) }, (record { own = refl; acts = inr (inr refl) }, tt))))))))))))
+explore_keyed = (record { own = refl; acts = inl (refl, lit< tt) }, (record { own = refl; acts = inl (refl, lit< tt) }, (record { own = refl; acts = inl (refl, lit< tt) }, (record { own = refl; acts = inl (refl, lit< tt) }, (record { own = refl; acts = inr (inl (refl, lit< tt)) }, (record { own = refl; acts = inl (refl, lit< tt) }, (record { own = refl; acts = inl (refl, lit< tt) }, (record { own = refl; acts = inr (inl (refl, lit< tt)) }, (record { own = refl; acts = inr (inl (refl, lit< tt)) }, (record { own = refl; acts = inl (refl, lit< tt) }, (record { own = refl; acts = inl (refl, lit< tt) }, (record { own = refl; acts = inl (refl, lit< tt) }, (record { own = refl; acts = inl (refl, lit< tt) }, (record { own = refl; acts = inr (inr refl) }, tt))))))))))))))
 
 why_keyed : AllByRecursion (IsKeyed why_built.rules) why_built.rules
 why_keyed = (record { own = refl; acts = inl (refl, lit< tt) }, (record { own = refl; acts = inl (refl, lit< tt) }, (record { own = refl; acts = inl (refl, lit< tt) }, (record { own = refl; acts = inl (refl, lit< tt) }, (record { own = refl; acts = inl (refl, lit< tt) }, (record { own = refl; acts = inl (refl, lit< tt) }, (record { own = refl; acts = inl (refl, lit< tt) }, (record { own = refl; acts = inl (refl, lit< tt) }, (record { own = refl; acts = inl (refl, lit< tt) }, (record { own = refl; acts = inl (refl, lit< tt) }, (record { own = refl; acts = inl (refl, lit< tt) }, (record { own = refl; acts = inl (refl, lit< tt) }, (record { own = refl; acts = inr (inr refl) }, tt)))))))))))))
@@ -489,6 +489,8 @@ explore_taken words none =
       tries = bare_taken explore_built rows level (codes "tries") refl;
       races = flag_taken explore_built rows level (codes "ignore-races") refl;
       ends = flag_taken explore_built rows level (codes "ends") refl;
+      page = level.there (filled page) refl (lit< tt);
+      collect = number_taken explore_built rows level (codes "collect") (codes "0") refl;
     }
 
 lint_taken : (words : List Text) → level_fault lint_built [] nothing_held words false [] ≡ [] → HasValue (codes "FILE") (rows_after lint_built.rules [] words)

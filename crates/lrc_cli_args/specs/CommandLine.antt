@@ -39,7 +39,7 @@ use Rattle.lrc_cli_args.specs.declared.misfit.Misfit.TheVariants.{Order, RunOrde
 use Rattle.lrc_cli_args.specs.declared.races.Question.TheVariants.{Told, Scored, Reasoned, Witnessed}
 use Rattle.lrc_cli_words.specs.Commands.{is_command, treadmarks}
 use Rattle.clap.specs.Takes.{is_given}
-use Rattle.lrc_cli_args.specs.Options.{AreChartedActs, AreEventsChosen, AreForeignActs, AreLines, AreOptions, AreRunOptions, HasBadCount, HasBadExploreNumber, HasChartedActsMisfit, HasEventsMisfit, HasExactMisfit, HasForeignMisfit, HasFormMisfitIn, HasOptionsMisfit, HasRacesMisfit, HasValue, HasWayMisfitIn, IsAsking, IsChartTaken, IsHiding}
+use Rattle.lrc_cli_args.specs.Options.{AreChartedActs, AreEventsChosen, AreForeignActs, AreLines, AreOptions, AreRunOptions, HasBadCount, HasBadExploreNumber, HasChartedActsMisfit, HasEventsMisfit, HasExactMisfit, HasMemoryMisfit, HasForeignMisfit, HasFormMisfitIn, HasOptionsMisfit, HasRacesMisfit, HasValue, HasWayMisfitIn, IsAsking, IsChartTaken, IsHiding}
 use Rattle.lrc_cli_args.specs.Options.{IsExactChosen, IsExploreTaken, IsFlag, IsFormIn, IsJudgeTaken, IsMemory, IsPart, IsPicker, IsPlainTaken, IsQuestion, IsRacesTaken, IsRunTaken, IsShowingTaken, IsStepTaken}
 use Rattle.lrc_cli_args.specs.Options.{asks_outcomes, IsSimTaken, IsThreadsWayIn, IsTraceForm, IsTraceTaken, IsWayIn, IsWhyTaken, most_in, nodes_in, option_number, outcome_in, some_number_in, takes_tries, texts_of, tries_in}
 
@@ -139,7 +139,7 @@ pub record IsExploring (rows : List Row) (exploring : Exploring) : Type 0 where
   pub nodes : nodes_in rows ≡ exploring.nodes.count
   pub given : exploring.nodes_given ≡ is_given (codes "nodes") rows
   pub most : most_in rows ≡ exploring.most.count
-  pub memory : IsMemory (first_of (codes "memory") rows) exploring.memory
+  pub memory : IsMemory rows exploring.memory
   pub outcomes : IsFlag (codes "outcomes") exploring.outcomes rows
   pub outcome : outcome_in rows ≡ option_map (λ outcome. outcome.number) exploring.outcome
   pub tries : tries_in rows ≡ option_map (λ tries. tries.count) exploring.tries
@@ -299,17 +299,17 @@ HasJudgeMisfit rows misfit = HasExactMisfit rows misfit
 
 -- a memory and whether outcomes are asked for are chosen by these matches
 abbrev pub AreSought : List Row → Memory → (outcomes : Bool) → Type 0
-AreSought rows memory outcomes = IsMemory (first_of (codes "memory") rows) memory × IsFlag (codes "outcomes") outcomes rows
+AreSought rows memory outcomes = IsMemory rows memory × IsFlag (codes "outcomes") outcomes rows
 
 -- an option that may not stand beside outcomes or a memory is not given, or these are not
 abbrev pub StandsPlainly : Text → (outcomes : Bool) → List Row → Type 0
 StandsPlainly name outcomes rows =
     (given : Bool) × IsFlag name given rows × (given ≡ true → asks_outcomes outcomes (outcome_in rows) rows ≡ false)
 
--- Of `explore`: the memory; then runs at random that are asked for and may not be; then races that are to be ignored and may not be; then
--- ends that are asked for and may not be; then events; then numbers.
+-- Of `explore`: the memory and its options; then runs at random that are asked for and may not be; then races that are to be ignored and may
+-- not be; then ends that are asked for and may not be; then events; then numbers.
 pub record HasExploreMisfit (rows : List Row) (misfit : Misfit) : Type 0 where
-  pub why : ((misfit ≡ MemoryMisfit) × ((memory : Memory) → ¬ IsMemory (first_of (codes "memory") rows) memory))
+  pub why : HasMemoryMisfit rows misfit
       ⊎ ((misfit ≡ TriesMisfit) × (memory : Memory) × (outcomes : Bool) × AreSought rows memory outcomes × IsSome (tries_in rows)
       × (takes_tries memory outcomes (outcome_in rows) ≡ false))
       ⊎ ((misfit ≡ IgnoredRaces) × (memory : Memory) × (outcomes : Bool) × AreSought rows memory outcomes

@@ -22,7 +22,7 @@ use Rattle.lrc_cli_args.specs.declared.choice.Grouping.{Grouping}
 use Rattle.lrc_cli_args.specs.declared.choice.Grouping.TheVariants as groupings
 use Rattle.lrc_cli_args.specs.declared.choice.LinePair.{LinePair}
 use Rattle.lrc_cli_args.specs.declared.choice.Memory.{Memory}
-use Rattle.lrc_cli_args.specs.declared.choice.Memory.TheVariants.{Flat, Lazy}
+use Rattle.lrc_cli_args.specs.declared.choice.Memory.TheVariants.{Flat, Lazy, Exact}
 use Rattle.lrc_cli_args.specs.declared.choice.Part.{Part}
 use Rattle.lrc_cli_args.specs.declared.choice.RunOptions.{RunOptions}
 use Rattle.lrc_cli_args.specs.declared.choice.Tell.{Tell}
@@ -184,6 +184,8 @@ pub record IsExploreTaken (rows : List Row) : Type 0 where
   pub tries : IsBareNumber (codes "tries") rows
   pub races : IsFlagOption (codes "ignore-races") rows
   pub ends : IsFlagOption (codes "ends") rows
+  pub page : HasValue (codes "page") rows
+  pub collect : IsNumberOption (codes "collect") rows
 
 -- of `races`
 pub record IsRacesTaken (rows : List Row) : Type 0 where
@@ -254,14 +256,20 @@ pub record AreLines (texts : List Text) (lines : LinePair) : Type 0 where
   pub first : IsLine one lines.first
   pub second : IsLine other lines.second
 
--- the memory that a word names
-abbrev pub IsMemory : Option Text → Memory → Type 0
-IsMemory word Flat = word ≡ Some (codes "flat")
-IsMemory word Lazy = word ≡ Some (codes "lazy")
+-- the memory without options that a word names
+abbrev pub IsPlainMemory : Text → Memory → Type 0
+IsPlainMemory word Flat = word ≡ codes "flat"
+IsPlainMemory word Lazy = word ≡ codes "lazy"
+IsPlainMemory word (Exact options) = ⊥
+
+-- a word that names no such memory
+abbrev pub IsNoPlainMemory : Text → Type 0
+IsNoPlainMemory word = (word ≢ codes "flat") × (word ≢ codes "lazy")
 
 -- whether runs at random may be asked for: with the list of the lazy outcomes
 abbrev pub takes_tries : Memory → (outcomes : Bool) → (outcome : Option ℕ) → Bool
 takes_tries Flat outcomes outcome = false
+takes_tries (Exact options) outcomes outcome = false
 takes_tries Lazy outcomes outcome = outcomes && is_none outcome
 
 -- whether a word says that rows of quiet acts are left out; without one they are not
@@ -450,6 +458,12 @@ IsExactChosen rows None = (first_of (codes "memory") rows ≡ None) × (names_ex
 IsExactChosen rows (Some exact) = (first_of (codes "memory") rows ≡ Some (codes "exact"))
     × IsPageSize (first_of (codes "page") rows) exact.size × (collect_in rows ≡ exact.collect.count)
 
+-- the memory whose runs are searched is chosen by these matches
+abbrev pub IsMemory : List Row → Memory → Type 0
+IsMemory rows Flat = (first_of (codes "memory") rows ≡ Some (codes "flat")) × (names_exact_option rows ≡ false)
+IsMemory rows Lazy = (first_of (codes "memory") rows ≡ Some (codes "lazy")) × (names_exact_option rows ≡ false)
+IsMemory rows (Exact options) = IsExactChosen rows (Some options)
+
 -- acts from anywhere are chosen by these matches
 pub record AreForeignActs (rows : List Row) (acts : ForeignActs) : Type 0 where
   pub file : first_of (codes "acts") rows ≡ Some acts.file.now
@@ -534,6 +548,16 @@ abbrev pub HasExactMisfit : List Row → Misfit → Type 0
 HasExactMisfit rows misfit =
     ((misfit ≡ unfit.ExactMemory) × IsSomeAnd (first_of (codes "memory") rows) (λ word. word ≢ codes "exact"))
     ⊎ ((misfit ≡ unfit.ExactOption) × (first_of (codes "memory") rows ≡ None) × (names_exact_option rows ≡ true))
+    ⊎ ((misfit ≡ unfit.Page) × (first_of (codes "memory") rows ≡ Some (codes "exact")) × HasBadPage rows)
+    ⊎ ((misfit ≡ unfit.Number) × (first_of (codes "memory") rows ≡ Some (codes "exact"))
+    × ((size : Size) × IsPageSize (first_of (codes "page") rows) size) × IsOutOfRange 0 1000000 (collect_in rows))
+
+-- of the memory whose runs are searched: none is named, or an option of the exact one is given without it; then the size of its pages; then
+-- the number
+abbrev pub HasMemoryMisfit : List Row → Misfit → Type 0
+HasMemoryMisfit rows misfit =
+    ((misfit ≡ unfit.Memory) × IsSomeAnd (first_of (codes "memory") rows) (λ word. IsNoPlainMemory word × (word ≢ codes "exact")))
+    ⊎ ((misfit ≡ unfit.ExactOption) × IsSomeAnd (first_of (codes "memory") rows) (λ word. word ≢ codes "exact") × (names_exact_option rows ≡ true))
     ⊎ ((misfit ≡ unfit.Page) × (first_of (codes "memory") rows ≡ Some (codes "exact")) × HasBadPage rows)
     ⊎ ((misfit ≡ unfit.Number) × (first_of (codes "memory") rows ≡ Some (codes "exact"))
     × ((size : Size) × IsPageSize (first_of (codes "page") rows) size) × IsOutOfRange 0 1000000 (collect_in rows))

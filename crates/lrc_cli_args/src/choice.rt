@@ -195,6 +195,8 @@ pub enum Memory {
     Flat,
     /// Any memory that keeps lazy reading.
     Lazy,
+    /// The memory of this protocol, without its messages.
+    Exact(ExactOptions),
 }
 
 /// Of which order the events are shown, of the orders that `explore` tells of.
@@ -220,7 +222,7 @@ pub struct Exploring<'w> {
     pub nodes_given: bool,
     /// The most states that the search may meet.
     pub most: Most,
-    /// The memory whose runs have the outcomes. The races are the same for both memories.
+    /// The memory whose runs have the outcomes. The races are the same for all memories.
     pub memory: Memory,
     /// Whether the search is for the outcomes, instead of a race.
     pub outcomes: bool,

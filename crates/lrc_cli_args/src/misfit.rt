@@ -37,7 +37,7 @@ const BAD_MESSAGES: &str =
 const BAD_PART: &str =
     "the arguments '--from <P>' and '--to <Q>' cannot be used with a form other than '--as bytes' or '--as states'";
 
-const BAD_MEMORY: &str = "invalid value for '--memory <MEMORY>': it is flat or lazy";
+const BAD_MEMORY: &str = "invalid value for '--memory <MEMORY>': it is flat, lazy or exact";
 
 const BAD_EXACT_MEMORY: &str = "invalid value for '--memory <MEMORY>': it is exact";
 

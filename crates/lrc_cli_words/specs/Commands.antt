@@ -110,9 +110,9 @@ judge_command = with_rule (with_rule (with_rule (with_rule (with_rule (with_rule
     (flag_option (codes "pairs"))) (flag_option (codes "all"))) (option (codes "memory"))) page) collect
 
 abbrev pub explore_command : App
-explore_command = with_rule (with_rule (with_rule (with_rule (with_rule (with_rule (with_rule (with_rule (with_rule (with_rule (with_rule (new_app (codes "explore"))
-    file) nodes) most) memory) (flag_option (codes "outcomes"))) (bare_number (codes "outcome"))) (bare_number (codes "tries")))
-    (flag_option (codes "ignore-races"))) (flag_option (codes "ends"))) (option (codes "as"))) (option (codes "tell"))
+explore_command = with_rule (with_rule (with_rule (with_rule (with_rule (with_rule (with_rule (with_rule (with_rule (with_rule (with_rule (with_rule (with_rule
+    (new_app (codes "explore")) file) nodes) most) memory) (flag_option (codes "outcomes"))) (bare_number (codes "outcome"))) (bare_number (codes "tries")))
+    (flag_option (codes "ignore-races"))) (flag_option (codes "ends"))) (option (codes "as"))) (option (codes "tell"))) page) collect
 
 -- a FILE need not be given where there is a file of acts, and an act has to be
 abbrev pub optional_file : Rule

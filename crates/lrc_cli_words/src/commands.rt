@@ -104,7 +104,7 @@ const OUTCOME_HELP: &str =
     "Shows the acts of a run that has the outcome of this number in the list of `--outcomes`, counted from 1, in place of the list";
 
 const MEMORY_HELP: &str =
-    "Whose runs there are: flat (every order over one flat memory), or lazy (every run of any memory that keeps lazy reading). Races are the same by both";
+    "Whose runs there are: flat (every order over one flat memory), lazy (every run of any memory that keeps lazy reading), or exact (the runs of this memory, with the pages of `--page` and the collections of `--collect`, which go with it alone). Races are the same by all";
 
 const TRIES_HELP: &str =
     "With the outcomes of the lazy memory: plays so many runs at random, of the seeds 0, 1, .., and names the least seed whose run has an outcome: 1 to 1000000";
@@ -453,7 +453,9 @@ fn explore_command<'w>(alloc: Global) -> Result<Command<'w>, AllocError>
     );
     let command = taking(command, flag_option(alloc, "ends", ENDS_HELP));
     let command = taking(command, text(alloc, "as", "FORM", EXPLORE_FORM_HELP));
-    taking(command, text(alloc, "tell", "ORDER", TELL_HELP))
+    let command = taking(command, text(alloc, "tell", "ORDER", TELL_HELP));
+    let command = taking(command, page(alloc));
+    taking(command, collect(alloc))
 }
 
 fn why_command<'w>(alloc: Global) -> Result<Command<'w>, AllocError>
