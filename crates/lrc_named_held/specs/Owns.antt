@@ -1,0 +1,45 @@
+-- The translation's own names in the statements of a core, each with the tokens of the expression that it holds.
+use Rattle.std.specs.Prelude.{ℕ, List, [], ◌∷◌, ◌++◌}
+use Rattle.lrc_named_core.specs.Tree.{Private, named, own, Expression, number, private, me, nodes, binary}
+use Rattle.lrc_named_core.specs.Tree.{Statement, assign, read, write, acquire, release, barrier, print, if_else, while_do, Block, empty, next}
+use Rattle.lrc_named_held.specs.declared.owns.Own.{Own}
+
+abbrev pub owns_of_name : Private → List Own
+owns_of_name (named bytes) = []
+owns_of_name (own number first last) = record { number = number; first = first; last = last } ∷ []
+
+abbrev pub owns_in : Expression → List Own
+owns_in (number n) = []
+owns_in (private name) = owns_of_name name
+owns_in me = []
+owns_in nodes = []
+owns_in (binary left o right) = owns_in left ++ owns_in right
+
+-- of a statement, those of its blocks aside
+abbrev pub owns_of : Statement → List Own
+owns_of (assign origin name value) = owns_of_name name ++ owns_in value
+owns_of (read origin name word) = owns_of_name name ++ owns_in word
+owns_of (write origin word value) = owns_in word ++ owns_in value
+owns_of (acquire origin lock) = owns_in lock
+owns_of (release origin lock) = owns_in lock
+owns_of (barrier origin) = []
+owns_of (print origin value) = owns_in value
+owns_of (if_else origin condition then otherwise) = owns_in condition
+owns_of (while_do origin condition inside) = owns_in condition
+
+abbrev mutual
+  -- of a statement, and of those of its blocks, in the order of the core's text
+  pub owns_within : Statement → List (List Own)
+  owns_within (if_else origin condition then otherwise) = owns_in condition ∷ (owns_among then ++ owns_among otherwise)
+  owns_within (while_do origin condition inside) = owns_in condition ∷ owns_among inside
+  owns_within (assign origin name value) = owns_of (assign origin name value) ∷ []
+  owns_within (read origin name word) = owns_of (read origin name word) ∷ []
+  owns_within (write origin word value) = owns_of (write origin word value) ∷ []
+  owns_within (acquire origin lock) = owns_of (acquire origin lock) ∷ []
+  owns_within (release origin lock) = owns_of (release origin lock) ∷ []
+  owns_within (barrier origin) = [] ∷ []
+  owns_within (print origin value) = owns_of (print origin value) ∷ []
+
+  pub owns_among : Block → List (List Own)
+  owns_among empty = []
+  owns_among (next first rest) = owns_within first ++ owns_among rest

@@ -1,0 +1,3 @@
+pub mod FirstFaults
+pub mod MayStand
+pub mod Stopping

@@ -1,0 +1,145 @@
+-- A judge stays one, whatever it finds out.
+use Rattle.std.proofs.Common.{◌≡◌, ◌+◌, ℕ, ◌<◌, ◌≤◌, List, [], ◌∷◌, ◌++◌, length, get_or, inl, inr, refl, sym, subst, ap, ◌∙◌, arith}
+use Rattle.std.specs.Prelude.{◌⊎◌, Option, Some, None, set, slice_get}
+use Rattle.std.proofs.lemmas.Bool.{cases_eq}
+use Rattle.std.proofs.lemmas.Option.{slice_get_within, slice_get-get_or, get_or_from_slice_get, same_Some}
+use Rattle.lrc_races_trace.specs.declared.event.Event.{Event}
+use Rattle.lrc_races_text.specs.declared.asked.Sought.{Sought}
+use Rattle.lrc_races_text.specs.Naming.{Naming}
+use Rattle.lrc_races_score.specs.Claims.{statement_of}
+use Rattle.lrc_races_score.specs.declared.report.LinedClaim.{LinedClaim}
+use Rattle.lrc_races_text.specs.Tables.{naming_of}
+use Rattle.lrc_races_claims.specs.declared.asking.Asker.{Asker}
+use Rattle.lrc_races_claims.specs.declared.judge.Judge.{Judge}
+use Rattle.lrc_races_claims.specs.declared.judging.Facts.{Facts}
+use Rattle.lrc_races_claims.specs.declared.known.KnownNames.{KnownNames}
+use Rattle.lrc_races_claims.specs.declared.places.Places.{Places}
+use Rattle.lrc_races_claims.specs.Asking.{IsAsking}
+use Rattle.lrc_races_claims.specs.Judge.{AreSlots, AreVerdicts, IsJudge}
+use Rattle.lrc_races_claims.specs.Judging.{AreFacts}
+use Rattle.lrc_races_claims.specs.Known.{known_names}
+use Rattle.lrc_races_claims.specs.Placed.{ArePlaces, HasSamePlaces}
+use Rattle.lrc_races_claims.proofs.Renaming.{kept_places, same_places}
+use Rattle.lrc_races_claims.specs.Truth.{IsJudged}
+use Rattle.lrc_races_claims.specs.declared.verdict.Verdict.{Verdict}
+use Rattle.lrc_races_claims.proofs.Marking.{push_cases}
+
+-- no slot is filled
+pub slots_none : (sought : Sought) (naming : Naming) (events : List Event) (last : ℕ) (claims : List LinedClaim) (slots : List (Option Verdict))
+    → ((k : ℕ) (slot : Option Verdict) → slice_get slots k ≡ Some slot → slot ≡ None) → AreSlots sought naming events last claims slots
+slots_none sought naming events last claims slots none = record {
+  each = λ k claim verdict at here. let e = none k (Some verdict) here in let never : ⊥ = cc in absurd never;
+}
+
+-- one slot more is filled
+pub slot_filled : (sought : Sought) (naming : Naming) (events : List Event) (last : ℕ) (claims : List LinedClaim) (slots after : List (Option Verdict))
+    (place : ℕ) (claim : LinedClaim) (verdict : Verdict) → slice_get claims place ≡ Some claim
+    → ((k : ℕ) (slot : Option Verdict) → slice_get after k ≡ Some slot → ((k ≡ place) × (slot ≡ Some verdict)) ⊎ (slice_get slots k ≡ Some slot))
+    → IsJudged sought naming events last (statement_of claim.claim) verdict → AreSlots sought naming events last claims slots
+    → AreSlots sought naming events last claims after
+slot_filled sought naming events last claims slots after place claim verdict at cases judged are = record {
+  each = λ k other said here slot.
+      elim (cases k (Some said) slot) [
+        | inl (same, e) ↦
+            let c : claim ≡ other = same_Some claim other (sym at ∙ ap (slice_get claims) (sym same) ∙ here) in
+            let v : verdict ≡ said = same_Some verdict said (sym e) in
+            subst (λ (x : LinedClaim). IsJudged sought naming events last (statement_of x.claim) said) c
+            (subst (λ (x : Verdict). IsJudged sought naming events last (statement_of claim.claim) x) v judged)
+        | inr old ↦ are.each k other said here old
+      ];
+}
+
+-- one verdict more
+pub verdict_more : (sought : Sought) (naming : Naming) (events : List Event) (last : ℕ) (claims : List LinedClaim) (verdicts : List Verdict) (verdict : Verdict)
+    → ((claim : LinedClaim) → slice_get claims (length verdicts) ≡ Some claim → IsJudged sought naming events last (statement_of claim.claim) verdict)
+    → ((k : ℕ) (claim : LinedClaim) (said : Verdict) → slice_get claims k ≡ Some claim → slice_get verdicts k ≡ Some said
+    → IsJudged sought naming events last (statement_of claim.claim) said)
+    → (k : ℕ) (claim : LinedClaim) (said : Verdict) → slice_get claims k ≡ Some claim → slice_get (verdicts ++ verdict ∷ []) k ≡ Some said
+    → IsJudged sought naming events last (statement_of claim.claim) said
+verdict_more sought naming events last claims verdicts verdict own each k claim said at here =
+    elim (push_cases verdicts verdict said k here) [
+      | inl old ↦ each k claim said at old
+      | inr (same, e) ↦
+          subst (λ (v : Verdict). IsJudged sought naming events last (statement_of claim.claim) v) e
+          (own claim (subst (λ m. slice_get claims m ≡ Some claim) same at))
+    ]
+
+-- ---- what a judge finds out
+
+module _ (sought : Sought) (naming : Naming) (events : List Event) (last : ℕ) (judge : Judge) (is : IsJudge sought naming events last judge) where
+  -- names that were looked for change nothing
+  pub with_variables : (variables : KnownNames) → known_names variables ≡ known_names judge.variables
+      → IsJudge sought naming events last (record judge { variables = variables })
+  with_variables variables e = record {
+    lines = is.lines;
+    seeks = is.seeks;
+    asks = is.asks;
+    asking = is.asking;
+    variables = is.variables ∙ sym e;
+    threads = is.threads;
+    locations = is.locations;
+    facts = is.facts;
+    places = is.places;
+  }
+
+  pub with_facts : (facts : Facts) → AreFacts judge.sought events facts → IsJudge sought naming events last (record judge { facts = Some facts })
+  with_facts facts are = record {
+    lines = is.lines;
+    seeks = is.seeks;
+    asks = is.asks;
+    asking = is.asking;
+    variables = is.variables;
+    threads = is.threads;
+    locations = is.locations;
+    facts = λ other e.
+        subst (λ (f : Facts). AreFacts sought events f) (same_Some facts other e) (subst (λ (s : Sought). AreFacts s events facts) is.seeks are);
+    places = is.places;
+  }
+
+  pub with_places : (places : Places) → ArePlaces judge.sought (naming_of judge.names) events places
+      → IsJudge sought naming events last (record judge { places = Some places })
+  with_places places are = record {
+    lines = is.lines;
+    seeks = is.seeks;
+    asks = is.asks;
+    asking = is.asking;
+    variables = is.variables;
+    threads = is.threads;
+    locations = is.locations;
+    facts = is.facts;
+    places = λ other e.
+        subst (λ (p : Places). ArePlaces sought naming events p) (same_Some places other e)
+        (same_places sought (naming_of judge.names) naming events places (sym is.locations)
+        (subst (λ (s : Sought). ArePlaces s (naming_of judge.names) events places) is.seeks are));
+  }
+
+  -- and places that were looked for
+  pub with_same_places : (places after : Places) → judge.places ≡ Some places → HasSamePlaces places after
+      → IsJudge sought naming events last (record judge { places = Some after })
+  with_same_places places after has same = record {
+    lines = is.lines;
+    seeks = is.seeks;
+    asks = is.asks;
+    asking = is.asking;
+    variables = is.variables;
+    threads = is.threads;
+    locations = is.locations;
+    facts = is.facts;
+    places = λ other e.
+        subst (λ (p : Places). ArePlaces sought naming events p) (same_Some after other e)
+        (kept_places sought naming events places after same (is.places places has));
+  }
+
+  pub with_asker : (asker : Asker) → asker.sought ≡ judge.asker.sought → IsAsking events asker
+      → IsJudge sought naming events last (record judge { asker = asker })
+  with_asker asker e asking = record {
+    lines = is.lines;
+    seeks = is.seeks;
+    asks = e ∙ is.asks;
+    asking = asking;
+    variables = is.variables;
+    threads = is.threads;
+    locations = is.locations;
+    facts = is.facts;
+    places = is.places;
+  }

@@ -1,0 +1,3 @@
+pub mod Zipping
+pub mod SortLemmas
+pub mod TracedLemmas
