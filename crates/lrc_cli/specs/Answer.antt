@@ -43,15 +43,17 @@ use Rattle.lrc_chart_model.specs.declared.picture.Picture.{Picture}
 use Rattle.lrc_cli_runs.specs.Charted.{IsDrawn, part_of}
 use Rattle.lrc_chart_title.specs.Title.{title_text_of_acts}
 use Rattle.lrc_cli_args.specs.declared.choice.ForeignActs.{ForeignActs}
+use Rattle.lrc_cli_args.specs.declared.choice.ExactOptions.{ExactOptions}
 use Rattle.lrc_cli_args.specs.declared.choice.Exploring.{Exploring}
 use Rattle.lrc_cli_args.specs.declared.choice.Memory.{Memory}
-use Rattle.lrc_cli_args.specs.declared.choice.Memory.TheVariants.{Flat, Lazy}
+use Rattle.lrc_cli_args.specs.declared.choice.Memory.TheVariants.{Flat, Lazy, Exact}
 use Rattle.lrc_lazy_text.specs.Listed.{FitLazyRuns, MetTooManyLazily, TellsLazyOutcomes}
 use Rattle.lrc_lazy_text.specs.One.{HasFewerLazyOutcomes, TellsNumberedLazyRun}
 use Rattle.lrc_cli_args.specs.declared.choice.OutcomeNumber.{OutcomeNumber}
 use Rattle.lrc_cli_args.specs.declared.choice.Judging.{Judging}
 use Rattle.lrc_cli_args.specs.declared.choice.Tell.{Tell}
 use Rattle.lrc_cli.specs.Events.{IsEventsAnswer}
+use Rattle.lrc_cli.specs.Exact.{HasExactFault, HasExactRunFault, ShowsExactOutcomes, ShowsExactRun}
 use Rattle.lrc_cli_answer.specs.declared.fault.Fault.{Fault}
 use Rattle.lrc_cli_answer.specs.declared.fault.Fault.TheVariants.{Acts, LongActs, NoAct, NoOutcome, TooManyStates, NoMemory}
 use Rattle.lrc_cli_answer.specs.declared.fault.Fault.TheVariants as printout_faults
@@ -135,12 +137,22 @@ IsLazyAnswer (Some outcome) outcomes exploring wording program places out status
 IsLazyAnswer None true exploring wording program places out status = ShowsLazyOutcomes exploring program out status
 IsLazyAnswer None false exploring wording program places out status = ShowsOrders exploring wording program places out status
 
+-- of the exact memory, likewise
+abbrev pub IsExactAnswer : Option OutcomeNumber → (outcomes : Bool) → ExactOptions → Exploring → Wording → Program → (places : List ℕ) → List ℕ → ℕ
+    → Type 0
+IsExactAnswer (Some outcome) outcomes options exploring wording program places out status =
+    ShowsExactRun options exploring program places outcome.number out status
+IsExactAnswer None true options exploring wording program places out status = ShowsExactOutcomes options exploring program out status
+IsExactAnswer None false options exploring wording program places out status = ShowsOrders exploring wording program places out status
+
 -- of the memory that is asked for
 abbrev pub IsAnswerTo : Memory → Exploring → Wording → Program → (places : List ℕ) → List ℕ → ℕ → Type 0
 IsAnswerTo Flat exploring wording program places out status =
     IsFlatAnswer exploring.outcome exploring.ends exploring.ignores_races exploring wording program places out status
 IsAnswerTo Lazy exploring wording program places out status =
     IsLazyAnswer exploring.outcome exploring.outcomes exploring wording program places out status
+IsAnswerTo (Exact options) exploring wording program places out status =
+    IsExactAnswer exploring.outcome exploring.outcomes options exploring wording program places out status
 
 -- the labels of a text, and what it says of traps
 abbrev pub wording_in : ReadText → Program → Wording
@@ -273,10 +285,16 @@ IsLazyFault (Some outcome) outcomes exploring program fault = HasLazyRunFault ex
 IsLazyFault None true exploring program fault = HasLazyFault exploring program fault
 IsLazyFault None false exploring program fault = HasOrdersFault exploring program fault
 
+abbrev pub IsExactFault : Option OutcomeNumber → (outcomes : Bool) → ExactOptions → Exploring → Program → Fault → Type 0
+IsExactFault (Some outcome) outcomes options exploring program fault = HasExactRunFault options exploring program outcome.number fault
+IsExactFault None true options exploring program fault = HasExactFault options exploring program fault
+IsExactFault None false options exploring program fault = HasOrdersFault exploring program fault
+
 -- the fault of a search through the runs of the memory that is asked for
 abbrev pub IsFaultIn : Memory → Exploring → Program → Fault → Type 0
 IsFaultIn Flat exploring program fault = IsFlatFault exploring.outcome exploring.ends exploring.ignores_races exploring program fault
 IsFaultIn Lazy exploring program fault = IsLazyFault exploring.outcome exploring.outcomes exploring program fault
+IsFaultIn (Exact options) exploring program fault = IsExactFault exploring.outcome exploring.outcomes options exploring program fault
 
 -- the fault of a search for the order whose events are asked for
 abbrev pub IsEventsFault : Option OutcomeNumber → Exploring → Program → Fault → Type 0
