@@ -17,7 +17,7 @@ use Rattle.lrc_exact_outcomes.proofs.Fronting.{in_front}
 use Rattle.lrc_exact_outcomes.proofs.Running.{exact_front, may_come, one_deed}
 use Rattle.lrc_exact_search.specs.declared.search.Met.{Met}
 use Rattle.lrc_exact_search.specs.Run.{IsAhead, still, onward, IsFree}
-use Rattle.lrc_exact_search.specs.Searching.{AreRunsOf, IsMet, Parts, GoesOn, further, parts, IsSearched, AreSearched}
+use Rattle.lrc_exact_search.specs.Searching.{AreRunsOf, IsMet, Parts, GoesOn, further, parts, endless, IsSearched, AreSearched}
 
 -- ---- what lies ahead of a run
 
@@ -119,6 +119,11 @@ module _ (program : Program) (shape : Shape) (runs : List Met) (outcomes : List 
   goes_on acts ahead notes most long (further lt met) l =
       inr (record { later = ahead; searched_too = met_searched ahead met; left = l; longer = lt })
   goes_on acts ahead notes most long (parts p) l = part acts ahead notes most long p l.more l.run l.over l.are l.few
+  goes_on acts ahead notes most long (endless e) l =
+      let far = e (suc most) in
+      let few = (left_ahead ahead far.0 notes most far.1 l).few in
+      let many = far.2 in
+      absurd (omega (arith, few, many))
 
   -- so each run that ends has an outcome that was gathered
   ends : (count : ℕ) (acts notes : List Act) (most : ℕ) → most ≤ length acts + count → IsSearched program shape runs outcomes acts
