@@ -165,12 +165,7 @@ impl ExactRun {
     }
 
     // Makes what a node does as long as that is a look, and says whether it comes back to where it began.
-    fn goes_round(
-        &mut self,
-        alloc: Global,
-        task: &Task<'_>,
-        node: u8,
-    ) -> Result<bool, AllocError>
+    fn goes_round(&mut self, alloc: Global, task: &Task<'_>, node: u8) -> Result<bool, AllocError>
         requires task { IsTask task.now }
         requires at { IsAt task.now self.old }
         requires node { node < task.now.layout.nodes }
