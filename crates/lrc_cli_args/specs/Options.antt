@@ -425,6 +425,7 @@ IsTell word tells.End = word ≡ Some (codes "end")
 abbrev pub takes_events : Memory → (outcomes : Bool) → (outcome : Option ℕ) → Bool
 takes_events Flat outcomes outcome = not outcomes || is_some outcome
 takes_events Lazy outcomes outcome = false
+takes_events (Exact options) outcomes outcome = false
 
 -- of an outcome there is one order, and an order that can no longer end is looked for only where ends are asked for
 abbrev pub takes_tell : Tell → (outcome : Option ℕ) → (ends : Bool) → Bool
@@ -552,12 +553,13 @@ HasExactMisfit rows misfit =
     ⊎ ((misfit ≡ unfit.Number) × (first_of (codes "memory") rows ≡ Some (codes "exact"))
     × ((size : Size) × IsPageSize (first_of (codes "page") rows) size) × IsOutOfRange 0 1000000 (collect_in rows))
 
--- of the memory whose runs are searched: none is named, or an option of the exact one is given without it; then the size of its pages; then
--- the number
+-- Of the memory whose runs are searched: the word names none; or an option of the exact one is given to another; then the size of its pages;
+-- then the number.
 abbrev pub HasMemoryMisfit : List Row → Misfit → Type 0
 HasMemoryMisfit rows misfit =
     ((misfit ≡ unfit.Memory) × IsSomeAnd (first_of (codes "memory") rows) (λ word. IsNoPlainMemory word × (word ≢ codes "exact")))
-    ⊎ ((misfit ≡ unfit.ExactOption) × IsSomeAnd (first_of (codes "memory") rows) (λ word. word ≢ codes "exact") × (names_exact_option rows ≡ true))
+    ⊎ ((misfit ≡ unfit.ExactOption) × IsSomeAnd (first_of (codes "memory") rows) (λ word. (memory : Memory) × IsPlainMemory word memory)
+    × (names_exact_option rows ≡ true))
     ⊎ ((misfit ≡ unfit.Page) × (first_of (codes "memory") rows ≡ Some (codes "exact")) × HasBadPage rows)
     ⊎ ((misfit ≡ unfit.Number) × (first_of (codes "memory") rows ≡ Some (codes "exact"))
     × ((size : Size) × IsPageSize (first_of (codes "page") rows) size) × IsOutOfRange 0 1000000 (collect_in rows))

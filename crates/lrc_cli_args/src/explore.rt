@@ -125,7 +125,7 @@ fn takes_events(memory: Memory, outcomes: bool, outcome: Option<u64>) -> bool
 {
     match memory {
         Memory::Flat => !outcomes || outcome.is_some(),
-        Memory::Lazy => false,
+        Memory::Lazy | Memory::Exact(_) => false,
     }
 }
 

@@ -56,7 +56,7 @@ const BAD_ENDS: &str =
 const BAD_EXPLORE_FORM: &str = "invalid value for '--as <FORM>': it is events";
 
 const BAD_EVENTS: &str =
-    "the argument '--as events' cannot be used with '--outcomes' without '--outcome <K>', or with '--memory lazy'";
+    "the argument '--as events' cannot be used with '--outcomes' without '--outcome <K>', or with '--memory lazy' or '--memory exact'";
 
 const BAD_TOLD_ORDER: &str = "invalid value for '--tell <ORDER>': it is stuck, trap or end";
 
@@ -137,7 +137,7 @@ pub(crate) enum Misfit {
     Ends,
     /// The value of `--as` in the command `explore` is not its word.
     ExploreForm,
-    /// Events are asked for together with the list of outcomes or with lazy memory.
+    /// Events are asked for together with the list of outcomes or with another memory than the flat one.
     Events,
     /// The value of `--tell` is not one of its words.
     ToldOrder,

@@ -15,7 +15,8 @@ const FILE_HELP: &str = "The program's text; `-` is standard input";
 
 const ACTS_FILE_HELP: &str = "The text of acts; `-` is standard input";
 
-const NODES_HELP: &str = "How many nodes run the program: 1 to 16";
+const NODES_HELP: &str =
+    "How many nodes run the program: 1 to 16. For a named program its `nodes N;` is the default";
 
 const STEPS_HELP: &str = "How many statements each node may begin: 1 to 1000000";
 
@@ -95,7 +96,7 @@ const ENDS_HELP: &str =
     "Tells too whether every order can end, so that no node waits for what can no longer come";
 
 const EXPLORE_FORM_HELP: &str =
-    "events: in place of all lines, prints the events by which `sim --events` makes a run that follows the order told, the first if several are. Not with the list of outcomes, or `--memory lazy`";
+    "events: in place of all lines, prints the events by which `sim --events` makes a run that follows the order told, the first if several are. Not with the list of outcomes, or `--memory lazy` or `exact`";
 
 const TELL_HELP: &str =
     "With `--as events`: which order they are of: stuck, trap, or end, which goes with `--ends`; not with `--outcome`. Left out, the first that is told";
