@@ -511,6 +511,90 @@ fn silent_writes(rt: HostRuntime) {
     passes(&rt, first_wrong(rt.alloc(), SILENT_WRITES));
 }
 
+const RACES: &[Row] = &[
+    Row {
+        name: "all_write_2",
+        text: b"words 1; locks 0; [0] = me + 1; barrier; x = [0]; print x;",
+        nodes: 2,
+        page_words: 64,
+        collect: 0,
+        outcomes: &[b"node 0 prints 2 / node 0 ended / node 1 prints 1 / node 1 ended"],
+    },
+    Row {
+        name: "all_write_2_collect",
+        text: b"words 1; locks 0; [0] = me + 1; barrier; x = [0]; print x;",
+        nodes: 2,
+        page_words: 64,
+        collect: 1,
+        outcomes: &[b"node 0 prints 2 / node 0 ended / node 1 prints 2 / node 1 ended"],
+    },
+    Row {
+        name: "all_write_3",
+        text: b"words 1; locks 0; [0] = me + 1; barrier; x = [0]; print x;",
+        nodes: 3,
+        page_words: 64,
+        collect: 0,
+        outcomes: &[
+            b"node 0 prints 3 / node 0 ended / node 1 prints 3 / node 1 ended / node 2 prints 2 / node 2 ended",
+        ],
+    },
+    Row {
+        name: "all_write_3_collect",
+        text: b"words 1; locks 0; [0] = me + 1; barrier; x = [0]; print x;",
+        nodes: 3,
+        page_words: 64,
+        collect: 1,
+        outcomes: &[
+            b"node 0 prints 3 / node 0 ended / node 1 prints 3 / node 1 ended / node 2 prints 3 / node 2 ended",
+        ],
+    },
+    Row {
+        name: "away_and_back",
+        text: b"words 1; locks 0; if me == 0 { [0] = 9; [0] = 0; } if me == 1 { [0] = 3; } barrier; x = [0]; print x;",
+        nodes: 2,
+        page_words: 64,
+        collect: 0,
+        outcomes: &[b"node 0 prints 3 / node 0 ended / node 1 prints 3 / node 1 ended"],
+    },
+    Row {
+        name: "away_and_back_collect",
+        text: b"words 1; locks 0; if me == 0 { [0] = 9; [0] = 0; } if me == 1 { [0] = 3; } barrier; x = [0]; print x;",
+        nodes: 2,
+        page_words: 64,
+        collect: 1,
+        outcomes: &[b"node 0 prints 3 / node 0 ended / node 1 prints 3 / node 1 ended"],
+    },
+    Row {
+        name: "load_buffering",
+        text: b"words 2; locks 0; x = [me]; [1 - me] = 1; print x;",
+        nodes: 2,
+        page_words: 64,
+        collect: 0,
+        outcomes: &[b"node 0 prints 0 / node 0 ended / node 1 prints 0 / node 1 ended"],
+    },
+    Row {
+        name: "message_by_flag",
+        text: b"words 2; locks 0; if me == 0 { [0] = 1; [1] = 1; } if me == 1 { y = [1]; x = [0]; print y; print x; }",
+        nodes: 2,
+        page_words: 64,
+        collect: 0,
+        outcomes: &[b"node 0 ended / node 1 prints 0 / node 1 prints 0 / node 1 ended"],
+    },
+    Row {
+        name: "spin_flag",
+        text: b"words 1; locks 0; if me == 0 { [0] = 1; } else { while x == 0 { x = [0]; } print x; }",
+        nodes: 2,
+        page_words: 64,
+        collect: 0,
+        outcomes: &[],
+    },
+];
+
+#[test]
+fn races(rt: HostRuntime) {
+    passes(&rt, first_wrong(rt.alloc(), RACES));
+}
+
 const LOCKS: &[Row] = &[
     Row {
         name: "bank_deadlock",
