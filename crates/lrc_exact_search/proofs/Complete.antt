@@ -16,7 +16,7 @@ use Rattle.lrc_exact_outcomes.specs.Outcome.{IsExactOutcome}
 use Rattle.lrc_exact_outcomes.proofs.Fronting.{in_front}
 use Rattle.lrc_exact_outcomes.proofs.Running.{exact_front, may_come, one_deed}
 use Rattle.lrc_exact_search.specs.declared.search.Met.{Met}
-use Rattle.lrc_exact_search.specs.Run.{IsAhead, still, onward, IsFree}
+use Rattle.lrc_exact_search.specs.Run.{IsAhead, still, onward, IsEndless, IsFree}
 use Rattle.lrc_exact_search.specs.Searching.{AreRunsOf, IsMet, Parts, GoesOn, further, parts, endless, IsSearched, AreSearched}
 
 -- ---- what lies ahead of a run
@@ -34,6 +34,22 @@ pub ahead_exact : {program : Program} {shape : Shape} {acts ahead : List Act} �
     → IsExactRun program shape ahead
 ahead_exact run still = run
 ahead_exact run (onward act before free) = free.longer
+
+-- ---- what is found ahead of a run that was looked at, where acts in between led further
+
+module _ {program : Program} {shape : Shape} {runs : List Met} {outcomes : List Outcome} {acts mid : List Act} (first : IsAhead program shape acts mid) where
+  pub searched_endless : IsEndless program shape mid → IsSearched program shape runs outcomes acts
+  searched_endless e = record { ahead = mid; goes = first; then = endless e }
+
+  pub searched_further : {ahead : List Act} → IsAhead program shape mid ahead → length mid < length ahead → IsMet runs ahead
+      → IsSearched program shape runs outcomes acts
+  searched_further {ahead} goes lt met =
+      let few = ahead_long first in
+      record { ahead = ahead; goes = ahead_again first goes; then = further (omega (arith, few, lt)) met }
+
+  pub searched_parts : {ahead : List Act} → IsAhead program shape mid ahead → Parts program shape runs outcomes ahead
+      → IsSearched program shape runs outcomes acts
+  searched_parts {ahead} goes p = record { ahead = ahead; goes = ahead_again first goes; then = parts p }
 
 -- ---- runs that end
 
