@@ -26,6 +26,11 @@ pub record HasFewerExactOutcomes (program : Program) (shape : Shape) (number : �
   pub are : AreExactOutcomes program shape outcomes
   pub few : length outcomes < number
 
+-- such a run, where there are as many outcomes
+abbrev pub IsExactRunOfNumber : Program → Shape → (number : ℕ) → Option (List Act) → Type 0
+IsExactRunOfNumber program shape number (Some acts) = IsNumberedExactRun program shape number acts
+IsExactRunOfNumber program shape number None = HasFewerExactOutcomes program shape number
+
 -- the text has a line for each act of such a run
 pub record TellsNumberedExactRun (program : Program) (shape : Shape) (lines : List ℕ) (number : ℕ) (out : List ℕ) : Type 0 where
   pub acts : List Act
