@@ -1,6 +1,6 @@
 -- A node that only looks, and comes back to where it was, goes on so for ever.
 use Rattle.std.proofs.Common.{◌≡◌, ℕ, zero, suc, ◌+◌, ◌≤◌, Bool, true, false, List, [], ◌∷◌, ◌++◌, length, refl, sym, subst, ap, ◌∙◌, arith}
-use Rattle.std.specs.Prelude.{Some, None, if◌then◌else◌}
+use Rattle.std.specs.Prelude.{◌==◌, Some, None, if◌then◌else◌}
 use Rattle.std.proofs.lemmas.List.{length_push}
 use Rattle.lrc_lang.specs.declared.program.Program.{Program}
 use Rattle.lrc_trace.specs.declared.act.Act.{Act}
@@ -13,7 +13,7 @@ use Rattle.lrc_lazy.specs.Lazy.{MayComeNext}
 use Rattle.lrc_lazy.specs.Standing.{with_memory}
 use Rattle.lrc_lazy.specs.Swapped.{IsNoAcquire}
 use Rattle.lrc_lazy.proofs.Following.{StandsAt, stands_next}
-use Rattle.lrc_exact.specs.LocalRule.{state_after}
+use Rattle.lrc_exact.specs.LocalRule.{state_after, state_before}
 use Rattle.lrc_exact.specs.Memory.{Word}
 use Rattle.lrc_exact.specs.Rule.{Shape, State, exact_rule, exact_value, KeepsExact, page_of}
 use Rattle.lrc_exact.proofs.LocalRules.{before-same, keeps-more, one_list, prefix-alike}
@@ -36,10 +36,11 @@ module _ (shape : Shape) (acts : List Act) (states : List State) (j node : ℕ) 
       → ((state_after (exact_rule shape) acts states j node d).words w).value ≡ exact_value shape acts states node j w
   look_leaves Quiet look w = refl
   look_leaves (Print v) look w = refl
-  look_leaves (Read x v) look w = unmarked _ _
+  look_leaves (Read x v) look w =
+      unmarked (page_of shape w == page_of shape x) ((state_before (exact_rule shape) acts states node j).words w)
   look_leaves d look w = absurd look
 
-look_free : (d : Deed) → IsLook d → IsNoAcquire d
+pub look_free : (d : Deed) → IsLook d → IsNoAcquire d
 look_free Quiet look = λ l e. cc
 look_free (Print v) look = λ l e. cc
 look_free (Read w v) look = λ l e. cc

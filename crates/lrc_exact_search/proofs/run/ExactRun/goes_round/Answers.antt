@@ -12,7 +12,7 @@ use Rattle.lrc_exact.proofs.LocalRules.{one_list}
 use Rattle.lrc_exact_judge.specs.Shape.{shape_of}
 use Rattle.lrc_exact_search.specs.Run.{IsAhead, still, onward}
 use Rattle.lrc_exact_search.proofs.Complete.{ahead_again}
-use Rattle.lrc_exact_search.proofs.Spinning.{HasValues, Looks, none, more, goes_round, read_gives, values_stay}
+use Rattle.lrc_exact_search.proofs.Spinning.{HasValues, Looks, none, more, goes_round, look_free, read_gives, values_stay}
 use Rattle.lrc_exact_search.proofs.Standing.{to_stands}
 use Rattle.lrc_exact_search.proofs.run.ExactRun.goes_round.Goals as goal
 
@@ -35,8 +35,30 @@ loop-init c =
           (copy_same task.flat c.in_ok-begun.begun run.state c.in_ok-begun.ensures) none;
     }
 
-pub loop-preserved : goal.loop-preserved
-loop-preserved c = ?
+pub make-requires-clause-next : goal.make-requires-clause-next
+make-requires-clause-next c = c.deed.ensures.some c.in-Some.deed c.in-Some.is
 
-pub returns-then : goal.returns-then
-returns-then c = ?
+pub loop-preserved : goal.loop-preserved
+loop-preserved c =
+    let task = c.args.task.now in
+    let shape = shape_of task.layout in
+    let node = c.args.node in
+    let i = c.loop.invariant in
+    let old = c.loop.self in
+    let acts = old.acts.items in
+    let deed = c.in-Some.deed in
+    let longer = c.deed.ensures.some deed c.in-Some.is in
+    let look = c.is_look.ensures c.if-is_look.false in
+    let exact = i.at.exact.exact in
+    record {
+      at = c.in_ok-make.ensures.at;
+      ahead = subst (λ (xs : List Act). IsAhead task.program.now shape c.args.self.now.acts.items xs) (sym c.in_ok-make.ensures.acts)
+          (onward (act_of node deed) i.ahead (record { longer = longer; free = look_free deed look }));
+      values = i.values;
+      has = subst (λ (xs : List Act). HasValues shape node i.values xs) (sym c.in_ok-make.ensures.acts)
+          (values_stay task.program.now shape acts node deed longer exact.states exact.keeps look i.values i.has);
+      count = suc i.count;
+      looks = more deed (poked deed old.state.memory.items) i.looks look
+          (λ w v is. read_gives task.program.now shape acts node deed longer exact.states exact.keeps w v is ∙ i.has exact.states exact.keeps w)
+          c.in_ok-make.ensures.followed.made;
+    }
