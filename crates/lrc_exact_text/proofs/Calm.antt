@@ -1,21 +1,30 @@
 -- What is known of the orders of a program without a race is known of its exact runs.
 use Rattle.std.proofs.Common.{◌≡◌, ℕ, List, ap}
-use Rattle.std.specs.Prelude.{option_map}
+use Rattle.std.specs.Prelude.{◌↔◌, option_map}
 use Rattle.lrc_lang.specs.declared.program.Program.{Program}
 use Rattle.lrc_trace.specs.declared.act.Act.{Act}
 use Rattle.lrc_exec.specs.Plain.{Plain}
 use Rattle.lrc_consistency_laws.specs.Follows.{nodes_of_acts}
 use Rattle.lrc_consistency_laws.specs.Racing.{HasNoRace}
 use Rattle.lrc_orders.specs.declared.outcomes.Outcome.{Outcome}
+use Rattle.lrc_orders.specs.Outcome.{HasOutcome, IsOutcome}
 use Rattle.lrc_lazy.proofs.Resting.{rest_to_over}
 use Rattle.lrc_explore_text.specs.OutcomeRun.{HasFewerOutcomes, IsNumberedRun}
 use Rattle.lrc_explore_text.specs.Outcomes.{AreOutcomesOf}
 use Rattle.lrc_exact.specs.Rule.{Shape}
 use Rattle.lrc_exact_plain.proofs.Calm.{exact_from_outcome, exact_from_plain, exact_to_outcome}
+use Rattle.lrc_exact_outcomes.specs.Outcome.{IsExactOutcome}
 use Rattle.lrc_exact_text.specs.Listed.{AreExactOutcomes}
 use Rattle.lrc_exact_text.specs.One.{HasFewerExactOutcomes, IsNumberedExactRun}
 
 module _ (program : Program) (shape : Shape) (none : HasNoRace program shape.nodes) where
+  pub calm_exact : (outcomes : List Outcome) → ((notes : List Act) → HasOutcome outcomes notes ↔ IsOutcome program shape.nodes notes)
+      → (notes : List Act) → IsExactOutcome program shape notes ↔ HasOutcome outcomes notes
+  calm_exact outcomes exact notes = (
+    λ o. (exact notes).1 (exact_to_outcome program shape none notes o),
+    λ has. exact_from_outcome program shape none notes ((exact notes).0 has),
+  )
+
   pub calm_outcomes_are : (outcomes : List Outcome) → AreOutcomesOf program shape.nodes outcomes → AreExactOutcomes program shape outcomes
   calm_outcomes_are outcomes are = record {
     exact = λ notes. (
