@@ -5,3 +5,5 @@
 mod checks;
 #[cfg(test)]
 mod outcomes;
+#[cfg(test)]
+mod texts;
