@@ -1,4 +1,3 @@
 pub mod Standing
 pub mod Complete
 pub mod Meeting
-pub mod Spinning
