@@ -1,6 +1,7 @@
 -- What is known of the orders of a program without a race is known of its exact runs.
-use Rattle.std.proofs.Common.{◌≡◌, ℕ, List, ap}
-use Rattle.std.specs.Prelude.{◌↔◌, option_map}
+use Rattle.std.proofs.Common.{◌≡◌, ℕ, List, ap, subst}
+use Rattle.std.specs.Prelude.{◌↔◌, IfSome, Option, Some, None, option_map}
+use Rattle.std.proofs.lemmas.Option.{same_Some}
 use Rattle.lrc_lang.specs.declared.program.Program.{Program}
 use Rattle.lrc_trace.specs.declared.act.Act.{Act}
 use Rattle.lrc_exec.specs.Plain.{Plain}
@@ -16,6 +17,11 @@ use Rattle.lrc_exact_plain.proofs.Calm.{exact_from_outcome, exact_from_plain, ex
 use Rattle.lrc_exact_outcomes.specs.Outcome.{IsExactOutcome}
 use Rattle.lrc_exact_text.specs.Listed.{AreExactOutcomes}
 use Rattle.lrc_exact_text.specs.One.{HasFewerExactOutcomes, IsNumberedExactRun}
+
+-- what is known of something that may be there
+pub calm_some : {S : Type 0} {P : S → Type 0} (found : Option S) (there : S) → found ≡ Some there → IfSome found P → P there
+calm_some {S} {P} (Some own) there is known = subst P (same_Some own there is) known
+calm_some None there is known = absurd cc
 
 module _ (program : Program) (shape : Shape) (none : HasNoRace program shape.nodes) where
   pub calm_exact : (outcomes : List Outcome) → ((notes : List Act) → HasOutcome outcomes notes ↔ IsOutcome program shape.nodes notes)

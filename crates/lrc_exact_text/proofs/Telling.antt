@@ -2,6 +2,7 @@
 use Rattle.std.proofs.Common.{◌≡◌, ℕ, List, ◌++◌, length, map, sym, subst, ◌∙◌, ap, ap₂}
 use Rattle.std.specs.Prelude.{◌↔◌, Some, slice_get}
 use Rattle.std.specs.List.{IsDistinct}
+use Rattle.std.proofs.lemmas.Option.{same_Some}
 use Rattle.lrc_lang.specs.declared.program.Program.{Program}
 use Rattle.lrc_trace.specs.declared.act.Act.{Act}
 use Rattle.lrc_orders.specs.declared.outcomes.Outcome.{Outcome}
@@ -37,6 +38,16 @@ numbered program shape outcomes runs are sound number place at r = record {
   there = at.there ∙ ap Some (sym at.at.is);
   run = r.is;
 }
+
+-- so are acts that are those of the run at the place
+pub numbered_at : (program : Program) (shape : Shape) (outcomes : List Outcome) (runs : List Met) → AreExactOutcomes program shape outcomes
+    → AreRunsOf program shape outcomes runs → (number place : ℕ) → IsNumberedAt shape.nodes outcomes number place → (own : Met) → slice_get runs place ≡ Some own
+    → (acts : List Act) → acts ≡ own.acts.items → IsNumberedExactRun program shape number acts
+numbered_at program shape outcomes runs are sound number place at own there acts is =
+    let r = sound.each place at.at.outcome at.at.there in
+    let same : r.met ≡ own = same_Some r.met own (sym r.there ∙ there) in
+    subst (λ (a : List Act). IsNumberedExactRun program shape number a) (ap (λ (m : Met). m.acts.items) same ∙ sym is)
+    (numbered program shape outcomes runs are sound number place at r)
 
 -- the text of all lines behind the first
 pub listed : (nodes : ℕ) (outcomes : List Outcome) (told : List ToldOutcome) (head out : List ℕ) → AreToldOf nodes outcomes (no_seeds outcomes) told

@@ -12,7 +12,7 @@ returns-clause-run c =
       outcomes = outcomes;
       are = outcomes_found c.args.program.now (shape_of c.args.layout) c.in_ok-found.found.outcomes.keys outcomes c.as_slice-outcomes.ensures.keys
           c.in_ok-found.ensures.exact c.as_slice-outcomes.ensures.unique;
-      few = subst (IsPlaceOfNumber c.args.layout.nodes outcomes c.args.number) c.in-None.is c.in_ok-place_of.ensures;
+      few = subst (IsPlaceOfNumber c.args.layout.nodes outcomes c.args.number) c.in-None.is c.in_ok-place.ensures;
     }
 
 pub returns-in-Some-clause-fits : goal.returns-in-Some-clause-fits
