@@ -1,2 +1,2 @@
-pub mod Calm
+pub mod WithoutRaces
 pub mod Telling

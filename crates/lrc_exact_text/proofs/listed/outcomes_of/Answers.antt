@@ -1,5 +1,5 @@
 use Rattle.lrc_exact_judge.specs.Shape.{shape_of}
-use Rattle.lrc_exact_text.proofs.Calm.{calm_exact, calm_some}
+use Rattle.lrc_exact_text.proofs.WithoutRaces.{calm_exact, calm_some}
 use Rattle.lrc_exact_text.proofs.listed.outcomes_of.Goals as goal
 
 pub returns-in-Some-clause-exact : goal.returns-in-Some-clause-exact

@@ -1,7 +1,7 @@
 use Rattle.std.proofs.Common.{subst}
 use Rattle.lrc_exact_judge.specs.Shape.{shape_of}
 use Rattle.lrc_exact_text.specs.Calm.{IsCalmRun}
-use Rattle.lrc_exact_text.proofs.Calm.{calm_fewer, calm_run_is}
+use Rattle.lrc_exact_text.proofs.WithoutRaces.{calm_fewer, calm_run_is}
 use Rattle.lrc_exact_text.proofs.one.run_of.Goals as goal
 
 pub returns-in-Run-clause-run : goal.returns-in-Run-clause-run
