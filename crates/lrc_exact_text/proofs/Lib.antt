@@ -1,2 +1,2 @@
-pub mod WithoutRaces
 pub mod Telling
+pub mod WithoutRaces

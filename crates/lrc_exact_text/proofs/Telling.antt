@@ -1,8 +1,8 @@
 -- What is told of the outcomes of exact runs.
-use Rattle.std.proofs.Common.{◌≡◌, ℕ, List, ◌++◌, length, map, sym, subst, ◌∙◌, ap, ap₂}
+use Rattle.std.proofs.Common.{◌≡◌, ℕ, List, ◌++◌, get_or, length, map, sym, subst, ◌∙◌, ap, ap₂}
 use Rattle.std.specs.Prelude.{◌↔◌, Some, slice_get}
 use Rattle.std.specs.List.{IsDistinct}
-use Rattle.std.proofs.lemmas.Option.{same_Some}
+use Rattle.std.proofs.lemmas.Option.{same_Some, slice_get-get_or, slice_get_within}
 use Rattle.lrc_lang.specs.declared.program.Program.{Program}
 use Rattle.lrc_trace.specs.declared.act.Act.{Act}
 use Rattle.lrc_orders.specs.declared.outcomes.Outcome.{Outcome}
@@ -41,11 +41,12 @@ numbered program shape outcomes runs are sound number place at r = record {
 
 -- so are acts that are those of the run at the place
 pub numbered_at : (program : Program) (shape : Shape) (outcomes : List Outcome) (runs : List Met) → AreExactOutcomes program shape outcomes
-    → AreRunsOf program shape outcomes runs → (number place : ℕ) → IsNumberedAt shape.nodes outcomes number place → (own : Met) → slice_get runs place ≡ Some own
-    → (acts : List Act) → acts ≡ own.acts.items → IsNumberedExactRun program shape number acts
-numbered_at program shape outcomes runs are sound number place at own there acts is =
+    → AreRunsOf program shape outcomes runs → (number place : ℕ) → IsNumberedAt shape.nodes outcomes number place
+    → (own any : Met) → own ≡ get_or runs place any → (acts : List Act) → acts ≡ own.acts.items → IsNumberedExactRun program shape number acts
+numbered_at program shape outcomes runs are sound number place at own any there acts is =
     let r = sound.each place at.at.outcome at.at.there in
-    let same : r.met ≡ own = same_Some r.met own (sym r.there ∙ there) in
+    let within = slice_get_within runs place r.met r.there in
+    let same : r.met ≡ own = same_Some r.met own (sym r.there ∙ slice_get-get_or runs place any within ∙ ap Some (sym there)) in
     subst (λ (a : List Act). IsNumberedExactRun program shape number a) (ap (λ (m : Met). m.acts.items) same ∙ sym is)
     (numbered program shape outcomes runs are sound number place at r)
 

@@ -19,9 +19,9 @@ use Rattle.lrc_exact_text.specs.Listed.{AreExactOutcomes}
 use Rattle.lrc_exact_text.specs.One.{HasFewerExactOutcomes, IsNumberedExactRun}
 
 -- what is known of something that may be there
-pub calm_some : {S : Type 0} {P : S → Type 0} (found : Option S) (there : S) → found ≡ Some there → IfSome found P → P there
-calm_some {S} {P} (Some own) there is known = subst P (same_Some own there is) known
-calm_some None there is known = absurd cc
+pub calm_some : {S : Type 0} (found : Option S) (P : S → Type 0) (there : S) → found ≡ Some there → IfSome found P → P there
+calm_some (Some own) P there is known = subst P (same_Some own there is) known
+calm_some None P there is known = let never : ⊥ = cc in absurd never
 
 module _ (program : Program) (shape : Shape) (none : HasNoRace program shape.nodes) where
   pub calm_exact : (outcomes : List Outcome) → ((notes : List Act) → HasOutcome outcomes notes ↔ IsOutcome program shape.nodes notes)
