@@ -28,18 +28,19 @@ owns_of (if_else origin condition then otherwise) = owns_in condition
 owns_of (while_do origin condition inside) = owns_in condition
 
 abbrev mutual
-  -- of a statement, and of those of its blocks, in the order of the core's text
-  pub owns_within : Statement → List (List Own)
-  owns_within (if_else origin condition then otherwise) = owns_in condition ∷ (owns_among then ++ owns_among otherwise)
-  owns_within (while_do origin condition inside) = owns_in condition ∷ owns_among inside
-  owns_within (assign origin name value) = owns_of (assign origin name value) ∷ []
-  owns_within (read origin name word) = owns_of (read origin name word) ∷ []
-  owns_within (write origin word value) = owns_of (write origin word value) ∷ []
-  owns_within (acquire origin lock) = owns_of (acquire origin lock) ∷ []
-  owns_within (release origin lock) = owns_of (release origin lock) ∷ []
-  owns_within (barrier origin) = [] ∷ []
-  owns_within (print origin value) = owns_of (print origin value) ∷ []
+  -- of each of the statements of its blocks
+  pub owns_inside : Statement → List (List Own)
+  owns_inside (if_else origin condition then otherwise) = owns_among then ++ owns_among otherwise
+  owns_inside (while_do origin condition inside) = owns_among inside
+  owns_inside (assign origin name value) = []
+  owns_inside (read origin name word) = []
+  owns_inside (write origin word value) = []
+  owns_inside (acquire origin lock) = []
+  owns_inside (release origin lock) = []
+  owns_inside (barrier origin) = []
+  owns_inside (print origin value) = []
 
+  -- of each statement in the order of the core's text: a statement stands before those of its blocks
   pub owns_among : Block → List (List Own)
   owns_among empty = []
-  owns_among (next first rest) = owns_within first ++ owns_among rest
+  owns_among (next first rest) = (owns_of first ∷ owns_inside first) ++ owns_among rest

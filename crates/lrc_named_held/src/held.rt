@@ -1,19 +1,23 @@
 // What is told in place of the translation's own names.
 
 ghost use Rattle.std.specs.Prelude.{◌≡◌, IfOk, map};
-ghost use Rattle.lrc_named_core.specs.View.{block_of};
-ghost use Rattle.lrc_named_held.specs.Held.{held_by, held_of};
-ghost use Rattle.lrc_named_held.specs.Owns.{owns_among};
-ghost use Rattle.lrc_source.specs.Telling.{held_seen};
+ghost use Rattle.lrc_named_held.specs.Held.{held_by, held_in, held_of, held_seen};
 
-use crate::owns::{Own, owns_among};
+use crate::owns::Own;
 use crate::source::quoted;
-use lrc_named_core::tree::Statement;
-use lrc_source::read_text::Held;
 use lrc_text::push_number;
 use std::alloc::{AllocError, Global};
 
-// Of one name: as it is spelled in the core, and the source of what it holds.
+/// A name of the translation's own in a statement of a core, and what is told in its place: what it holds.
+#[derive(Drop)]
+pub struct Held {
+    /// The name, as it is spelled in the core.
+    pub name: Vec<u8>,
+    /// The source of what it holds, between back quotes.
+    pub source: Vec<u8>,
+}
+
+// Of one name.
 fn held_by(
     alloc: Global,
     text: &[u8],
@@ -24,7 +28,7 @@ fn held_by(
 {
     let mut name = Vec::new(alloc);
     push_number(&mut name, b"_", u64::from(own.number))?;
-    let source = quoted(alloc, text, offsets, own.first as usize, own.last as usize)?;
+    let source = quoted(alloc, text, offsets, own.first, own.last)?;
     Ok(Held { name, source })
 }
 
@@ -35,7 +39,7 @@ fn held_in(
     offsets: &[u32],
     owns: &[Own],
 ) -> Result<Vec<Held>, AllocError>
-    ensures { IfOk result (λ held. map held_seen held.items ≡ map (held_by text.now offsets.now) owns.now) }
+    ensures { IfOk result (λ held. map held_seen held.items ≡ held_in text.now offsets.now owns.now) }
 {
     let mut held = Vec::new(alloc);
     for own in owns {
@@ -44,21 +48,19 @@ fn held_in(
     Ok(held)
 }
 
-/// Returns what is told in place of the translation's own names in each statement of a core, in the order of its text.
-/// `text` is the named program's; `offsets` has for each of its tokens how many bytes stand before it. It fails only if
-/// memory runs out.
+/// Returns what is told in place of the translation's own names in each statement of a core. `text` is that of the named
+/// program; `offsets` has for each of its tokens how many bytes stand before it. It fails only if memory runs out.
 pub fn held_of(
     alloc: Global,
     text: &[u8],
     offsets: &[u32],
-    statements: &[Statement<'_>],
+    owns: &[Vec<Own>],
 ) -> Result<Vec<Vec<Held>>, AllocError>
     ensures { IfOk result (λ held. map (λ one. map held_seen one.items) held.items
-        ≡ held_of text.now offsets.now (owns_among (block_of statements.now))) }
+        ≡ held_of text.now offsets.now (map (λ one. one.items) owns.now)) }
 {
-    let owns = owns_among(alloc, statements)?;
     let mut held = Vec::new(alloc);
-    for one in &owns {
+    for one in owns {
         held.push(held_in(alloc, text, offsets, one)?)?;
     }
     Ok(held)

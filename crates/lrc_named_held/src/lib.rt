@@ -5,4 +5,5 @@ mod held;
 mod owns;
 mod source;
 
-pub use held::held_of;
+pub use held::{Held, held_of};
+pub use owns::{Own, owns_among};

@@ -1,19 +1,21 @@
 // The translation's own names in the statements of a core.
 
-ghost use Rattle.std.specs.Prelude.{◌≡◌, ◌++◌, ◌∷◌, [], IfOk, OnOk, map};
+ghost use Rattle.std.specs.Prelude.{◌≡◌, ◌++◌, IfOk, OnOk, map};
 ghost use Rattle.lrc_named_core.specs.Shape.{private_of, tree_of};
 ghost use Rattle.lrc_named_core.specs.View.{block_of, expression_of, statement_of};
-ghost use Rattle.lrc_named_held.specs.Owns.{owns_among, owns_in, owns_of, owns_of_name, owns_within};
+ghost use Rattle.lrc_named_held.specs.Owns.{owns_among, owns_in, owns_inside, owns_of, owns_of_name};
 
 use lrc_named_core::tree::{Expression, Private, Statement, Tree};
 use std::alloc::{AllocError, Global};
 
-/// A name of the translation's own in a statement: its number, and with which token of the named program's text the
-/// expression begins and ends that it holds.
+/// A name of the translation's own in a statement of a core.
 #[derive(Clone, Copy)]
 pub struct Own {
+    /// Its number.
     pub number: u32,
+    /// With which token of the named program's text the expression begins that it holds.
     pub first: u32,
+    /// With which token it ends.
     pub last: u32,
 }
 
@@ -37,7 +39,9 @@ fn push_tree(owns: &mut Vec<Own>, tree: &Tree<'_>) -> Result<(), AllocError>
     ensures { OnOk result (owns.new.items ≡ owns.old.items ++ owns_in (tree_of tree.now)) }
 {
     match tree {
-        Tree::Number(_) | Tree::Me | Tree::Nodes => Ok(()),
+        Tree::Number(_) => Ok(()),
+        Tree::Me => Ok(()),
+        Tree::Nodes => Ok(()),
         Tree::Private(name) => push_name(owns, *name),
         Tree::Binary(left, _, right) => {
             push_tree(owns, left)?;
@@ -78,7 +82,7 @@ fn push_statement(owns: &mut Vec<Own>, statement: &Statement<'_>) -> Result<(), 
     }
 }
 
-/// Returns the translation's own names in a statement, those of its blocks aside.
+// Those of a statement, those of its blocks aside.
 fn owns_of(alloc: Global, statement: &Statement<'_>) -> Result<Vec<Own>, AllocError>
     ensures { IfOk result (λ owns. owns.items ≡ owns_of (statement_of statement.now)) }
 {
@@ -98,34 +102,37 @@ fn push_among(
         ≡ map (λ one. one.items) all.old.items ++ owns_among (block_of statements.now)) }
 {
     for statement in statements {
-        push_within(all, alloc, statement)?;
+        let own = owns_of(alloc, statement)?;
+        all.push(own)?;
+        push_inside(all, alloc, statement)?;
     }
     Ok(())
 }
 
+// Adds those of the statements of its blocks.
 #[cycle(owns)]
-fn push_within(
+fn push_inside(
     all: &mut Vec<Vec<Own>>,
     alloc: Global,
     statement: &Statement<'_>,
 ) -> Result<(), AllocError>
     ensures { OnOk result (map (λ one. one.items) all.new.items
-        ≡ map (λ one. one.items) all.old.items ++ owns_within (statement_of statement.now)) }
+        ≡ map (λ one. one.items) all.old.items ++ owns_inside (statement_of statement.now)) }
 {
-    let own = owns_of(alloc, statement)?;
-    all.push(own)?;
     match statement {
         Statement::If(_, _, then, otherwise) => {
             push_among(all, alloc, then)?;
             push_among(all, alloc, otherwise)
         }
         Statement::While(_, _, inside) => push_among(all, alloc, inside),
-        _ => Ok(()),
+        Statement::Assign(..) | Statement::Read(..) | Statement::Write(..) => Ok(()),
+        Statement::Acquire(..) | Statement::Release(..) => Ok(()),
+        Statement::Barrier(_) | Statement::Print(..) => Ok(()),
     }
 }
 
-/// Returns the translation's own names in each of the statements, in the order of the core's text. It fails only if memory
-/// runs out.
+/// Returns the translation's own names in each of the statements, in the order of the core's text: a statement stands
+/// before those of its blocks. It fails only if memory runs out.
 pub fn owns_among(
     alloc: Global,
     statements: &[Statement<'_>],
