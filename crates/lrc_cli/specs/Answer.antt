@@ -33,7 +33,7 @@ use Rattle.lrc_cli.specs.declared.answer.Answered.TheVariants.{Printed, Judged}
 use Rattle.lrc_cli_args.specs.declared.choice.Choice.{Choice}
 use Rattle.lrc_cli_args.specs.declared.choice.Choice.TheVariants.{Check, Core, Plain, Show, Judge, Explore, Lint, WhyActs, ChartActs}
 use Rattle.lrc_cli.specs.Reading.{HoldsAsRead, IsFaultAsRead, exploring_for, nodes_for}
-use Rattle.lrc_cli.specs.Showing.{RefusesAsRead, ShowsAsRead, takes_named}
+use Rattle.lrc_cli.specs.Showing.{RefusesAsRead, ShowsAsRead}
 use Rattle.lrc_cli_args.specs.declared.choice.Asking.{Asking}
 use Rattle.lrc_cli_args.specs.declared.choice.ChartedActs.{ChartedActs}
 use Rattle.lrc_cli_args.specs.declared.choice.Charting.{Charting}
@@ -196,7 +196,7 @@ Prints (Check file) text events_text out status = HoldsAsRead text (λ nodes rea
 Prints (Core file) text events_text out status = HoldsAsRead text (λ nodes read. IsCored read.core out status)
 Prints (Plain run) text events_text out status = HoldsAsRead text (λ nodes read. (program : Program) × IsTextOf read.core program
     × IsPrintoutOfRounds program (nodes_for run.nodes_given run.nodes nodes).count run.steps.count out status)
-Prints (Show run shape) text events_text out status = ShowsAsRead (takes_named shape) run shape text events_text out status
+Prints (Show run shape) text events_text out status = ShowsAsRead run shape text events_text out status
 Prints (Judge judging) text events_text out status = IsJudged judging.all judging.pairs judging text out status
 Prints (Explore exploring) text events_text out status = HoldsAsRead text (λ nodes read. (program : Program) × IsTextOf read.core program
     × IsExploration (exploring_for exploring nodes) read program out status)
@@ -295,7 +295,7 @@ abbrev pub IsFault : Choice → List ℕ → Option (List ℕ) → Fault → Typ
 IsFault (Check file) text events_text fault = IsFaultAsRead text fault (λ nodes read. IsTextFault read.core fault)
 IsFault (Core file) text events_text fault = IsFaultAsRead text fault (λ nodes read. IsTextFault read.core fault)
 IsFault (Plain run) text events_text fault = IsFaultAsRead text fault (λ nodes read. IsTextFault read.core fault)
-IsFault (Show run shape) text events_text fault = RefusesAsRead (takes_named shape) run shape text events_text fault
+IsFault (Show run shape) text events_text fault = RefusesAsRead run shape text events_text fault
 IsFault (Judge judging) text events_text fault = IsActsFault (judged_nodes judging) text fault
 IsFault (Explore exploring) text events_text fault = IsFaultAsRead text fault (λ nodes read. IsTextFault read.core fault
     ⊎ ((program : Program) × IsTextOf read.core program × IsSearchFault (exploring_for exploring nodes) program fault))

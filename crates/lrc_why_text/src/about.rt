@@ -6,6 +6,7 @@ ghost use Rattle.lrc_why_text.specs.Told.{about_text, barrier_line, cause_line, 
 use lrc_judge::races::word_of;
 use lrc_text::push_number;
 use lrc_trace::act::{Cause, Deed};
+use lrc_trap_words::push_cause;
 use lrc_why::reasons::{About, Gift, Several, Since, Source};
 use lrc_why_lines::deed::{push_lock, push_word};
 use lrc_why_lines::lists::push_some;
@@ -15,16 +16,16 @@ use lrc_why_lines::shown::Shown;
 use std::alloc::AllocError;
 
 #[tactic(auto, unfolding(crate::specs::Told::cause_line))]
-fn cause_words(cause: Cause) -> &'static [u8]
-    ensures { result.now ≡ cause_line cause }
+fn push_cause_line(
+    text: &mut Vec<u8>,
+    shown: Shown<'_>,
+    cause: Cause,
+) -> Result<(), AllocError>
+    ensures { OnOk result (text.new.items ≡ text.old.items ++ cause_line shown.entry cause) }
 {
-    match cause {
-        Cause::DivisionByZero => b"  division by zero\n",
-        Cause::WordOutOfRange => b"  word out of range\n",
-        Cause::LockOutOfRange => b"  lock out of range\n",
-        Cause::LockHeld => b"  lock held already\n",
-        Cause::LockNotHeld => b"  lock not held\n",
-    }
+    text.extend_from_slice(b"  ")?;
+    push_cause(text, shown.trap, cause)?;
+    text.extend_from_slice(b"\n")
 }
 
 // The value that a deed reads or writes.
@@ -286,7 +287,7 @@ pub(crate) fn push_about(
 {
     match about {
         About::Nothing => Ok(()),
-        About::Trapped(cause) => text.extend_from_slice(cause_words(*cause)),
+        About::Trapped(cause) => push_cause_line(text, shown, *cause),
         About::Gives(gift) => push_gift(text, shown, deed, gift),
         About::Follows(release) => push_follows(text, shown, deed, *release),
         About::Comes(number) => push_barrier(text, b"  comes to barrier ", *number),
