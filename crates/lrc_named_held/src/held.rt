@@ -18,12 +18,7 @@ pub struct Held {
 }
 
 // Of one name.
-fn held_by(
-    alloc: Global,
-    text: &[u8],
-    offsets: &[u32],
-    own: Own,
-) -> Result<Held, AllocError>
+fn held_by(alloc: Global, text: &[u8], offsets: &[u32], own: Own) -> Result<Held, AllocError>
     ensures { IfOk result (λ held. held_seen held ≡ held_by text.now offsets.now own) }
 {
     let mut name = Vec::new(alloc);

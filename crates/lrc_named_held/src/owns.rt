@@ -133,10 +133,7 @@ fn push_inside(
 
 /// Returns the translation's own names in each of the statements, in the order of the core's text: a statement stands
 /// before those of its blocks. It fails only if memory runs out.
-pub fn owns_among(
-    alloc: Global,
-    statements: &[Statement<'_>],
-) -> Result<Vec<Vec<Own>>, AllocError>
+pub fn owns_among(alloc: Global, statements: &[Statement<'_>]) -> Result<Vec<Vec<Own>>, AllocError>
     ensures { IfOk result (λ all. map (λ one. one.items) all.items
         ≡ owns_among (block_of statements.now)) }
 {

@@ -16,11 +16,7 @@ use lrc_why_lines::shown::Shown;
 use std::alloc::AllocError;
 
 #[tactic(auto, unfolding(crate::specs::Told::cause_line))]
-fn push_cause_line(
-    text: &mut Vec<u8>,
-    shown: Shown<'_>,
-    cause: Cause,
-) -> Result<(), AllocError>
+fn push_cause_line(text: &mut Vec<u8>, shown: Shown<'_>, cause: Cause) -> Result<(), AllocError>
     ensures { OnOk result (text.new.items ≡ text.old.items ++ cause_line shown.entry cause) }
 {
     text.extend_from_slice(b"  ")?;
