@@ -99,7 +99,8 @@ fn push_shortened(out: &mut Vec<u8>, bytes: &[u8]) -> Result<(), AllocError>
     if bytes.len() <= MOST {
         return out.extend_from_slice(bytes);
     }
-    out.extend_from_slice(&bytes[..MOST])?;
+    let front = &bytes[..MOST];
+    out.extend_from_slice(front)?;
     out.extend_from_slice(b"..")
 }
 
