@@ -2,6 +2,7 @@
 
 ghost use Rattle.std.specs.Prelude.{◌≡◌, [], IfOk, map, option_map, slice_index, slice_index_or};
 ghost use Rattle.std.specs.List.{range_with_len};
+ghost use Rattle.std.specs.Str.{bytes_eq};
 ghost use Rattle.lrc_lang.specs.Faults.{IsText};
 ghost use Rattle.lrc_lang.specs.Tree.{program_of};
 ghost use Rattle.lrc_lang.specs.declared.program.Program.{Program};
@@ -170,20 +171,23 @@ fn held_at(held: &[Vec<Held>], statement: u32) -> &[Held]
     }
 }
 
+// Whether what is told of a name is of this one.
+fn is_of(held: &Held, name: &[u8]) -> bool
+    ensures { result ≡ bytes_eq (held_seen held.now).name name.now }
+{
+    held.name.as_slice() == name
+}
+
 // What is told in place of a name.
 fn name_held<'t>(held: &'t [Held], name: &'t [u8]) -> &'t [u8]
     ensures { result.now ≡ name_held (map held_seen held.now) name.now }
 {
-    match held {
-        [first, more @ ..] => {
-            if first.name.as_slice() == name {
-                &first.source
-            } else {
-                name_held(more, name)
-            }
+    for one in held {
+        if is_of(one, name) {
+            return one.source.as_slice();
         }
-        [] => name,
     }
+    name
 }
 
 // These names, each as it is told where these are held.
