@@ -32,8 +32,8 @@ as_program count words locks declared lines tree statements (Core text origins o
     written = comes.1.0;
     fits = subst (λ l. length l ≤ 65536) (sym comes.1.0) comes.1.1;
   };
-  origins_are = comes.1.2.0;
-  owns_are = comes.1.2.1;
+  origins_are = comes.1.2;
+  owns_are = comes.1.3;
 }
 as_program count words locks declared lines tree statements (Over x) counted core comes = record {
   words = words;
