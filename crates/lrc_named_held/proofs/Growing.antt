@@ -9,7 +9,7 @@ use Rattle.lrc_named_core.specs.declared.tree.Expression.{Expression}
 use Rattle.lrc_named_core.specs.declared.tree.Origin as code_origin
 use Rattle.lrc_named_core.specs.Tree.{Block}
 use Rattle.lrc_named_core.specs.View.{block_of, row_of, statement_of}
-use Rattle.lrc_named_origins.proofs.Rows.{row_of_hidden}
+use Rattle.lrc_named_held.proofs.Rows.{row_of_hidden}
 use Rattle.lrc_named_held.specs.declared.owns.Own.{Own}
 use Rattle.lrc_named_held.specs.Owns.{owns_among, owns_inside, owns_of}
 

@@ -3,7 +3,7 @@ use Rattle.std.proofs.Common.{◌≡◌, ◌∙◌, ◌++◌, List, Vec, ap, map
 use Rattle.std.specs.declared.alloc.Global.{Global}
 use Rattle.std.proofs.lemmas.List.{map_push}
 use Rattle.lrc_named_core.specs.View.{block_of, statement_of}
-use Rattle.lrc_named_origins.proofs.Rows.{well}
+use Rattle.lrc_named_held.proofs.Rows.{well}
 use Rattle.lrc_named_held.specs.declared.owns.Own.{Own}
 use Rattle.lrc_named_held.specs.Owns.{owns_among, owns_inside}
 use Rattle.lrc_named_held.proofs.Growing.{block_step, choice_pushed, loop_pushed}
