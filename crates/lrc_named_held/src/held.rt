@@ -38,7 +38,8 @@ fn held_in(
 {
     let mut held = Vec::new(alloc);
     for own in owns {
-        held.push(held_by(alloc, text, offsets, *own)?)?;
+        let one = held_by(alloc, text, offsets, *own)?;
+        held.push(one)?;
     }
     Ok(held)
 }
@@ -56,7 +57,8 @@ pub fn held_of(
 {
     let mut held = Vec::new(alloc);
     for one in owns {
-        held.push(held_in(alloc, text, offsets, one)?)?;
+        let told = held_in(alloc, text, offsets, one)?;
+        held.push(told)?;
     }
     Ok(held)
 }
