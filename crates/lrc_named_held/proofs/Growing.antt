@@ -32,9 +32,9 @@ one_more xs i x lt is = rw add-one (take-suc xs i x lt ∙ ap (λ y. take i xs +
 pub block_step : (xs : List Statement) (i : ℕ) (x : Statement) (start old head new : List (List Own)) (own : List Own) → i < length xs → x ≡ get_or xs i x
     → old ≡ start ++ owns_among (block_of (take i xs)) → own ≡ owns_of (statement_of x) → head ≡ old ++ own ∷ []
     → new ≡ head ++ owns_inside (statement_of x) → new ≡ start ++ owns_among (block_of (take (i + 1) xs))
-block_step xs i x start old head new own lt is before of pushed grown =
+block_step xs i x start old head new own lt is before own_is pushed grown =
     grown
-    ∙ ap (λ t. t ++ owns_inside (statement_of x)) (pushed ∙ ap (λ o. old ++ o ∷ []) of)
+    ∙ ap (λ t. t ++ owns_inside (statement_of x)) (pushed ∙ ap (λ o. old ++ o ∷ []) own_is)
     ∙ append_assoc old (owns_of (statement_of x) ∷ []) (owns_inside (statement_of x))
     ∙ ap (λ t. t ++ owns_within x) before
     ∙ append_assoc start (owns_among (block_of (take i xs))) (owns_within x)

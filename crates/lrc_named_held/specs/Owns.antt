@@ -6,7 +6,7 @@ use Rattle.lrc_named_held.specs.declared.owns.Own.{Own}
 
 abbrev pub owns_of_name : Private → List Own
 owns_of_name (named bytes) = []
-owns_of_name (own number first last) = record { number = number; first = first; last = last } ∷ []
+owns_of_name (own count first last) = record { number = count; first = first; last = last } ∷ []
 
 abbrev pub owns_in : Expression → List Own
 owns_in (number n) = []

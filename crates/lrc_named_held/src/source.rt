@@ -99,8 +99,7 @@ fn push_shortened(out: &mut Vec<u8>, bytes: &[u8]) -> Result<(), AllocError>
     if bytes.len() <= MOST {
         return out.extend_from_slice(bytes);
     }
-    let front = &bytes[..MOST];
-    out.extend_from_slice(front)?;
+    out.extend_from_slice(part(bytes, 0, MOST))?;
     out.extend_from_slice(b"..")
 }
 

@@ -17,10 +17,10 @@ one_row : (text offsets : List ℕ) (owns : List (Vec Own Global)) (i : ℕ) (on
     (told : Vec code.Held Global) → i < length owns → one ≡ get_or owns i one → row ≡ one.items
     → map seen_row old ≡ held_of text offsets (map items_of (take i owns)) → seen_row told ≡ held_in text offsets row → new ≡ old ++ told ∷ []
     → map seen_row new ≡ held_of text offsets (map items_of (take (i + 1) owns))
-one_row text offsets owns i one row old new told lt is of before seen grown =
+one_row text offsets owns i one row old new told lt is row_is before seen grown =
     ap (map seen_row) grown ∙ map_push seen_row old told
     ∙ ap₂ (λ (l : List (List Held)) (x : List Held). l ++ x ∷ []) before
-    (seen ∙ ap (held_in text offsets) of ∙ ap (λ (o : Vec Own Global). held_in text offsets o.items) is)
+    (seen ∙ ap (held_in text offsets) row_is ∙ ap (λ (o : Vec Own Global). held_in text offsets o.items) is)
     ∙ sym (map_push (held_in text offsets) (map items_of (take i owns)) (items_of (get_or owns i one)))
     ∙ sym (ap (map (held_in text offsets)) (map_more items_of owns i one lt))
 

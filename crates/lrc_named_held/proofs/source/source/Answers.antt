@@ -20,7 +20,7 @@ at_end : (first token last : ℕ) → (last ≤ first → token ≡ first) → (
 at_end first token last none within past =
     elim (cases_lt first last) [
       | inl some ↦ let le : first ≤ last = omega arith in let in_it = within le in omega arith
-      | inr no ↦ let same = none no in omega arith
+      | inr other ↦ let same = none other in omega arith
     ]
 
 pub loop-token-preserved : goal.loop-token-preserved
