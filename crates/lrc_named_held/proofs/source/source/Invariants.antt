@@ -1,5 +1,5 @@
 -- The tokens that the loop has passed, each with what stands behind it.
-use Rattle.std.proofs.Common.{◌≡◌, ◌≤◌, ◌-◌, ℕ}
+use Rattle.std.proofs.Common.{◌≡◌, ◌≤◌, ◌-◌}
 use Rattle.std.specs.List.{flat_map, range_with_len}
 use Rattle.lrc_named_held.specs.Source.{bytes_from, with_gap}
 use Rattle.lrc_named_held.proofs.source.source.Given as goal
