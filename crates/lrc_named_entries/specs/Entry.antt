@@ -1,6 +1,7 @@
 -- Names where they are declared.
 use Rattle.std.specs.Prelude.{ℕ, ◌+◌, ◌&&◌, Bool, Option, None, Some, List, [], ◌∷◌, if◌then◌else◌, length, map, nat_le}
 use Rattle.std.specs.List.{flat_map}
+use Rattle.std.specs.Option.{option_or}
 use Rattle.lrc_named_tree.specs.Tree.{Named, Expression, Expressions, none, more, Place, Declaration, node_count, constant, shared, lock, function}
 use Rattle.lrc_named_tree.specs.Ends.{last_of}
 use Rattle.lrc_named_entries.specs.declared.entry.Sort.{Sort}
@@ -55,8 +56,12 @@ parameters_in at _ = []
 abbrev pub parameters_around : ℕ → List Declaration → List Named
 parameters_around at declarations = flat_map (parameters_in at) declarations
 
--- the token with which the first `nodes` declaration begins
+-- the token with which a `nodes` declaration begins
+abbrev pub nodes_in : Declaration → Option ℕ
+nodes_in (node_count at n) = Some at
+nodes_in other = None
+
+-- that of the first one
 abbrev pub first_nodes : List Declaration → Option ℕ
 first_nodes [] = None
-first_nodes (node_count at n ∷ others) = Some at
-first_nodes (other ∷ others) = first_nodes others
+first_nodes (first ∷ others) = option_or (nodes_in first) (first_nodes others)

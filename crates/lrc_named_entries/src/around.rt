@@ -2,7 +2,7 @@
 
 ghost use Rattle.std.specs.Prelude.{◌≡◌, ◌++◌, IfOk, OnOk, map};
 ghost use Rattle.lrc_named_tree.specs.View.{declaration_of, expression_of, named_of};
-ghost use Rattle.lrc_named_entries.specs.Entry.{belongs, first_nodes, parameters_around, parameters_in};
+ghost use Rattle.lrc_named_entries.specs.Entry.{belongs, first_nodes, nodes_in, parameters_around, parameters_in};
 
 use lrc_named_tree::tree::{Declaration, Expression, Name};
 use std::alloc::{AllocError, Global};
@@ -68,9 +68,23 @@ pub fn first_nodes(declarations: &[Declaration<'_>]) -> Option<u32>
     ensures { result ≡ first_nodes (map declaration_of declarations.now) }
 {
     for declaration in declarations {
-        if let Declaration::Nodes(at, _) = declaration {
-            return Some(*at);
+        let found = nodes_in(declaration);
+        if found.is_some() {
+            return found;
         }
     }
     None
+}
+
+// Which token a `nodes` declaration begins with.
+fn nodes_in(declaration: &Declaration<'_>) -> Option<u32>
+    ensures { result ≡ nodes_in (declaration_of declaration.now) }
+{
+    match declaration {
+        Declaration::Nodes(at, _) => Some(*at),
+        Declaration::Const(_, _, _)
+        | Declaration::Shared(_, _)
+        | Declaration::Lock(_, _)
+        | Declaration::Function(_, _, _, _) => None,
+    }
 }

@@ -137,7 +137,7 @@ fn declared_place(seen: &Seen<'_>, name: &[u8]) -> Option<u32>
 fn is_truth(name: &[u8]) -> bool
     ensures { result ≡ is_truth name.now }
 {
-    name == b"true" || name == b"false"
+    name == b"true".as_slice() || name == b"false".as_slice()
 }
 
 // The hint on a name that is used as what it is not.
