@@ -18,11 +18,8 @@ use Rattle.lrc_judge_text.specs.Judgement.{Judges}
 use Rattle.lrc_judge_text.specs.PairsTold.{HasItsRaces, told_text}
 use Rattle.lrc_judge_text.specs.declared.memory.ExactMemory.{ExactMemory}
 use Rattle.lrc_page.specs.Page.{words_of}
-use Rattle.lrc_lang.specs.declared.fault.FaultKind.{FaultKind as TextKind}
-use Rattle.lrc_named_tokens.specs.Token.{Place}
-use Rattle.lrc_named_parse.specs.Faults.{HasFirstFault}
 use Rattle.lrc_named.specs.Named.{IsReadAsNamed}
-use Rattle.lrc_named_lint.specs.Told.{TellsTextFault}
+use Rattle.lrc_named_linted.specs.Linted.{IsUntold, TellsNamed}
 use Rattle.lrc_lint_fault.specs.Told.{TellsNoProgram}
 use Rattle.lrc_lint.specs.Linted.{LintsProgram}
 use Rattle.lrc_why_text.specs.Answers.{AnswersActs, RefusesActs}
@@ -164,13 +161,14 @@ IsShown None exploring text program out status = IsSaid exploring text program o
 abbrev pub IsExploration : Exploring → ReadText → Program → List ℕ → ℕ → Type 0
 IsExploration exploring text program out status = IsShown exploring.events exploring text program out status
 
--- the text is read as a named program, and has a fault as such
-abbrev pub HasNamedFault : List ℕ → Type 0
-HasNamedFault text = IsReadAsNamed text × (place : Place) × (kind : TextKind) × HasFirstFault text place kind
-
--- the text and the status are what `lint` says of such a text of this file: where its first fault is, and how it may be mended
+-- the text and the status are what `lint` says of a text of this file that is read as a named program and has a fault: where the first one
+-- is, and how it may be mended
 abbrev pub IsLintedAsNamed : List ℕ → List ℕ → List ℕ → ℕ → Type 0
-IsLintedAsNamed file text out status = IsReadAsNamed text × TellsTextFault file text out × (status ≡ 1)
+IsLintedAsNamed file text out status = IsReadAsNamed text × TellsNamed file text out × (status ≡ 1)
+
+-- the text is of the core, or a named program without a fault or with one of which no hint is told
+abbrev pub IsNotTold : List ℕ → Type 0
+IsNotTold text = (¬ IsReadAsNamed text) ⊎ IsUntold text
 
 -- of a text of the core: that it is no program, or its warnings
 abbrev pub IsLintedAsCore : List ℕ → List ℕ → List ℕ → ℕ → Type 0
@@ -179,7 +177,7 @@ IsLintedAsCore file text out status = (TellsNoProgram file text out × (status �
 -- of any text
 abbrev pub IsLinted : List ℕ → List ℕ → List ℕ → ℕ → Type 0
 IsLinted file text out status =
-    IsLintedAsNamed file text out status ⊎ ((HasNamedFault text → ⊥) × IsLintedAsCore file text out status)
+    IsLintedAsNamed file text out status ⊎ (IsNotTold text × IsLintedAsCore file text out status)
 
 -- how many nodes acts from anywhere are of, where that is said
 abbrev pub foreign_nodes : ForeignActs → Option ℕ

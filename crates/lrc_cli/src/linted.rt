@@ -1,7 +1,7 @@
 // What the program answers to the command `lint`.
 
 ghost use Rattle.std.specs.Prelude.{◌≡◌, IfErr, IfOk, MatchOption};
-ghost use Rattle.lrc_cli.specs.Answer.{HasNamedFault, IsLinted, IsLintedAsNamed};
+ghost use Rattle.lrc_cli.specs.Answer.{IsLinted, IsLintedAsNamed, IsNotTold};
 ghost use Rattle.lrc_cli_answer.specs.declared.fault.Fault.TheVariants.{NoMemory};
 ghost use Rattle.lrc_text.specs.Parts.{whole_text};
 
@@ -10,7 +10,7 @@ use lrc_cli_answer::printout::Printout;
 use lrc_lint::lint;
 use lrc_lint_fault::Linted;
 use lrc_named::is_read_as_named;
-use lrc_named_lint::lint_text_fault;
+use lrc_named_linted::lint_named;
 use std::alloc::{AllocError, Global};
 
 /// Answers the command `lint` for the text of this file. It fails only if memory runs out.
@@ -26,26 +26,26 @@ pub(crate) fn linted(alloc: Global, file: &str, text: &[u8]) -> Result<Printout,
     })
 }
 
-// What is said of a text: its first fault as such, if it is read as a named program, or else what is said of a text of the
-// core.
+// What is said of a text: its first fault, if it is read as a named program and a hint is told of it, or else what is said
+// of a text of the core.
 fn linted_as_read(alloc: Global, file: &[u8], text: &[u8]) -> Result<Linted, AllocError>
     ensures { IfOk result (λ linted. IsLinted file.now text.now
         (whole_text linted.parts.items) linted.status) }
 {
-    match named_fault(alloc, file, text)? {
+    match linted_as_named(alloc, file, text)? {
         Some(linted) => Ok(linted),
         None => lint(alloc, file, text),
     }
 }
 
-// What is said of a text that is read as a named program and has a fault as such.
-fn named_fault(alloc: Global, file: &[u8], text: &[u8]) -> Result<Option<Linted>, AllocError>
-    ensures { IfOk result (λ told. MatchOption told (HasNamedFault text.now → ⊥)
+// What is said of the first fault of a text that is read as a named program.
+fn linted_as_named(alloc: Global, file: &[u8], text: &[u8]) -> Result<Option<Linted>, AllocError>
+    ensures { IfOk result (λ told. MatchOption told (IsNotTold text.now)
         (λ linted. IsLintedAsNamed file.now text.now
         (whole_text linted.parts.items) linted.status)) }
 {
     if is_read_as_named(alloc, text)? {
-        lint_text_fault(alloc, file, text)
+        lint_named(alloc, file, text)
     } else {
         Ok(None)
     }
