@@ -2,7 +2,7 @@
 use Rattle.std.proofs.Common.{◌≡◌, ◌<◌, ◌≤◌, ◌+◌, ℕ, zero, suc, List, [], ◌∷◌, ◌++◌, map, length, take, drop, get_or, refl, ap, sym, ◌∙◌, append_assoc, append-nil, arith}
 use Rattle.std.specs.List.{flat_map}
 use Rattle.std.specs.Option.{option_or}
-use Rattle.std.specs.Prelude.{Option, None}
+use Rattle.std.specs.Prelude.{Option, None, OnOk, Result, Ok, Err}
 use Rattle.std.proofs.lemmas.List.{map-append, take_more, drop_more}
 use Rattle.std.proofs.lemmas.List.Concat.{flat_map-append}
 use Rattle.lrc_named_tree.specs.declared.tree.Declaration as code_declaration
@@ -75,3 +75,13 @@ nodes_there xs i x all found lt here so_far some first =
 
 pub no_nodes : (xs : List code_declaration.Declaration) (i : ℕ) (all : Option ℕ) → length xs ≤ i → all ≡ first_nodes (map declaration_of (drop i xs)) → None ≡ all
 no_nodes xs i all past so_far = sym (so_far ∙ ap (λ l. first_nodes (map declaration_of l)) (none_left xs i past))
+
+-- ---- results
+
+pub well : {A E : Type 0} (P Q : Type 0) (r : Result A E) → (P → Q) → OnOk r P → OnOk r Q
+well P Q (Ok x) f h = f h
+well P Q (Err e) f h = tt
+
+-- what was added is what stands for it
+pub added : {A E Y : Type 0} (r : Result A E) (old new more wanted : List Y) → wanted ≡ more → OnOk r (new ≡ old ++ more) → OnOk r (new ≡ old ++ wanted)
+added r old new more wanted is h = well (new ≡ old ++ more) (new ≡ old ++ wanted) r (λ e. e ∙ ap (λ l. old ++ l) (sym is)) h
