@@ -12,14 +12,16 @@ module _ {A B : Type 0} (view : A → B) (p : B → Bool) (xs : List A) (i : ℕ
   abbrev front : List B
   front = map view (take i xs)
 
-  module _ (x : A) (lt : i < length xs) (here : x ≡ get_or xs i x) where
+  module _ (d : A) (lt : i < length xs) where
+    abbrev x : A
+    x = get_or xs i d
+
     cut : map view (take (i + 1) xs) ≡ front ++ view x ∷ []
-    cut = ap (map view) (take_more xs i x lt ∙ ap (λ y. take i xs ++ y ∷ []) (sym here)) ∙ map-append view (take i xs) (x ∷ [])
+    cut = ap (map view) (take_more xs i d lt) ∙ map-append view (take i xs) (x ∷ [])
 
     whole : map view xs ≡ front ++ view x ∷ map view (drop (i + 1) xs)
     whole =
-        ap (map view)
-        (sym (take-append-drop i xs) ∙ ap (λ ys. take i xs ++ ys) (drop_more xs i x lt ∙ ap (λ y. y ∷ drop (i + 1) xs) (sym here)))
+        ap (map view) (sym (take-append-drop i xs) ∙ ap (λ ys. take i xs ++ ys) (drop_more xs i d lt))
         ∙ map-append view (take i xs) (x ∷ drop (i + 1) xs)
 
     pub none_more : find p front ≡ None → p (view x) ≡ false → find p (map view (take (i + 1) xs)) ≡ None
