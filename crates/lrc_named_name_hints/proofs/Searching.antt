@@ -62,3 +62,7 @@ pieces_more of view xs i d old new lt before grown =
     let step = ap (λ l. flat_map of (map view l)) (take_more xs i d lt) ∙ ap (flat_map of) (map-append view (take i xs) (x ∷ []))
     ∙ flat_map-append of (map view (take i xs)) (view x ∷ []) ∙ ap (λ l. flat_map of (map view (take i xs)) ++ l) (append-nil (of (view x))) in
     grown ∙ ap (λ l. l ++ of (view x)) before ∙ sym step
+
+-- a list that has grown by some for a value, which is another one
+pub grown_by : {V Y : Type 0} (of : V → List Y) (old new : List Y) (value other : V) → value ≡ other → new ≡ old ++ of value → new ≡ old ++ of other
+grown_by of old new value other same grown = grown ∙ ap (λ v. old ++ of v) same
