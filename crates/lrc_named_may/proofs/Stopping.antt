@@ -50,6 +50,13 @@ limited BadByte s s' l l' at bad_byte some is taken = absurd is
 limited BadByte s s' l l' at bad_number some is taken = absurd (cc)
 limited _ s s' l l' at next some is taken = tt
 
+-- what it takes but for a limit or a bad number, and why not
+pub stopped_by : (stop : Stop) (kind : FaultKind) (s s' : code_state.State) (l l' : code_limits.Limits) (at : ℕ) (next : Lexeme) → stop.kind ≡ kind
+    → kind ≢ NoMemory → IsTaken at (state_seen s) next → TakesLexeme (Err kind) s l at next s' l' → Stops (Some stop) s l at next s' l'
+stopped_by stop kind s s' l l' at next same other taken h =
+    let here : TakesLexeme (Err stop.kind) s l at next s' l' = subst (λ k. TakesLexeme (Err k) s l at next s' l') (sym same) h in
+    (here, λ e. other (sym same ∙ e), limited stop.kind s s' l l' at next stop.may_stand.items taken here)
+
 -- ---- what has been read
 
 -- behind tokens without a fault, one more that has none
