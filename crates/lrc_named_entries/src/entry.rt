@@ -140,8 +140,9 @@ fn push_item<'t>(
     ensures { OnOk result (map entry_seen entries.new.items ≡ map entry_seen entries.old.items
         ++ item_entry sort (place_of item.now) ∷ []) }
 {
-    let count = item.indices.len();
-    let last = last_behind(item.name.at, &item.indices);
+    let sizes = item.indices.as_slice();
+    let count = sizes.len();
+    let last = last_behind(item.name.at, sizes);
     push_entry(
         entries,
         Entry {

@@ -1,4 +1,4 @@
-use Rattle.std.proofs.Common.{ℕ, List, [], ◌∷◌, map, sym, ap, ap₂, ◌∙◌}
+use Rattle.std.proofs.Common.{ℕ, List, [], ◌∷◌, length, map, sym, ap, ap₂, ◌∙◌}
 use Rattle.lrc_named_tree.specs.View.{expressions_of, named_of, place_of}
 use Rattle.lrc_named_entries.specs.Entry.{Entry, item_entry, last_behind}
 use Rattle.lrc_named_entries.specs.View.{entry_seen}
@@ -9,7 +9,8 @@ pub returns : goal.returns
 returns c =
     let item = c.args.item.now in
     let made : ℕ → ℕ → List Entry = λ n m. record { name = named_of item.name; sort = c.args.sort; count = n; last = m } ∷ [] in
-    let last = c.last_behind-last.ensures ∙ ap (λ l. last_behind item.name.at (expressions_of l)) c.deref.ensures.value in
+    let last = c.last_behind-last.ensures ∙ ap (λ l. last_behind item.name.at (expressions_of l)) c.as_slice-sizes.ensures.value in
+    let many = c.len-count.ensures ∙ ap length c.as_slice-sizes.ensures.value ∙ counted item.indices.items in
     added c.push_entry.result (map entry_seen c.args.entries.now.items) (map entry_seen c.push_entry.new.entries.items)
     (made c.len-count.result c.last_behind-last.result) (item_entry c.args.sort (place_of item) ∷ [])
-    (sym (ap₂ made (c.len-count.ensures ∙ counted item.indices.items) last)) c.push_entry.ensures
+    (sym (ap₂ made many last)) c.push_entry.ensures
