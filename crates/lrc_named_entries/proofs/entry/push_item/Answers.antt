@@ -10,7 +10,7 @@ returns c =
     let item = c.args.item.now in
     let made : ℕ → ℕ → List Entry = λ n m. record { name = named_of item.name; sort = c.args.sort; count = n; last = m } ∷ [] in
     let last = c.last_behind-last.ensures ∙ ap (λ l. last_behind item.name.at (expressions_of l)) c.as_slice-sizes.ensures.value in
-    let many = c.len-count.ensures ∙ ap length c.as_slice-sizes.ensures.value ∙ counted item.indices.items in
+    let many = ap length c.as_slice-sizes.ensures.value ∙ counted item.indices.items in
     added c.push_entry.result (map entry_seen c.args.entries.now.items) (map entry_seen c.push_entry.new.entries.items)
-    (made c.len-count.result c.last_behind-last.result) (item_entry c.args.sort (place_of item) ∷ [])
+    (made (length c.as_slice-sizes.result.now) c.last_behind-last.result) (item_entry c.args.sort (place_of item) ∷ [])
     (sym (ap₂ made many last)) c.push_entry.ensures
