@@ -14,12 +14,11 @@ use Rattle.lrc_named_expression_faults.specs.declared.fault.FaultKind.TheVariant
 use Rattle.lrc_named_entries.specs.declared.entry.Sort.{Sort}
 use Rattle.lrc_named_entries.specs.declared.entry.Sort.TheVariants as sorts
 use Rattle.lrc_named_entries.specs.Entry.{Entry}
-use Rattle.lrc_named_hints.specs.HintTable.{name_in}
 use Rattle.lrc_named_name_hints.specs.declared.hint.Hint.TheVariants as hints
 use Rattle.lrc_named_name_hints.specs.declared.hint.Sense.{Sense}
 use Rattle.lrc_named_name_hints.specs.declared.hint.Sense.TheVariants as senses
 use Rattle.lrc_named_name_hints.specs.Hint.{declared_words, hint_words, is_words, near_words}
-use Rattle.lrc_named_name_hints.specs.Seen.{Seen, line_of, name_at}
+use Rattle.lrc_named_name_hints.specs.Seen.{Seen, line_of, name_at, name_in}
 
 -- ---- what a name is
 

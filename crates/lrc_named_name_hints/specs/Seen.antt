@@ -1,13 +1,12 @@
 -- What a hint on a fault of a name goes by.
 use Rattle.std.specs.Prelude.{ℕ, Option, Some, None, List, map, slice_get}
 use Rattle.std.specs.Option.{option_map}
-use Rattle.lrc_named_tokens.specs.Token.{Located}
+use Rattle.lrc_named_tokens.specs.Token.{name, Lexeme, token, Located}
 use Rattle.lrc_named_tokens.specs.View.{located_of}
 use Rattle.lrc_named_tree.specs.Tree.{Named}
 use Rattle.lrc_named_tree.specs.View.{named_of}
 use Rattle.lrc_named_entries.specs.Entry.{Entry}
 use Rattle.lrc_named_entries.specs.View.{entry_seen}
-use Rattle.lrc_named_hints.specs.HintTable.{name_in}
 use Rattle.lrc_named_name_hints.specs.declared.seen.Seen as code_seen
 
 -- the tokens of the text, what is declared in it, the parameters of the function that the faulty token belongs to, the token of the first
@@ -29,7 +28,11 @@ seen_of seen = record {
   at = seen.at;
 }
 
--- the name that a token is
+-- the name that this is
+abbrev pub name_in : Lexeme → Option (List ℕ)
+name_in (token (name bytes)) = Some bytes
+name_in other = None
+
 abbrev pub name_of : Option Located → Option (List ℕ)
 name_of None = None
 name_of (Some found) = name_in found.lexeme

@@ -4,10 +4,9 @@ ghost use Rattle.std.specs.Prelude.{◌≡◌, ◌++◌, IfOk, MatchOption, OnOk
 ghost use Rattle.std.specs.List.{list_all, list_any};
 ghost use Rattle.std.specs.Option.{option_map};
 ghost use Rattle.lrc_named_entries.specs.View.{entry_seen};
-ghost use Rattle.lrc_named_hints.specs.HintTable.{name_in};
 ghost use Rattle.lrc_named_name_hints.specs.Hint.{words_of};
 ghost use Rattle.lrc_named_name_hints.specs.Hints.{IsNearHint, candidate, candidates, counts, ends_before, is_declared_behind, is_declared_there, is_in_statement, is_set_by, is_set_in, is_spelled, sets};
-ghost use Rattle.lrc_named_name_hints.specs.Seen.{seen_of};
+ghost use Rattle.lrc_named_name_hints.specs.Seen.{name_in, seen_of};
 ghost use Rattle.lrc_named_tokens.specs.View.{lexeme_of, located_of};
 
 use crate::hint::Hint;

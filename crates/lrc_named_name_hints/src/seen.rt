@@ -3,8 +3,7 @@
 ghost use Rattle.std.specs.Prelude.{◌≡◌, map};
 ghost use Rattle.std.specs.List.{list_any};
 ghost use Rattle.std.specs.Option.{option_map};
-ghost use Rattle.lrc_named_name_hints.specs.Seen.{line_of, name_at, seen_of};
-ghost use Rattle.lrc_named_hints.specs.HintTable.{name_in};
+ghost use Rattle.lrc_named_name_hints.specs.Seen.{line_of, name_at, name_in, seen_of};
 ghost use Rattle.lrc_named_tokens.specs.View.{lexeme_of};
 ghost use Rattle.lrc_named_name_hints.specs.Hints.{is_entry, is_name};
 ghost use Rattle.lrc_named_entries.specs.View.{entry_seen};

@@ -1,10 +1,9 @@
 use Rattle.std.proofs.Common.{ℕ, List, map}
 use Rattle.std.specs.Borrow.{Bor}
-use Rattle.lrc_named_hints.specs.HintTable.{name_in}
 use Rattle.lrc_named_tokens.specs.Token.{Located}
 use Rattle.lrc_named_tokens.specs.View.{located_of}
 use Rattle.lrc_named_name_hints.specs.Hints.{candidate}
-use Rattle.lrc_named_name_hints.specs.Seen.{seen_of}
+use Rattle.lrc_named_name_hints.specs.Seen.{name_in, seen_of}
 use Rattle.lrc_named_name_hints.proofs.Searching.{grown_by, pieces_more}
 use Rattle.lrc_named_name_hints.proofs.near.candidates.Goals as goal
 
