@@ -1,7 +1,7 @@
 // Hints, and their words.
 
 ghost use Rattle.std.specs.Prelude.{◌≡◌, ◌++◌, OnOk};
-ghost use Rattle.lrc_named_name_hints.specs.declared.hint.Hint.TheVariants.{Arguments, Indices, Is, Near};
+ghost use Rattle.lrc_named_name_hints.specs.declared.hint.Hint.TheVariants.{Arguments, DeclaredOn, Indices, Is, Near};
 ghost use Rattle.lrc_named_name_hints.specs.Hint.{TellsWords, count_words, hint_line, hint_words, limit_words, sense_words};
 
 use lrc_named_expression_faults::fault::Limit;
@@ -56,13 +56,19 @@ fn push_words(out: &mut Vec<u8>, hint: Hint<'_>) -> Result<(), AllocError>
     ensures { OnOk result (out.new.items ≡ out.old.items ++ hint_words hint.entry) }
 {
     match hint {
-        Hint::DeclaredOn(line) => push_number(out, b"declared on line ", u64::from(line)),
+        Hint::DeclaredOn(line) => push_declared(out, line),
         Hint::Near(name) => push_near(out, name),
         Hint::Is(name, sense) => push_sense(out, name, sense),
         Hint::Indices(name, count) => push_indices(out, name, count),
         Hint::Arguments(name, count) => push_arguments(out, name, count),
         other => out.extend_from_slice(words_of(other)),
     }
+}
+
+fn push_declared(out: &mut Vec<u8>, line: u32) -> Result<(), AllocError>
+    ensures { OnOk result (out.new.items ≡ out.old.items ++ hint_words (DeclaredOn line)) }
+{
+    push_number(out, b"declared on line ", u64::from(line))
 }
 
 fn push_near(out: &mut Vec<u8>, name: &[u8]) -> Result<(), AllocError>
