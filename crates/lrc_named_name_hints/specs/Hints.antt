@@ -1,9 +1,8 @@
 -- The table of hints on faults of names.
-use Rattle.std.specs.Prelude.{◌≡◌, ◌&&◌, ◌||◌, ℕ, ◌-◌, Bool, true, false, nat_lt, Option, Some, None, List, [], ◌∷◌, ◌++◌, codes, get_or, if◌then◌else◌, length, map, slice_get}
+use Rattle.std.specs.Prelude.{◌≡◌, ◌&&◌, ◌||◌, ℕ, Bool, true, false, nat_lt, Option, Some, None, List, [], ◌∷◌, codes, get_or, if◌then◌else◌, length}
 use Rattle.std.specs.List.{find, flat_map, list_all, list_any}
 use Rattle.std.specs.Option.{option_map, option_or}
 use Rattle.std.specs.Str.{bytes_eq}
-use Rattle.lrc_lint_fault.specs.HintTable.{row_if}
 use Rattle.lrc_nearest.specs.Edits.{AreFar, IsNearest}
 use Rattle.lrc_named_tokens.specs.declared.token.Keyword.TheVariants as keywords
 use Rattle.lrc_named_tokens.specs.declared.token.Sign.TheVariants as signs

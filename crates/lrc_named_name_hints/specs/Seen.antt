@@ -1,6 +1,5 @@
 -- What a hint on a fault of a name goes by.
 use Rattle.std.specs.Prelude.{ℕ, Option, Some, None, List, map, slice_get}
-use Rattle.std.specs.Option.{option_map}
 use Rattle.lrc_named_tokens.specs.Token.{name, Lexeme, token, Located}
 use Rattle.lrc_named_tokens.specs.View.{located_of}
 use Rattle.lrc_named_tree.specs.Tree.{Named}

@@ -2,7 +2,6 @@ use Rattle.std.proofs.Common.{sym, ap, ◌∙◌}
 use Rattle.std.specs.List.{find}
 use Rattle.std.specs.Option.{option_map}
 use Rattle.lrc_named_entries.specs.Entry.{Entry}
-use Rattle.lrc_named_tree.specs.Tree.{Named}
 use Rattle.lrc_named_entries.specs.View.{entry_seen}
 use Rattle.lrc_named_name_hints.specs.Hints.{is_entry}
 use Rattle.lrc_named_name_hints.proofs.Searching.{at_end, found_there, none_more}
