@@ -30,7 +30,7 @@ pub fn lint_core_fault(
     ensures status { IfOk result IsFaulty }
 {
     match written {
-        Written::Core(_) => Ok(None),
+        Written::Core(..) => Ok(None),
         Written::Over(excess) => Ok(Some(over(alloc, file, text, tokens, *excess)?)),
         Written::TooLong => Ok(Some(core_too_long(alloc, file)?)),
     }
