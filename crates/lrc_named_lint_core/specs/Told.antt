@@ -39,9 +39,9 @@ core_long_lines file = place_text file 1 1 ++ fault_text TooLong ++ hint_line (c
 
 -- what is told of a program that has these tokens, where its core comes to this
 abbrev pub told_of : List ℕ → List ℕ → List Located → Written → Option (List ℕ)
-told_of file text tokens (written.Core core) = None
 told_of file text tokens (written.Over excess) = Some (excess_lines file text (get_or tokens excess.at nowhere) excess.limit)
 told_of file text tokens written.TooLong = Some (core_long_lines file)
+told_of file text tokens _ = None
 
 -- what is told, is told with status 1
 abbrev pub IsFaulty : Option Linted → Type 0
