@@ -1,5 +1,5 @@
 -- A judge stays one, whatever it finds out.
-use Rattle.std.proofs.Common.{◌≡◌, ◌+◌, ℕ, ◌<◌, ◌≤◌, List, [], ◌∷◌, ◌++◌, length, get_or, inl, inr, refl, sym, subst, ap, ◌∙◌, arith}
+use Rattle.std.proofs.Common.{◌≡◌, ◌+◌, ℕ, zero, suc, ◌<◌, ◌≤◌, List, [], ◌∷◌, ◌++◌, length, get_or, inl, inr, refl, sym, subst, ap, ◌∙◌, arith}
 use Rattle.std.specs.Prelude.{◌⊎◌, Option, Some, None, set, slice_get}
 use Rattle.std.proofs.lemmas.Bool.{cases_eq}
 use Rattle.std.proofs.lemmas.Option.{slice_get_within, slice_get-get_or, get_or_from_slice_get, same_Some}
@@ -30,6 +30,18 @@ pub slots_none : (sought : Sought) (naming : Naming) (events : List Event) (last
 slots_none sought naming events last claims slots none = record {
   each = λ k claim verdict at here. let e = none k (Some verdict) here in let never : ⊥ = cc in absurd never;
 }
+
+pub set_cases : {X : Type 0} (xs : List X) (i : ℕ) (x : X) (k : ℕ) (y : X) → slice_get (set xs i x) k ≡ Some y
+    → ((k ≡ i) × (y ≡ x)) ⊎ (slice_get xs k ≡ Some y)
+set_cases [] i x k y e = inr e
+set_cases (z ∷ xs) zero x zero y e = inl (refl, let is : y ≡ x = cc in is)
+set_cases (z ∷ xs) zero x (suc k) y e = inr e
+set_cases (z ∷ xs) (suc i) x zero y e = inr e
+set_cases (z ∷ xs) (suc i) x (suc k) y e =
+    elim (set_cases xs i x k y e) [
+      | inl (same, is) ↦ inl (ap suc same, is)
+      | inr old ↦ inr old
+    ]
 
 -- one slot more is filled
 pub slot_filled : (sought : Sought) (naming : Naming) (events : List Event) (last : ℕ) (claims : List LinedClaim) (slots after : List (Option Verdict))

@@ -1,8 +1,6 @@
 -- The places of accesses depend on the names of locations alone.
 use Rattle.std.proofs.Common.{◌≡◌, ℕ, List, length, refl, sym, subst, ap, ◌∙◌}
 use Rattle.std.specs.Prelude.{◌↔◌, Contains, Option, Some, None}
-use Rattle.std.specs.Prelude.{Vec}
-use Rattle.std.specs.declared.alloc.Global.{Global}
 use Rattle.lrc_races_trace.specs.declared.event.Event.{Event}
 use Rattle.lrc_races_trace.specs.declared.event.Pair.{Pair}
 use Rattle.lrc_races_locations.specs.Located.{AreShown}
@@ -59,12 +57,18 @@ same_places sought naming other events places e are = record {
   shown = are.shown;
 }
 
+same_keys : {before after : Places} → HasSamePlaces before after → after.pairs.keys ≡ before.pairs.keys
+same_keys same = rw same.pairs refl
+
+same_shown : {before after : Places} → HasSamePlaces before after → after.shown.items ≡ before.shown.items
+same_shown same = rw same.shown refl
+
 pub kept_places : (sought : Sought) (naming : Naming) (events : List Event) (places after : Places) → HasSamePlaces places after
     → ArePlaces sought naming events places → ArePlaces sought naming events after
 kept_places sought naming events places after same are = record {
   names = subst (λ (names : List (List ℕ)). ArePlaceNames naming events (length events) names) (sym same.names) are.names;
   pairs = λ both. subst (λ (names : List (List ℕ)). Contains after.pairs.keys both ↔ SomeRaceAt sought naming events names both) (sym same.names)
-      (subst (λ (keys : List TwoPlaces). Contains keys both ↔ SomeRaceAt sought naming events (known_names places.names) both)
-      (sym (ap (λ (set : IndexSet TwoPlaces _). set.keys) same.pairs)) (are.pairs both));
-  shown = subst (λ (shown : List Pair). AreShown sought events shown) (sym (ap (λ (v : Vec Pair Global). v.items) same.shown)) are.shown;
+      (subst (λ (keys : List TwoPlaces). Contains keys both ↔ SomeRaceAt sought naming events (known_names places.names) both) (sym (same_keys same))
+      (are.pairs both));
+  shown = subst (λ (shown : List Pair). AreShown sought events shown) (sym (same_shown same)) are.shown;
 }

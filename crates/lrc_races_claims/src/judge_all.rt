@@ -33,10 +33,11 @@ fn judge_turn(
     ensures stays { OnOk result (StaysJudge events.now judge.old judge.new) }
     ensures long { OnOk result (vec_len slots.new ≡ vec_len slots.old) }
 {
-    if place < claims.len() {
-        let verdict = judge.claim(events, claims[place].claim)?;
-        slots[place] = Some(verdict);
+    if place >= claims.len() {
+        return Ok(());
     }
+    let verdict = judge.claim(events, claims[place].claim)?;
+    slots[place] = Some(verdict);
     Ok(())
 }
 

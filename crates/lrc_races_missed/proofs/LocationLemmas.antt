@@ -238,3 +238,20 @@ locations_are sought naming events names claims shown n met missed end are noted
           | inr (inl less) ↦ fresh l other less there same
           | inr (inr more) ↦ not_both_ways other told first (in_source shown ComesFirst are.in_order k l told other more at there)
         ]
+
+-- ---- one pair more, by the names that were looked for
+
+module _ (sought : Sought) (naming : Naming) (events : List Event) (names : List (List ℕ)) (claims : List LinedClaim) (variables : List (List ℕ))
+    (keys : List Key) (shown : List Pair) (named : ArePlaceNames naming events (length events) names) (are : AreShown sought events shown)
+    (are_keys : AreKeys variables names claims keys) where
+  pub noted_found : (n : ℕ) (pair : Pair) → slice_get shown n ≡ Some pair → (met after : List TwoPlaces) (old new : List Pair) (found : Option TwoPlaces)
+      → (known : List (List ℕ)) (place other : List ℕ) → known ≡ names → place ≡ side_place naming pair.earlier.event.location
+      → other ≡ side_place naming pair.later.event.location
+      → ((both : TwoPlaces) → AreTwoNumbers known place other both ↔ (found ≡ Some both)) → IsNoted keys pair met after old new found
+      → AreNoted naming names claims shown n met old → AreNoted naming names claims shown (n + 1) after new
+  noted_found n pair here met after old new found known place other same e f test is noted =
+      noted_more naming names claims variables keys are_keys shown are.in_order n pair here met after old new found
+      (λ both. subst (λ (l : List (List ℕ)). AreTwoNumbers l _ _ both ↔ (found ≡ Some both)) same
+      (subst (λ (a : List ℕ). AreTwoNumbers known a _ both ↔ (found ≡ Some both)) e
+      (subst (λ (b : List ℕ). AreTwoNumbers known place b both ↔ (found ≡ Some both)) f (test both))))
+      (numbers_of sought naming events names pair named ((are.exact pair).0 (contained shown n pair here))) is noted

@@ -1,3 +1,4 @@
 pub mod Zipping
+pub mod Adding
 pub mod SortLemmas
 pub mod TracedLemmas
