@@ -1,22 +1,24 @@
 -- A judge stays one, whatever it finds out.
 use Rattle.std.proofs.Common.{◌≡◌, ◌+◌, ℕ, zero, suc, ◌<◌, ◌≤◌, List, [], ◌∷◌, ◌++◌, length, get_or, inl, inr, refl, sym, subst, ap, ◌∙◌, arith}
-use Rattle.std.specs.Prelude.{◌⊎◌, Option, Some, None, set, slice_get}
+use Rattle.std.specs.Prelude.{◌⊎◌, IfOk, Option, Some, None, Result, set, slice_get}
 use Rattle.std.proofs.lemmas.Bool.{cases_eq}
 use Rattle.std.proofs.lemmas.Option.{slice_get_within, slice_get-get_or, get_or_from_slice_get, same_Some}
 use Rattle.lrc_races_trace.specs.declared.event.Event.{Event}
 use Rattle.lrc_races_text.specs.declared.asked.Sought.{Sought}
 use Rattle.lrc_races_text.specs.Naming.{Naming}
-use Rattle.lrc_races_score.specs.Claims.{statement_of}
+use Rattle.lrc_races_score.specs.Claims.{statement_of, event, pair, first}
+use Rattle.lrc_races_score.specs.declared.claim.Claim.{Claim}
 use Rattle.lrc_races_score.specs.declared.report.LinedClaim.{LinedClaim}
 use Rattle.lrc_races_text.specs.Tables.{naming_of}
 use Rattle.lrc_races_claims.specs.declared.asking.Asker.{Asker}
 use Rattle.lrc_races_claims.specs.declared.judge.Judge.{Judge}
 use Rattle.lrc_races_claims.specs.declared.judging.Facts.{Facts}
+use Rattle.lrc_races_claims.specs.declared.judging.FirstRacing.{FirstRacing}
 use Rattle.lrc_races_claims.specs.declared.known.KnownNames.{KnownNames}
 use Rattle.lrc_races_claims.specs.declared.places.Places.{Places}
 use Rattle.lrc_races_claims.specs.Asking.{IsAsking}
 use Rattle.lrc_races_claims.specs.Judge.{AreSlots, AreVerdicts, IsJudge}
-use Rattle.lrc_races_claims.specs.Judging.{AreFacts}
+use Rattle.lrc_races_claims.specs.Judging.{AreFacts, IsFirstFound}
 use Rattle.lrc_races_claims.specs.Known.{known_names}
 use Rattle.lrc_races_claims.specs.Placed.{ArePlaces, HasSamePlaces}
 use Rattle.lrc_races_claims.proofs.Renaming.{kept_places, same_places}
@@ -155,3 +157,34 @@ module _ (sought : Sought) (naming : Naming) (events : List Event) (last : ℕ) 
     facts = is.facts;
     places = is.places;
   }
+
+  -- ---- what it says of claims
+
+  pub event_judged : (facts : Facts) → judge.facts ≡ Some facts → (line : ℕ) (verdict : Verdict)
+      → ((s : Sought) (n : Naming) → AreFacts s events facts → IsJudged s n events judge.last (event line) verdict)
+      → IsJudged sought naming events last (event line) verdict
+  event_judged facts e line verdict says =
+      subst (λ l. IsJudged sought naming events l (event line) verdict) is.lines (says sought naming (is.facts facts e))
+
+  pub pair_judged : (line other : ℕ) (verdict : Verdict)
+      → ((n : Naming) → IsJudged judge.asker.sought n events judge.last (pair line other) verdict)
+      → IsJudged sought naming events last (pair line other) verdict
+  pair_judged line other verdict says =
+      subst (λ l. IsJudged sought naming events l (pair line other) verdict) is.lines
+      (subst (λ (s : Sought). IsJudged s naming events judge.last (pair line other) verdict) is.asks (says naming))
+
+  pub first_judged : (name : List ℕ) (line : ℕ) (found : FirstRacing) (verdict : Verdict) → IsFirstFound sought naming events name found
+      → ((s : Sought) (n : Naming) (name : List ℕ) → IsFirstFound s n events name found → IsJudged s n events judge.last (first name line) verdict)
+      → IsJudged sought naming events last (first name line) verdict
+  first_judged name line found verdict is_found says =
+      subst (λ l. IsJudged sought naming events l (first name line) verdict) is.lines (says sought naming name is_found)
+
+-- what is said of a claim, by what it is
+pub of_claim : {E : Type 0} (events : List Event) (judge : Judge) (claim other : Claim) (result : Result Verdict E) → claim ≡ other
+    → IfOk result (λ verdict. (sought : Sought) (naming : Naming) (last : ℕ) → IsJudge sought naming events last judge
+    → IsJudged sought naming events last (statement_of other) verdict)
+    → IfOk result (λ verdict. (sought : Sought) (naming : Naming) (last : ℕ) → IsJudge sought naming events last judge
+    → IsJudged sought naming events last (statement_of claim) verdict)
+of_claim events judge claim other result same says =
+    subst (λ (c : Claim). IfOk result (λ verdict. (sought : Sought) (naming : Naming) (last : ℕ) → IsJudge sought naming events last judge
+    → IsJudged sought naming events last (statement_of c) verdict)) (sym same) says

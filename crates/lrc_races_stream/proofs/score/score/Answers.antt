@@ -17,9 +17,12 @@ returns-in-Err-clause-notes g c = ([], refl, inl (nothing_written (g.E.Write.con
 
 pub score_by-requires : goal.score_by-requires
 score_by-requires g c =
-    let left = g.B.Blocks.left c.args.trace.now in
-    (c.args.form, left, seeking_first (KeepsBoth HasTraced) c.args.form most_lines left _
-    (c.in-Ok.ensures c.args.sought (c.new-2.ensures c.args.sought c.args.form (c.new.ensures c.args.form))))
+    let left = g.B.Blocks.left c.args.trace.now in (
+      c.args.form,
+      left,
+      seeking_first (KeepsBoth HasTraced) c.args.form most_lines left _
+          (c.in-Ok.ensures c.args.sought (c.new-2.ensures c.args.sought c.args.form (c.new.ensures c.args.form))),
+    )
 
 pub returns-in-Ok-clause-answer : goal.returns-in-Ok-clause-answer
 returns-in-Ok-clause-answer g c =
