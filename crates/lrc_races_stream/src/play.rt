@@ -1,6 +1,8 @@
 // From a path to the status: the races of a file.
 
+ghost use Rattle.std.specs.Prelude.{ℕ, List, Option};
 ghost use Rattle.lrc_races_stream.specs.Comes.{Comes};
+ghost use Rattle.lrc_races_stream.specs.Heard.{Hears};
 ghost use Rattle.lrc_races_stream.specs.Plays.{IsConcluded, IsRacesPlayed};
 ghost use Rattle.lrc_races_stream.specs.declared.outcome.Outcome.{Outcome as AnyOutcome};
 
@@ -49,10 +51,11 @@ fn play_trace<B: Blocks + Drop, W: Write, E: Write>(
 ) -> u8
     ensures { (outcome : AnyOutcome) × Comes form asked (B.left trace) (W.contents out.old)
         (W.contents out.new) outcome
-        × IsConcluded outcome (E.contents err.old) (E.contents err.new) result }
+        × ((mid : Option (List ℕ)) × Hears form (B.left trace) (E.contents err.old) mid outcome
+        × IsConcluded outcome mid (E.contents err.new) result) }
 {
     let mut trace = trace;
-    let outcome = tell_races(alloc, form, asked, &mut trace, out);
+    let outcome = tell_races(alloc, form, asked, &mut trace, out, err);
     conclude(alloc, outcome, err)
 }
 

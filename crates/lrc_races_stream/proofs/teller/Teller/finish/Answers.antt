@@ -1,35 +1,13 @@
-use Rattle.lrc_races_stream.proofs.TellerLemmas.{cut_at, cut_unwritten, ended_so, ended_unwritten, ill_end, ill_end_unwritten, out_of_memory}
+-- What is told stays, and what is to be noted of the last line is.
+use Rattle.std.proofs.Common.{subst, sym}
+use Rattle.lrc_races_stream.specs.Heard.{IsHearing}
+use Rattle.lrc_races_stream.specs.declared.hearing.Hearing.{Hearing}
 use Rattle.lrc_races_stream.proofs.teller.Teller.finish.Goals as goal
 
-pub returns-in-Ok-write : goal.returns-in-Ok-write
-returns-in-Ok-write g c form asked held left start u end =
-    ended_so form asked held left start _ _ u _ c.in-Ok.status _ _ _ end c.clear.ensures.items c.in-Ok.ensures.ok c.deref.ensures.value
-    c.in-Ok-write.ensures.ok
+pub returns-clause-tells : goal.returns-clause-tells
+returns-clause-tells g c form asked held left start u end = c.end-outcome.ensures.tells form asked held left start u end
 
-pub returns-in-Err : goal.returns-in-Err
-returns-in-Err g c form asked held left start u end =
-    ended_unwritten form asked held left start _ _ u _ c.in-Ok.status _ _ _ end c.clear.ensures.items c.in-Ok.ensures.ok c.deref.ensures.value
-    c.in-Err.ensures.err
-
-pub returns-in-Ok-write-2 : goal.returns-in-Ok-write-2
-returns-in-Ok-write-2 g c form asked held left start u end =
-    cut_at form asked held left start _ _ u _ c.in-Err-BadEvent.line c.in-Err-BadEvent.why _ _ _ _ end c.clear.ensures.items c.in-Err-BadEvent.field-0-is c.in-Err-BadEvent.ensures.bad
-    c.deref-in-Err-BadEvent.ensures.value c.in-Ok-write-2.ensures.ok
-
-pub returns-in-Err-write : goal.returns-in-Err-write
-returns-in-Err-write g c form asked held left start u end =
-    cut_unwritten form asked held left start _ _ u _ c.in-Err-BadEvent.line c.in-Err-BadEvent.why _ _ _ _ end c.clear.ensures.items c.in-Err-BadEvent.field-0-is c.in-Err-BadEvent.ensures.bad
-    c.deref-in-Err-BadEvent.ensures.value c.in-Err-write.ensures.err
-
-pub returns-in-Ok-write-3 : goal.returns-in-Ok-write-3
-returns-in-Ok-write-3 g c form asked held left start u end =
-    ill_end form asked held left start _ _ u _ c.in-Err-IllFormed.ill _ _ _ _ end c.clear.ensures.items c.in-Err-IllFormed.field-0-is c.in-Err-IllFormed.ensures.bad
-    c.deref-in-Err-IllFormed.ensures.value c.in-Ok-write-3.ensures.ok
-
-pub returns-in-Err-write-2 : goal.returns-in-Err-write-2
-returns-in-Err-write-2 g c form asked held left start u end =
-    ill_end_unwritten form asked held left start _ _ u _ c.in-Err-IllFormed.ill _ _ _ _ end c.clear.ensures.items c.in-Err-IllFormed.field-0-is c.in-Err-IllFormed.ensures.bad
-    c.deref-in-Err-IllFormed.ensures.value c.in-Err-write-2.ensures.err
-
-pub returns-in-Err-NoMemory : goal.returns-in-Err-NoMemory
-returns-in-Err-NoMemory g c form asked held left start u end = out_of_memory form asked held left start _ _ u
+pub returns-clause-hears : goal.returns-clause-hears
+returns-clause-hears g c form held left start h end =
+    c.end.ensures form held left start
+    (subst (λ (hearing : Hearing). IsHearing form held left start (g.E.Write.contents c.args.err.now) hearing) (sym c.end-outcome.ensures.hearing) h) end

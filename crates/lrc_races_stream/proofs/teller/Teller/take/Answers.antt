@@ -1,43 +1,18 @@
-use Rattle.std.proofs.Common.{List, ℕ, subst, sym, take}
+-- What is told stays, and what is to be noted of the block is.
+use Rattle.std.proofs.Common.{List, ℕ, ◌∙◌, ap, subst, sym, take}
 use Rattle.lrc_shell_sources.specs.Known.{IsReadOff}
-use Rattle.lrc_races_stream.proofs.TellerLemmas.{broken_at, broken_unwritten, gone_on, gone_unwritten, ill_at, ill_unwritten, out_of_memory}
+use Rattle.lrc_races_stream.specs.Heard.{IsHearing}
+use Rattle.lrc_races_stream.specs.declared.hearing.Hearing.{Hearing}
+use Rattle.lrc_races_stream.proofs.HearingLemmas.{stays_tells}
 use Rattle.lrc_races_stream.proofs.teller.Teller.take.Goals as goal
 
-pub returns-in-Ok-write : goal.returns-in-Ok-write
-returns-in-Ok-write g c form asked held left after start u off =
-    gone_on form asked held left start _ _ u after _ _ _ _ _ _
-    (subst (λ (bytes : List ℕ). IsReadOff left (take c.args.count bytes) after) (sym c.deref.ensures.value) off) c.clear.ensures.items c.in-Ok.ensures.ok
-    c.deref-in-Ok.ensures.value c.in-Ok-write.ensures.ok
+pub returns-clause-tells : goal.returns-clause-tells
+returns-clause-tells g c form asked held left after start u off =
+    stays_tells c.take_block-outcome.result c.hear.result c.hear.ensures.stays (c.take_block-outcome.ensures.tells form asked held left after start u off)
 
-pub returns-in-Err : goal.returns-in-Err
-returns-in-Err g c form asked held left after start u off =
-    gone_unwritten form asked held left start _ _ u after _ _ _ _ _ _
-    (subst (λ (bytes : List ℕ). IsReadOff left (take c.args.count bytes) after) (sym c.deref.ensures.value) off) c.clear.ensures.items c.in-Ok.ensures.ok
-    c.deref-in-Ok.ensures.value c.in-Err.ensures.err
-
-pub returns-in-Ok-write-2 : goal.returns-in-Ok-write-2
-returns-in-Ok-write-2 g c form asked held left after start u off =
-    broken_at form asked held left start _ _ u after _ c.in-Err-BadEvent.line c.in-Err-BadEvent.why _ _ _ _ _
-    (subst (λ (bytes : List ℕ). IsReadOff left (take c.args.count bytes) after) (sym c.deref.ensures.value) off) c.clear.ensures.items
-    c.in-Err-BadEvent.field-0-is c.in-Err-BadEvent.ensures.bad c.deref-in-Err-BadEvent.ensures.value c.in-Ok-write-2.ensures.ok
-
-pub returns-in-Err-write : goal.returns-in-Err-write
-returns-in-Err-write g c form asked held left after start u off =
-    broken_unwritten form asked held left start _ _ u after _ c.in-Err-BadEvent.line c.in-Err-BadEvent.why _ _ _ _ _
-    (subst (λ (bytes : List ℕ). IsReadOff left (take c.args.count bytes) after) (sym c.deref.ensures.value) off) c.clear.ensures.items
-    c.in-Err-BadEvent.field-0-is c.in-Err-BadEvent.ensures.bad c.deref-in-Err-BadEvent.ensures.value c.in-Err-write.ensures.err
-
-pub returns-in-Ok-write-3 : goal.returns-in-Ok-write-3
-returns-in-Ok-write-3 g c form asked held left after start u off =
-    ill_at form asked held left start _ _ u after _ c.in-Err-IllFormed.ill _ _ _ _ _
-    (subst (λ (bytes : List ℕ). IsReadOff left (take c.args.count bytes) after) (sym c.deref.ensures.value) off) c.clear.ensures.items
-    c.in-Err-IllFormed.field-0-is c.in-Err-IllFormed.ensures.bad c.deref-in-Err-IllFormed.ensures.value c.in-Ok-write-3.ensures.ok
-
-pub returns-in-Err-write-2 : goal.returns-in-Err-write-2
-returns-in-Err-write-2 g c form asked held left after start u off =
-    ill_unwritten form asked held left start _ _ u after _ c.in-Err-IllFormed.ill _ _ _ _ _
-    (subst (λ (bytes : List ℕ). IsReadOff left (take c.args.count bytes) after) (sym c.deref.ensures.value) off) c.clear.ensures.items
-    c.in-Err-IllFormed.field-0-is c.in-Err-IllFormed.ensures.bad c.deref-in-Err-IllFormed.ensures.value c.in-Err-write-2.ensures.err
-
-pub returns-in-Err-NoMemory : goal.returns-in-Err-NoMemory
-returns-in-Err-NoMemory g c form asked held left after start u off = out_of_memory form asked held left start _ _ u
+pub returns-clause-hears : goal.returns-clause-hears
+returns-clause-hears g c form held left after start h off =
+    c.hear.ensures.hears form held left after start
+    (subst (λ (hearing : Hearing). IsHearing form held left start (g.E.Write.contents c.args.err.now) hearing) (sym c.take_block-outcome.ensures.hearing) h)
+    (subst (λ (bytes : List ℕ). IsReadOff left (take c.args.count bytes) after)
+    (sym (c.deref.ensures.value ∙ ap (λ block. block.items) c.take_block-outcome.ensures.block)) off)
