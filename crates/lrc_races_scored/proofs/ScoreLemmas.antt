@@ -31,16 +31,16 @@ five_together old one two three four five a b c d e e1 e2 e3 e4 e5 =
 
 pub unscored_line : (claims : List LinedClaim) (verdicts : List Verdict) (sort : Sort) (missed : ℕ) (says : Bool) (old : List ℕ) → says ≡ is_scored sort claims
     → says ≡ false → old ≡ old ++ score_line claims verdicts sort missed
-unscored_line claims verdicts sort missed says old same no =
+unscored_line claims verdicts sort missed says old same unset =
     subst (λ (b : Bool). old ≡ old ++ cond b (tally_line sort
-    (record { claims = claims_of sort claims; right = true_of sort claims verdicts; wrong = false_of sort claims verdicts }) missed) []) (sym no ∙ same)
+    (record { claims = claims_of sort claims; right = true_of sort claims verdicts; wrong = false_of sort claims verdicts }) missed) []) (sym unset ∙ same)
     (sym (append-nil old))
 
 pub scored_line : {T E : Type 0} (result : Result T E) (claims : List LinedClaim) (verdicts : List Verdict) (sort : Sort) (missed : ℕ) (says : Bool) (tally : Tally)
     (old new : List ℕ) → says ≡ is_scored sort claims → says ≡ true → tally.claims ≡ claims_of sort claims → tally.right ≡ true_of sort claims verdicts
     → tally.wrong ≡ false_of sort claims verdicts → OnOk result (new ≡ old ++ tally_line sort tally missed)
     → OnOk result (new ≡ old ++ score_line claims verdicts sort missed)
-scored_line result claims verdicts sort missed says tally old new same yes e f g ok = on_ok_weaker result (λ is. is ∙ ap (λ l. old ++ l) line) ok
+scored_line result claims verdicts sort missed says tally old new same set e f g ok = on_ok_weaker result (λ is. is ∙ ap (λ l. old ++ l) line) ok
   where
     one : tally ≡ record { claims = claims_of sort claims; right = true_of sort claims verdicts; wrong = false_of sort claims verdicts }
     one =
@@ -52,7 +52,7 @@ scored_line result claims verdicts sort missed says tally old new same yes e f g
     line =
         ap (λ t. tally_line sort t missed) one
         ∙ subst (λ (b : Bool). tally_line sort _ missed ≡ cond b (tally_line sort
-        (record { claims = claims_of sort claims; right = true_of sort claims verdicts; wrong = false_of sort claims verdicts }) missed) []) (sym yes ∙ same) refl
+        (record { claims = claims_of sort claims; right = true_of sort claims verdicts; wrong = false_of sort claims verdicts }) missed) []) (sym set ∙ same) refl
 
 -- ---- what is missed
 

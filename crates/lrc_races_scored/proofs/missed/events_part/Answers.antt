@@ -7,7 +7,7 @@ use Rattle.lrc_races_scored.proofs.missed.events_part.Goals as goal
 
 pub returns-then-not-is_scored-clause-missed : goal.returns-then-not-is_scored-clause-missed
 returns-then-not-is_scored-clause-missed c = λ sought naming last variables places by_line is are.
-    unscored _ c.is_scored.result _ c.is_scored.ensures c.if-not-is_scored.true c.new.ensures.items
+    unscored _ _ c.is_scored.result _ c.is_scored.ensures c.if-not-is_scored.true c.new.ensures.items
 
 pub missed_events-requires : goal.missed_events-requires
 missed_events-requires c =
@@ -19,7 +19,7 @@ pub returns-in-Some-clause-missed : goal.returns-in-Some-clause-missed
 returns-in-Some-clause-missed c =
     IfOk-weaker c.missed_events.result _ _ (λ lines says sought naming last variables places by_line is are.
     let known = c.in_ok-learn_facts.ensures.stays sought naming last is in
-    scored_so _ c.is_scored.result c.is_scored.ensures c.if-not-is_scored.false
+    scored_so _ _ c.is_scored.result c.is_scored.ensures c.if-not-is_scored.false
     (says sought c.args.claims.now variables places by_line
     (subst (λ (marks : List Bool). AreMarked sought c.args.events.now (length c.args.events.now) marks) (sym c.as_slice.ensures.value)
     (known.facts c.in-Some.facts.now c.in-Some.is).marked) are)) c.missed_events.ensures
