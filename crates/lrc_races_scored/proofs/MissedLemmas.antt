@@ -16,6 +16,11 @@ unscored A is_scored says items same unset none = subst (λ (b : Bool). MatchBoo
 pub scored_so : {A : Type 0} (B : Type 0) (is_scored says : Bool) → says ≡ is_scored → says ≡ true → A → MatchBool is_scored A B
 scored_so {A = A} B is_scored says same set is = subst (λ (b : Bool). MatchBool b A B) (sym set ∙ same) is
 
+-- what is so holds where there is a value
+pub on_any : {T E P : Type 0} (result : Result T E) → P → OnOk result P
+on_any (Ok x) p = p
+on_any (Err e) p = tt
+
 -- the places and the names of variables that were looked for change nothing
 pub located_stays : {T E : Type 0} (result : Result T E) (events : List Event) (before judge : Judge) → StaysJudge events before judge
     → (places after : Places) (variables : KnownNames) → judge.places ≡ Some places → OnOk result (known_names variables ≡ known_names judge.variables)

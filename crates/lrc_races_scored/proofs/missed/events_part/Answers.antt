@@ -1,8 +1,8 @@
 -- Events are scored or not; the facts are known.
 use Rattle.std.proofs.Common.{List, Bool, length, subst, sym, ap, ◌∙◌}
-use Rattle.std.proofs.lemmas.Result.{IfOk-weaker, on_ok_weaker}
+use Rattle.std.proofs.lemmas.Result.{IfOk-weaker}
 use Rattle.lrc_races_claims.specs.Racing.{AreMarked}
-use Rattle.lrc_races_scored.proofs.MissedLemmas.{scored_so, unscored}
+use Rattle.lrc_races_scored.proofs.MissedLemmas.{on_any, scored_so, unscored}
 use Rattle.lrc_races_scored.proofs.missed.events_part.Goals as goal
 
 pub returns-then-not-is_scored-clause-missed : goal.returns-then-not-is_scored-clause-missed
@@ -25,4 +25,4 @@ returns-in-Some-clause-missed c =
     (known.facts c.in-Some.facts.now c.in-Some.is).marked) are)) c.missed_events.ensures
 
 pub returns-in-Some-clause-stays : goal.returns-in-Some-clause-stays
-returns-in-Some-clause-stays c = on_ok_weaker c.missed_events.result (λ t. c.in_ok-learn_facts.ensures.stays) ?
+returns-in-Some-clause-stays c = on_any c.missed_events.result c.in_ok-learn_facts.ensures.stays
