@@ -17,7 +17,7 @@ use Rattle.lrc_races_claims.specs.declared.judging.FirstRacing.{FirstRacing}
 use Rattle.lrc_races_claims.specs.declared.known.KnownNames.{KnownNames}
 use Rattle.lrc_races_claims.specs.declared.places.Places.{Places}
 use Rattle.lrc_races_claims.specs.Asking.{IsAsking}
-use Rattle.lrc_races_claims.specs.Judge.{AreSlots, AreVerdicts, IsJudge}
+use Rattle.lrc_races_claims.specs.Judge.{AreEmpty, AreSlots, AreVerdicts, IsJudge}
 use Rattle.lrc_races_claims.specs.Judging.{AreFacts, IsFirstFound}
 use Rattle.lrc_races_claims.specs.Known.{known_names}
 use Rattle.lrc_races_claims.specs.Placed.{ArePlaces, HasSamePlaces}
@@ -27,8 +27,21 @@ use Rattle.lrc_races_claims.specs.declared.verdict.Verdict.{Verdict}
 use Rattle.lrc_races_claims.proofs.Marking.{push_cases}
 
 -- no slot is filled
+pub empty_none : (slots : List (Option Verdict)) → slots ≡ [] → AreEmpty slots
+empty_none slots e = subst (λ (l : List (Option Verdict)). AreEmpty l) (sym e) (λ k slot at. let never : ⊥ = cc in absurd never)
+
+pub empty_more : (slots after : List (Option Verdict)) → after ≡ slots ++ None ∷ [] → AreEmpty slots → AreEmpty after
+empty_more slots after e empty = subst (λ (l : List (Option Verdict)). AreEmpty l) (sym e) more
+  where
+    more : AreEmpty (slots ++ None ∷ [])
+    more k slot at =
+        elim (push_cases slots None slot k at) [
+          | inl old ↦ empty k slot old
+          | inr (same, is) ↦ sym is
+        ]
+
 pub slots_none : (sought : Sought) (naming : Naming) (events : List Event) (last : ℕ) (claims : List LinedClaim) (slots : List (Option Verdict))
-    → ((k : ℕ) (slot : Option Verdict) → slice_get slots k ≡ Some slot → slot ≡ None) → AreSlots sought naming events last claims slots
+    → AreEmpty slots → AreSlots sought naming events last claims slots
 slots_none sought naming events last claims slots none = record {
   each = λ k claim verdict at here. let e = none k (Some verdict) here in let never : ⊥ = cc in absurd never;
 }

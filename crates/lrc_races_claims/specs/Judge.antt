@@ -1,5 +1,5 @@
 -- The judge of claims, and what is said of all.
-use Rattle.std.specs.Prelude.{◌≡◌, ℕ, List, Option, Some, length, slice_get}
+use Rattle.std.specs.Prelude.{◌≡◌, ℕ, List, Option, None, Some, length, slice_get}
 use Rattle.lrc_races_trace.specs.declared.event.Event.{Event}
 use Rattle.lrc_races_lines.specs.Table.{names_of}
 use Rattle.lrc_races_text.specs.declared.asked.Sought.{Sought}
@@ -38,6 +38,10 @@ pub record IsSomeJudge (events : List Event) (judge : Judge) : Type 0 where
 abbrev pub StaysJudge : List Event → Judge → Judge → Type 0
 StaysJudge events before after = (sought : Sought) (naming : Naming) (last : ℕ) → IsJudge sought naming events last before
     → IsJudge sought naming events last after
+
+-- no verdict is kept
+abbrev pub AreEmpty : List (Option Verdict) → Type 0
+AreEmpty slots = (k : ℕ) (slot : Option Verdict) → slice_get slots k ≡ Some slot → slot ≡ None
 
 -- each verdict that is kept is what is said of the claim at its place
 pub record AreSlots (sought : Sought) (naming : Naming) (events : List Event) (last : ℕ) (claims : List LinedClaim) (slots : List (Option Verdict))

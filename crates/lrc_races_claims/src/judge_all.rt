@@ -5,7 +5,7 @@ ghost use Rattle.lrc_races_text.specs.Naming.{Naming};
 ghost use Rattle.lrc_races_witness.specs.Relations.{AreByLine};
 ghost use Rattle.lrc_races_score.specs.declared.report.LinedClaim.{LinedClaim as AnyClaim};
 ghost use Rattle.lrc_races_score.specs.Claims.{statement_of};
-ghost use Rattle.lrc_races_claims.specs.Judge.{AreSlots, AreVerdicts, IsJudge, IsSomeJudge, StaysJudge};
+ghost use Rattle.lrc_races_claims.specs.Judge.{AreEmpty, AreSlots, AreVerdicts, IsJudge, IsSomeJudge, StaysJudge};
 ghost use Rattle.lrc_races_claims.specs.Truth.{IsJudged};
 
 use crate::judge::Judge;
@@ -14,6 +14,18 @@ use crate::verdict::Verdict;
 use lrc_races_score::report::LinedClaim;
 use lrc_races_trace::event::Event;
 use std::alloc::{AllocError, Global};
+
+// So many slots, in which nothing is kept.
+fn empty_slots(alloc: Global, count: usize) -> Result<Vec<Option<Verdict>>, AllocError>
+    ensures empty { IfOk result (λ slots. AreEmpty slots.items) }
+    ensures long { IfOk result (λ slots. vec_len slots ≡ count) }
+{
+    let mut slots = Vec::new(alloc);
+    for _place in 0..count {
+        slots.push(None)?;
+    }
+    Ok(slots)
+}
 
 // Judges the claim at a place of a report, if there is one, and keeps what is said of it.
 fn judge_turn(
@@ -129,7 +141,7 @@ pub fn judge_all(
         → AreVerdicts sought naming events.now last claims.now verdicts.items) }
     ensures stays { OnOk result (StaysJudge events.now judge.old judge.new) }
 {
-    let mut slots = vec![in alloc; None; claims.len()]?;
+    let mut slots = empty_slots(alloc, claims.len())?;
     let turns = turns_of(alloc, claims)?;
     judge_turns(judge, events, claims, turns.as_slice(), &mut slots)?;
     verdicts_of(alloc, judge, events, claims, slots.as_slice())

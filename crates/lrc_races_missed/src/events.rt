@@ -37,9 +37,10 @@ pub fn missed_events(
 {
     let mut lines = Vec::new(alloc);
     for (position, event) in events.iter().enumerate() {
-        if is_missed(keys, marks[position], event.line) {
-            lines.push(event.line)?;
+        if !is_missed(keys, marks[position], event.line) {
+            continue;
         }
+        lines.push(event.line)?;
     }
     Ok(lines)
 }

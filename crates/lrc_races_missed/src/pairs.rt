@@ -48,9 +48,10 @@ fn note_told(
             earlier: pair.earlier.event.line,
             later: pair.later.event.line,
         };
-        if is_unclaimed(keys, both) {
-            lines.push(both)?;
+        if !is_unclaimed(keys, both) {
+            continue;
         }
+        lines.push(both)?;
     }
     Ok(())
 }

@@ -62,8 +62,9 @@ pub fn racing_of(alloc: Global, events: &[Event], facts: &Facts) -> Result<Vec<R
 {
     let mut all = Vec::new(alloc);
     for event in events {
-        if let Some(racing) = racing_at(facts, *event) {
-            all.push(racing)?;
+        match racing_at(facts, *event) {
+            Some(racing) => all.push(racing)?,
+            None => continue,
         }
     }
     Ok(all)
@@ -84,9 +85,10 @@ pub fn missed_variables(
 {
     let mut missed = Vec::new(alloc);
     for racing in all {
-        if !is_among(keys, Key::Variable(racing.variable as usize)) {
-            missed.push(*racing)?;
+        if is_among(keys, Key::Variable(racing.variable as usize)) {
+            continue;
         }
+        missed.push(*racing)?;
     }
     Ok(missed)
 }
@@ -106,9 +108,10 @@ pub fn missed_firsts(
 {
     let mut missed = Vec::new(alloc);
     for racing in all {
-        if !is_among(keys, Key::First(racing.variable as usize, racing.line)) {
-            missed.push(*racing)?;
+        if is_among(keys, Key::First(racing.variable as usize, racing.line)) {
+            continue;
         }
+        missed.push(*racing)?;
     }
     Ok(missed)
 }

@@ -1,6 +1,7 @@
 -- Lines that are added one after another, and claims that are counted.
 use Rattle.std.proofs.Common.{◌≡◌, ◌+◌, ℕ, ◌<◌, ◌≤◌, List, [], ◌∷◌, ◌++◌, Bool, true, false, cond, length, get_or, take, refl, sym, ap, ◌∙◌, append_assoc, append-nil, arith}
 use Rattle.std.specs.Prelude.{Some, count_by, slice_get, zip}
+use mir.Val.{bool_byte}
 use Rattle.std.specs.List.{flat_map}
 use Rattle.std.proofs.lemmas.List.{take_more, take_all}
 use Rattle.std.proofs.lemmas.List.Concat.{flat_map-append}
@@ -36,6 +37,20 @@ count_more f xs i x at = by_test (f x) refl
     by_test : (b : Bool) → b ≡ f x → count_by f (take (i + 1) xs) ≡ count_by f (take i xs) + cond b 1 0
     by_test true e = count_by_more_yes f xs i x (slice_get_within xs i x at) (ap f here ∙ sym e)
     by_test false e = let same = count_by_more_no f xs i x (slice_get_within xs i x at) (ap f here ∙ sym e) in omega arith
+
+byte_is : (b : Bool) → bool_byte b ≡ cond b 1 0
+byte_is true = refl
+byte_is false = refl
+
+-- a test that is added
+pub one_more : (count one was now : ℕ) (says is : Bool) → count ≡ was → one ≡ bool_byte says → says ≡ is → now ≡ was + cond is 1 0 → count + one ≡ now
+one_more count one was now says is e f same more =
+    let g : one ≡ cond is 1 0 = f ∙ ap bool_byte same ∙ byte_is is in
+    ap (λ n. n + one) e ∙ ap (λ n. was + n) g ∙ sym more
+
+pub one_le : (one : ℕ) (says : Bool) → one ≡ bool_byte says → one ≤ 1
+one_le one true e = omega arith
+one_le one false e = omega arith
 
 -- of two lists side by side
 module _ {X Y : Type 0} (xs : List X) (ys : List Y) (long : length ys ≡ length xs) where

@@ -10,11 +10,16 @@ use Rattle.lrc_races_claims.specs.declared.known.KnownNames.{KnownNames}
 use Rattle.lrc_races_claims.specs.declared.places.Places.{Places}
 use Rattle.lrc_races_claims.proofs.JudgeLemmas.{with_same_places, with_variables}
 
-pub unscored : {A X : Type 0} (is_scored says : Bool) (items : List X) → says ≡ is_scored → says ≡ false → items ≡ [] → MatchBool is_scored A (items ≡ [])
-unscored {A = A} is_scored says items same no none = subst (λ (b : Bool). MatchBool b A (items ≡ [])) (sym no ∙ same) none
+pub unscored : (A : Type 0) {X : Type 0} (is_scored says : Bool) (items : List X) → says ≡ is_scored → says ≡ false → items ≡ [] → MatchBool is_scored A (items ≡ [])
+unscored A is_scored says items same unset none = subst (λ (b : Bool). MatchBool b A (items ≡ [])) (sym unset ∙ same) none
 
-pub scored_so : {A B : Type 0} (is_scored says : Bool) → says ≡ is_scored → says ≡ true → A → MatchBool is_scored A B
-scored_so {A = A} {B = B} is_scored says same yes is = subst (λ (b : Bool). MatchBool b A B) (sym yes ∙ same) is
+pub scored_so : {A : Type 0} (B : Type 0) (is_scored says : Bool) → says ≡ is_scored → says ≡ true → A → MatchBool is_scored A B
+scored_so {A = A} B is_scored says same set is = subst (λ (b : Bool). MatchBool b A B) (sym set ∙ same) is
+
+-- what is so holds where there is a value
+pub on_any : {T E P : Type 0} (result : Result T E) → P → OnOk result P
+on_any (Ok x) p = p
+on_any (Err e) p = tt
 
 -- the places and the names of variables that were looked for change nothing
 pub located_stays : {T E : Type 0} (result : Result T E) (events : List Event) (before judge : Judge) → StaysJudge events before judge

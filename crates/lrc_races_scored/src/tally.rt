@@ -1,6 +1,6 @@
 // How many claims of a sort there are.
 ghost use Rattle.std.specs.Prelude.{◌≡◌, length};
-ghost use Rattle.lrc_races_scored.specs.Sorts.{claims_of, false_of, is_scored, is_true, true_of};
+ghost use Rattle.lrc_races_scored.specs.Sorts.{claims_of, false_of, is_false_of, is_scored, is_true, is_true_of, true_of};
 
 use crate::sort::Sort;
 use lrc_races_claims::verdict::Verdict;
@@ -23,9 +23,7 @@ fn count(sort: Sort, claims: &[LinedClaim<'_>]) -> u64
 {
     let mut count = 0;
     for lined in claims {
-        if sort.has(lined.claim) {
-            count += 1;
-        }
+        count += u64::from(sort.has(lined.claim));
     }
     count
 }
@@ -40,6 +38,20 @@ pub fn is_right(verdict: Verdict) -> bool
     }
 }
 
+// Whether a claim is of a sort and true.
+fn is_right_of(sort: Sort, lined: LinedClaim<'_>, verdict: Verdict) -> bool
+    ensures { result ≡ is_true_of sort (lined.entry, verdict) }
+{
+    sort.has(lined.claim) && is_right(verdict)
+}
+
+// Whether a claim is of a sort and false.
+fn is_wrong_of(sort: Sort, lined: LinedClaim<'_>, verdict: Verdict) -> bool
+    ensures { result ≡ is_false_of sort (lined.entry, verdict) }
+{
+    sort.has(lined.claim) && !is_right(verdict)
+}
+
 // How many claims of a sort are true.
 fn count_right(sort: Sort, claims: &[LinedClaim<'_>], verdicts: &[Verdict]) -> u64
     requires { length verdicts.now ≡ length claims.now }
@@ -47,9 +59,7 @@ fn count_right(sort: Sort, claims: &[LinedClaim<'_>], verdicts: &[Verdict]) -> u
 {
     let mut count = 0;
     for (place, lined) in claims.iter().enumerate() {
-        if sort.has(lined.claim) && is_right(verdicts[place]) {
-            count += 1;
-        }
+        count += u64::from(is_right_of(sort, *lined, verdicts[place]));
     }
     count
 }
@@ -61,9 +71,7 @@ fn count_wrong(sort: Sort, claims: &[LinedClaim<'_>], verdicts: &[Verdict]) -> u
 {
     let mut count = 0;
     for (place, lined) in claims.iter().enumerate() {
-        if sort.has(lined.claim) && !is_right(verdicts[place]) {
-            count += 1;
-        }
+        count += u64::from(is_wrong_of(sort, *lined, verdicts[place]));
     }
     count
 }

@@ -19,7 +19,8 @@ pub returns-clause-judged : goal.returns-clause-judged
 returns-clause-judged c =
     IfOk-weaker c.verdicts_of.result _ _ (λ verdicts says sought naming last is.
     says sought naming last (c.in_ok-judge_turns.ensures.stays sought naming last is)
-    (c.in_ok-judge_turns.ensures.slots sought naming last is ?)) c.verdicts_of.ensures.judged
+    (c.in_ok-judge_turns.ensures.slots sought naming last is
+    (slots_none sought naming c.args.events.now last c.args.claims.now _ c.in_ok-slots.ensures.empty))) c.verdicts_of.ensures.judged
 
 pub returns-clause-stays : goal.returns-clause-stays
 returns-clause-stays c =

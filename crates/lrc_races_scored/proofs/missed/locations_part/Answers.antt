@@ -6,13 +6,13 @@ use Rattle.lrc_races_scored.proofs.missed.locations_part.Goals as goal
 
 pub returns-then-not-is_scored-clause-missed : goal.returns-then-not-is_scored-clause-missed
 returns-then-not-is_scored-clause-missed c = λ sought naming last is.
-    unscored _ c.is_scored.result _ c.is_scored.ensures c.if-not-is_scored.true c.new.ensures.items
+    unscored _ _ c.is_scored.result _ c.is_scored.ensures c.if-not-is_scored.true c.new.ensures.items
 
 pub returns-in-Some-clause-missed : goal.returns-in-Some-clause-missed
 returns-in-Some-clause-missed c =
     IfOk-weaker c.located.result _ _ (λ missed says sought naming last is.
     let known = c.in_ok-learn_places.ensures.stays sought naming last is in
-    scored_so _ c.is_scored.result c.is_scored.ensures c.if-not-is_scored.false
+    scored_so _ _ c.is_scored.result c.is_scored.ensures c.if-not-is_scored.false
     (says sought naming c.args.events.now known.locations (known.places c.in-Some.places.now c.in-Some.is))) c.located.ensures.missed
 
 pub returns-in-Some-clause-stays : goal.returns-in-Some-clause-stays
