@@ -3,7 +3,7 @@
 ghost use Rattle.std.specs.Prelude.{◌≡◌, ◌<◌, IfOk, length, true};
 ghost use Rattle.lrc_exec.specs.Spots.{IsFlat};
 ghost use Rattle.lrc_exec.specs.States.{IsStateOf};
-ghost use Rattle.lrc_orders_away.specs.Undisputed.{IsUndisputedAt, KeepsAway};
+ghost use Rattle.lrc_orders_away.specs.Undisputed.{IsUndisputedAt, KeepsAway, StaysAway};
 
 use crate::conflict::may_conflict;
 use lrc_exec::spot::{Flat, Spot};
@@ -26,16 +26,34 @@ pub fn is_undisputed(
     requires node { node < length state.now.spots.items }
     ensures { IfOk result (λ known. known ≡ true → IsUndisputedAt flat.now state.now node deed) }
 {
-    let blocked = &state.spots[node].held;
     for other in 0..state.spots.len() {
-        if other == node {
-            continue;
-        }
-        if !keeps_away(alloc, flat, &state.spots[other], blocked, deed)? {
+        let away = stays_away(alloc, flat, state, node, other, deed)?;
+        if !away {
             return Ok(false);
         }
     }
     Ok(true)
+}
+
+// Whether it is known that another node comes to no act that conflicts.
+fn stays_away(
+    alloc: Global,
+    flat: &Flat,
+    state: &State,
+    node: usize,
+    other: usize,
+    deed: Deed,
+) -> Result<bool, AllocError>
+    requires flat { IsFlat flat.now }
+    requires node { node < length state.now.spots.items }
+    requires other { other < length state.now.spots.items }
+    ensures { IfOk result (λ known. known ≡ true → StaysAway flat.now state.now node deed other) }
+{
+    if other == node {
+        return Ok(true);
+    }
+    let held = state.spots[node].held;
+    keeps_away(alloc, flat, &state.spots[other], &held, deed)
 }
 
 // Whether it is known that a node comes to no act that conflicts, before its next barriers.

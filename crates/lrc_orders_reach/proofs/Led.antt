@@ -10,42 +10,16 @@ use Rattle.lrc_trace.specs.declared.act.Deed.TheVariants as deeds
 use Rattle.lrc_exec.specs.Meaning.{Setting, Thread, block, chosen, first_act, holds, next_of, next_of_statement, then_does, value_in, value_of}
 use Rattle.lrc_consistency_laws.specs.Follows.{Goes}
 use Rattle.lrc_ranges.specs.declared.range.Range.{Range}
-use Rattle.lrc_ranges.specs.Ranges.{AreIn, IsIn, IsMet}
+use Rattle.lrc_ranges.specs.Ranges.{AreIn}
 use Rattle.lrc_ranges.proofs.Names.{both_set}
 use Rattle.lrc_orders_reach.specs.declared.ahead.Ahead.{Ahead}
 use Rattle.lrc_orders_reach.specs.declared.ahead.Follower.{Follower}
-use Rattle.lrc_orders_reach.specs.Standing.{AreInSome, IsAmong, IsBlocked, IsLed, IsOpen, LeadsOn, setting_of}
+use Rattle.lrc_orders_reach.specs.Ahead.{AreInSome, IsAhead, IsOn}
+use Rattle.lrc_orders_reach.specs.Standing.{IsAmong, IsLed, IsOpen, LeadsOn, setting_of}
 use Rattle.lrc_orders_reach.proofs.Afterwards.{AllAfter, all_after, or_trap_all, then_all, else_all, below_all, next_going}
 
--- a range has what an expression gives
-abbrev pub HasValue : Follower → Expression → List Range → Range → Type 0
-HasValue follower value names range =
-    (privates : List ℕ) (v : ℕ) → AreIn names privates → value_of follower.me follower.flat.nodes privates value ≡ Some v → IsIn range v
-
--- where a condition holds, and where it fails
-abbrev pub IsParted : Follower → Expression → List Range → Ahead → Type 0
-IsParted follower condition names ahead =
-    (privates : List ℕ) (v : ℕ) → AreIn names privates → value_of follower.me follower.flat.nodes privates condition ≡ Some v
-    → (IsMet true v → AreInSome ahead.holds privates) × (IsMet false v → AreInSome ahead.fails privates)
-
-abbrev pub IsOn : List Range → Ahead → Type 0
-IsOn names ahead = ahead ≡ record { holds = Some names; fails = None }
-
--- what is told by each kind of statement
-abbrev pub IsBy : Follower → List Range → Statement → Ahead → Type 0
-IsBy follower names (Assign name value) ahead =
-    (range : Range) × (name < 32) × HasValue follower value names range × IsOn (set names name range) ahead
-IsBy follower names (Read name word) ahead = (range : Range) × (name < 32) × ((v : ℕ) → IsIn range v) × IsOn (set names name range) ahead
-IsBy follower names (Write word value) ahead = IsOn names ahead
-IsBy follower names (Acquire lock) ahead = IsOn names ahead ⊎ IsBlocked follower lock names
-IsBy follower names (Release lock) ahead = IsOn names ahead
-IsBy follower names Barrier ahead = Unit {0}
-IsBy follower names (Print value) ahead = IsOn names ahead
-IsBy follower names (If' condition p first q second) ahead = IsParted follower condition names ahead
-IsBy follower names (While' condition p body) ahead = IsParted follower condition names ahead
-
 on_in : (names : List Range) (ahead : Ahead) (privates : List ℕ) → IsOn names ahead → AreIn names privates → AreInSome ahead.holds privates
-on_in names ahead privates is are = subst (λ (a : Ahead). AreInSome a.holds privates) (sym is) are
+on_in names ahead privates is are = subst (λ h. AreInSome h privates) (sym is) are
 
 open_blocked : (b : Bool) → b ≡ true → b ≡ false → ⊥
 open_blocked b p q = let e : true ≡ false = sym p ∙ q in cc
@@ -57,61 +31,61 @@ module _ (follower : Follower) (rest : List Statement) (names : List Range) (bef
   value_here : (e : Expression) (v : ℕ) → value_in before e ≡ Some v → value_of follower.me follower.flat.nodes before.privates e ≡ Some v
   value_here e v is = sym (ap (λ (s : Setting). value_of s.me s.nodes before.privates e) among.setting_is) ∙ is
 
-  each_by : (statement : Statement) (ahead : Ahead) → IsBy follower names statement ahead → AllAfter (Comes statement ahead) (next_of_statement before statement rest)
+  each_by : (statement : Statement) (ahead : Ahead) → IsAhead follower names statement ahead → AllAfter (Comes statement ahead) (next_of_statement before statement rest)
   unfolding Comes
-  each_by (Assign name e) ahead (range, small, has, on) =
+  each_by (Assign name e) ahead told =
       or_trap_all _ (value_in before e) _ (λ v is may. inr (inl (record {
         setting_is = among.setting_is;
         rest_is = refl;
         size = length-set before.privates name v ∙ among.size;
-        values = on_in (set names name range) ahead (set before.privates name v) on
-            (both_set names before.privates name range v (omega (arith, small, among.size)) among.values (has before.privates v among.values (value_here e v is)));
+        values = on_in (set names name told.1.range) ahead (set before.privates name v) told.1.goes_on
+            (both_set names before.privates name told.1.range v (omega (arith, told.0, among.size)) among.values (told.1.has before.privates v (among.values, value_here e v is)));
         going = among.going;
       })))
-  each_by (Read name e) ahead (range, small, has, on) =
+  each_by (Read name e) ahead told =
       or_trap_all _ (value_in before e) _ (λ w is. below_all _ w _ _ _ (λ v may. inr (inl (record {
         setting_is = among.setting_is;
         rest_is = refl;
         size = length-set before.privates name v ∙ among.size;
-        values = on_in (set names name range) ahead (set before.privates name v) on
-            (both_set names before.privates name range v (omega (arith, small, among.size)) among.values (has v));
+        values = on_in (set names name told.1.range) ahead (set before.privates name v) told.1.goes_on
+            (both_set names before.privates name told.1.range v (omega (arith, told.0, among.size)) among.values (told.1.any v));
         going = among.going;
       }))))
-  each_by (Write word e) ahead on =
+  each_by (Write word e) ahead goes_on =
       or_trap_all _ (value_in before word) _ (λ w is. or_trap_all _ (value_in before e) _ (λ v is'.
       below_all _ w _ _ _ (λ may. inr (inl (record {
         setting_is = among.setting_is;
         rest_is = refl;
         size = among.size;
-        values = on_in names ahead before.privates on among.values;
+        values = on_in names ahead before.privates goes_on among.values;
         going = among.going;
       })))))
-  each_by (Acquire e) ahead (inl on) =
+  each_by (Acquire e) ahead (inr goes_on) =
       or_trap_all _ (value_in before e) _ (λ l is. below_all _ l _ _ _ (else_all _ (holds before l) _ _ (λ may. inr (inl (record {
         setting_is = among.setting_is;
         rest_is = refl;
         size = among.size;
-        values = on_in names ahead before.privates on among.values;
+        values = on_in names ahead before.privates goes_on among.values;
         going = among.going;
       })))))
-  each_by (Acquire e) ahead (inr blocked) =
+  each_by (Acquire e) ahead (inl blocked) =
       or_trap_all _ (value_in before e) _ (λ l is. below_all _ l _ _ _ (else_all _ (holds before l) _ _
-      (λ may. absurd (open_blocked _ (blocked before.privates l among.values (value_here e l is)) may))))
-  each_by (Release e) ahead on =
+      (λ may. absurd (open_blocked _ (blocked before.privates l (among.values, value_here e l is)) may))))
+  each_by (Release e) ahead goes_on =
       or_trap_all _ (value_in before e) _ (λ l is. below_all _ l _ _ _ (then_all _ (holds before l) _ _ (λ may. inr (inl (record {
         setting_is = among.setting_is;
         rest_is = refl;
         size = among.size;
-        values = on_in names ahead before.privates on among.values;
+        values = on_in names ahead before.privates goes_on among.values;
         going = among.going;
       })))))
   each_by Barrier ahead by = λ may. inl refl
-  each_by (Print e) ahead on =
+  each_by (Print e) ahead goes_on =
       or_trap_all _ (value_in before e) _ (λ v is may. inr (inl (record {
         setting_is = among.setting_is;
         rest_is = refl;
         size = among.size;
-        values = on_in names ahead before.privates on among.values;
+        values = on_in names ahead before.privates goes_on among.values;
         going = among.going;
       })))
   each_by (If' e p a q b) ahead parted = or_trap_all _ (value_in before e) _ by_value
@@ -122,14 +96,14 @@ module _ (follower : Follower) (rest : List Statement) (names : List Range) (bef
         setting_is = among.setting_is;
         rest_is = refl;
         size = among.size;
-        values = (parted before.privates 0 among.values (value_here e 0 is)).1 refl;
+        values = parted.fails before.privates 0 (among.values, value_here e 0 is) refl;
         going = among.going;
       }))
       by_value (suc n) is may = inr (inl (record {
         setting_is = among.setting_is;
         rest_is = refl;
         size = among.size;
-        values = (parted before.privates (suc n) among.values (value_here e (suc n) is)).0 (omega arith);
+        values = parted.holds before.privates (suc n) (among.values, value_here e (suc n) is) (omega arith);
         going = among.going;
       }))
   each_by (While' e p a) ahead parted = or_trap_all _ (value_in before e) _ by_value
@@ -140,19 +114,19 @@ module _ (follower : Follower) (rest : List Statement) (names : List Range) (bef
         setting_is = among.setting_is;
         rest_is = refl;
         size = among.size;
-        values = (parted before.privates 0 among.values (value_here e 0 is)).1 refl;
+        values = parted.fails before.privates 0 (among.values, value_here e 0 is) refl;
         going = among.going;
       }))
       by_value (suc n) is may = inr (inl (record {
         setting_is = among.setting_is;
         rest_is = refl;
         size = among.size;
-        values = (parted before.privates (suc n) among.values (value_here e (suc n) is)).0 (omega arith);
+        values = parted.holds before.privates (suc n) (among.values, value_here e (suc n) is) (omega arith);
         going = among.going;
       }))
 
 -- so is each thread after the act
-pub led_by : (follower : Follower) (statement : Statement) (names : List Range) (ahead : Ahead) → IsBy follower names statement ahead
+pub led_by : (follower : Follower) (statement : Statement) (names : List Range) (ahead : Ahead) → IsAhead follower names statement ahead
     → (rest : List Statement) → LeadsOn follower statement rest names ahead
 unfolding Comes
 led_by follower statement names ahead by rest before after deed at among goes may =

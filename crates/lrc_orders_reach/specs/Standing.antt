@@ -1,17 +1,17 @@
 -- Threads that stand at places with values in ranges, and what comes of them.
 use Rattle.std.specs.Prelude.{◌≡◌, ◌⊎◌, ℕ, Bool, true, false, List, ◌∷◌, Option, Some, None, length, slice_get, slice_index_or}
-use Rattle.lrc_lang.specs.declared.program.Expression.{Expression}
 use Rattle.lrc_lang.specs.declared.program.Statement.{Statement}
 use Rattle.lrc_trace.specs.declared.act.Deed.{Deed}
 use Rattle.lrc_trace.specs.declared.act.Deed.TheVariants.{Acquire, Depart}
 use Rattle.lrc_exec.specs.declared.spot.Flat.{Flat}
 use Rattle.lrc_exec.specs.declared.spot.Spot.{Spot}
 use Rattle.lrc_exec.specs.Flat.{rest_at, where_it_holds, where_it_fails}
-use Rattle.lrc_exec.specs.Meaning.{Setting, Thread, next_of, value_of}
+use Rattle.lrc_exec.specs.Meaning.{Setting, Thread, next_of}
 use Rattle.lrc_exec.specs.Spots.{spot_thread}
 use Rattle.lrc_consistency_laws.specs.Follows.{Goes}
 use Rattle.lrc_ranges.specs.declared.range.Range.{Range}
-use Rattle.lrc_ranges.specs.Ranges.{AreIn, IsIn}
+use Rattle.lrc_ranges.specs.Ranges.{AreIn}
+use Rattle.lrc_orders_reach.specs.Ahead.{AreInSome}
 use Rattle.lrc_orders_reach.specs.declared.ahead.Ahead.{Ahead}
 use Rattle.lrc_orders_reach.specs.declared.ahead.Follower.{Follower}
 use Rattle.lrc_orders_reach.specs.declared.standing.Standing.{Standing}
@@ -49,11 +49,6 @@ pub record StandsIn (flat : Flat) (me : ℕ) (all : List Standing) (thread : Thr
 -- one of these covers it, if there is one
 abbrev pub HasSome : List Standing → Option Standing → Type 0
 HasSome all standing = (flat : Flat) (me : ℕ) (thread : Thread) → StandsSome flat me standing thread → StandsIn flat me all thread
-
--- values lie in ranges, if there are any
-abbrev pub AreInSome : Option (List Range) → List ℕ → Type 0
-AreInSome None values = ⊥
-AreInSome (Some names) values = AreIn names values
 
 -- what is done: no blocked lock is acquired, and nobody departs
 abbrev pub IsOpen : (blocked : List Bool) → Deed → Type 0
@@ -94,13 +89,13 @@ abbrev pub IsPut : (place : ℕ) → Option (List Range) → Option Standing →
 IsPut place None standing = standing ≡ None
 IsPut place (Some names) standing = standing ≡ Some (record { place = place; names = names })
 
--- what the expression may be is one blocked lock
-abbrev pub IsBlocked : Follower → Expression → (names : List Range) → Type 0
-IsBlocked follower lock names =
-    (privates : List ℕ) (value : ℕ) → AreIn names privates → value_of follower.me follower.flat.nodes privates lock ≡ Some value
-    → slice_index_or follower.blocked.now value false ≡ true
+-- whatever comes of a thread that stands so as the standing says stands so as one of these says, or waits at a barrier
+abbrev pub IsClosedAt : Follower → List Standing → Standing → Type 0
+IsClosedAt follower all standing =
+    (before after : Thread) (deed : Deed) → Stands follower.flat follower.me standing before → Goes (next_of before) deed (Some after)
+    → IsOpen follower.blocked.now deed → (after.arrived ≡ true) ⊎ StandsIn follower.flat follower.me all after
 
--- whatever comes of a thread that stands so as one of these says does so too, or waits at a barrier
+-- so it is of all of them
 abbrev pub IsClosed : Follower → List Standing → Type 0
 IsClosed follower all =
     (before after : Thread) (deed : Deed) → StandsIn follower.flat follower.me all before

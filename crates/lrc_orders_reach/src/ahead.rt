@@ -1,13 +1,12 @@
 // What comes of a statement.
 
-ghost use Rattle.std.specs.Prelude.{◌≡◌, ◌<◌, ◌≤◌, ℕ, List, Some, None, slice_set, true, false};
-ghost use Rattle.lrc_lang.specs.declared.program.Statement.{Statement as TheStatement};
-ghost use Rattle.lrc_lang.specs.Sizes.{names_in_statement, names_in_expression};
-ghost use Rattle.lrc_lang.specs.Statements.{statement_of, expression_of};
-ghost use Rattle.lrc_exec.specs.Meaning.{value_of};
+ghost use Rattle.std.specs.Prelude.{◌≡◌, ◌<◌, ◌≤◌, ℕ, IfSome, true, false};
+ghost use Rattle.lrc_lang.specs.Sizes.{names_in_expression, names_in_statement};
+ghost use Rattle.lrc_lang.specs.Statements.{expression_of, statement_of};
 ghost use Rattle.lrc_exec.specs.Spots.{IsFlat};
-ghost use Rattle.lrc_ranges.specs.Ranges.{AreIn, IsIn, IsMet};
-ghost use Rattle.lrc_orders_reach.specs.Standing.{AreInSome, IsStep, IsBlocked, LeadsOn, IsPut};
+ghost use Rattle.lrc_ranges.specs.Ranges.{IsIn, IsMet};
+ghost use Rattle.lrc_orders_reach.specs.Ahead.{Acquires, Assigns, IsAhead, IsBlocked, IsOn, IsOnWith, IsParted, IsPartWhere, ReadsAny};
+ghost use Rattle.lrc_orders_reach.specs.Standing.{IsPut, IsStep};
 
 use crate::standing::Standing;
 use lrc_exec::spot::Flat;
@@ -66,61 +65,80 @@ fn at(place: usize, names: Option<[Range; 32]>) -> Option<Standing>
     }
 }
 
-/// Returns the ranges of the names after a statement.
+// The ranges of the names after a statement.
 fn ahead_of(follower: &Follower<'_>, statement: &Statement, names: &[Range; 32]) -> Ahead
     requires { names_in_statement (statement_of statement.now) ≤ 32 }
-    ensures { (rest : List TheStatement) → LeadsOn follower.now statement.now rest names.now result }
+    ensures { IsAhead follower.now names.now statement.now result }
 {
     match statement {
-        Statement::Assign(name, value) => {
-            let range = range_of(value, names, follower.me, follower.flat.nodes);
-            on(with_name(names, *name, range))
-        }
-        Statement::Read(name, _) => on(with_name(names, *name, Range::any())),
-        Statement::Acquire(lock) => {
-            if is_blocked(follower, lock, names) {
-                nowhere()
-            } else {
-                on(*names)
-            }
-        }
+        Statement::Assign(name, value) => assigned(follower, *name, value, names),
+        Statement::Read(name, _) => read(*name, names),
+        Statement::Write(..) => on(names),
+        Statement::Acquire(lock) => acquired(follower, lock, names),
+        Statement::Release(_) => on(names),
         Statement::Barrier => nowhere(),
-        Statement::Write(..) => on(*names),
-        Statement::Release(_) => on(*names),
-        Statement::Print(_) => on(*names),
+        Statement::Print(_) => on(names),
         Statement::If(condition, ..) => parts(follower, condition, names),
         Statement::While(condition, _) => parts(follower, condition, names),
     }
 }
 
-// On with these ranges.
-fn on(names: [Range; 32]) -> Ahead
-    ensures { result ≡ record { holds = Some names; fails = None } }
+// On with the same ranges.
+fn on(names: &[Range; 32]) -> Ahead
+    ensures { IsOn names.now result }
 {
     Ahead {
-        holds: Some(names),
+        holds: Some(*names),
         fails: None,
     }
 }
 
 // No further.
-fn nowhere() -> Ahead
-    ensures { result ≡ record { holds = None; fails = None } }
-{
+fn nowhere() -> Ahead {
     Ahead {
         holds: None,
         fails: None,
     }
 }
 
-// The ranges with another one for a name.
-fn with_name(names: &[Range; 32], name: u8, range: Range) -> [Range; 32]
+// On with another range for a name.
+fn with_name(name: u8, range: Range, names: &[Range; 32]) -> Ahead
     requires { name < 32 }
-    ensures { result ≡ slice_set names.now name range }
+    ensures { IsOnWith name range names.now result }
 {
     let mut new = *names;
     new[name as usize] = range;
-    new
+    on(&new)
+}
+
+// On with any value for a name.
+fn read(name: u8, names: &[Range; 32]) -> Ahead
+    requires { name < 32 }
+    ensures { ReadsAny name names.now result }
+{
+    let range = Range::any();
+    with_name(name, range, names)
+}
+
+// On with the range of what an expression gives for a name.
+fn assigned(follower: &Follower<'_>, name: u8, value: &Expression, names: &[Range; 32]) -> Ahead
+    requires name { name < 32 }
+    requires names { names_in_expression (expression_of value.now) ≤ 32 }
+    ensures { Assigns follower.now name value.now names.now result }
+{
+    let range = range_of(value, names, follower.me, follower.flat.nodes);
+    with_name(name, range, names)
+}
+
+// On with the same ranges, if the lock can be acquired.
+fn acquired(follower: &Follower<'_>, lock: &Expression, names: &[Range; 32]) -> Ahead
+    requires { names_in_expression (expression_of lock.now) ≤ 32 }
+    ensures { Acquires follower.now lock.now names.now result }
+{
+    if is_blocked(follower, lock, names) {
+        return nowhere();
+    }
+    on(names)
 }
 
 // Whether the only lock that the expression can be cannot be acquired.
@@ -129,19 +147,28 @@ fn is_blocked(follower: &Follower<'_>, lock: &Expression, names: &[Range; 32]) -
     ensures { result ≡ true → IsBlocked follower.now lock.now names.now }
 {
     let range = range_of(lock, names, follower.me, follower.flat.nodes);
-    range.is_bounded()
-        && range.least == range.greatest
-        && range.least < 64
-        && follower.blocked[range.least as usize]
+    match only_lock(range) {
+        Some(number) => follower.blocked[number],
+        None => false,
+    }
+}
+
+// The only lock in a range, if there is one, and it is one of the 64 that there may be.
+fn only_lock(range: Range) -> Option<usize>
+    ensures small { IfSome result (λ number. number < 64) }
+    ensures only { IfSome result (λ number. (value : ℕ) → IsIn range value → value ≡ number) }
+{
+    if range.least < 64 && range.greatest == range.least {
+        Some(range.least as usize)
+    } else {
+        None
+    }
 }
 
 // Where the condition holds, and where it fails.
 fn parts(follower: &Follower<'_>, condition: &Expression, names: &[Range; 32]) -> Ahead
     requires { names_in_expression (expression_of condition.now) ≤ 32 }
-    ensures { (privates : List ℕ) (value : ℕ) → AreIn names.now privates
-        → value_of follower.now.me follower.now.flat.nodes privates condition.now ≡ Some value
-        → (IsMet true value → AreInSome result.holds privates)
-        × (IsMet false value → AreInSome result.fails privates) }
+    ensures { IsParted follower.now condition.now names.now result }
 {
     Ahead {
         holds: part(follower, condition, names, true),
@@ -157,9 +184,7 @@ fn part(
     holds: bool,
 ) -> Option<[Range; 32]>
     requires { names_in_expression (expression_of condition.now) ≤ 32 }
-    ensures { (privates : List ℕ) (value : ℕ) → AreIn names.now privates
-        → value_of follower.now.me follower.now.flat.nodes privates condition.now ≡ Some value
-        → IsMet holds value → AreInSome result privates }
+    ensures { IsPartWhere follower.now condition.now names.now holds result }
 {
     let nodes = follower.flat.nodes;
     if !can_be(range_of(condition, names, follower.me, nodes), holds) {

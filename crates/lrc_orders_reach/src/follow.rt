@@ -2,13 +2,12 @@
 
 ghost use Rattle.std.specs.Prelude.{◌≡◌, IfOk, IfSome, true};
 ghost use Rattle.lrc_exec.specs.Spots.{IsFlat};
-ghost use Rattle.lrc_orders_reach.specs.Standing.{HasSome, IsClosed, IsReach};
+ghost use Rattle.lrc_orders_reach.specs.Standing.{HasSome, IsClosed, IsClosedAt, IsReach};
 
 use crate::ahead::{Follower, ahead_at};
 use crate::standing::Standing;
 use lrc_exec::spot::Spot;
 use lrc_lang::program::Statement;
-use lrc_ranges::range::Range;
 use std::alloc::{AllocError, Global};
 
 // So many standings are kept apart; further ones are joined to those of their places.
@@ -46,11 +45,13 @@ pub fn follow(
     }
     let first = Standing::of(spot);
     let all = met_from(alloc, follower, first)?;
-    if has(&all, &Some(first)) && is_closed(follower, &all) {
-        Ok(Some(all))
-    } else {
-        Ok(None)
+    if !has(&all, Some(first)) {
+        return Ok(None);
     }
+    if !is_closed(follower, &all) {
+        return Ok(None);
+    }
+    Ok(Some(all))
 }
 
 // Whether what comes of each of the standings is among them.
@@ -59,23 +60,34 @@ fn is_closed(follower: &Follower<'_>, all: &[Standing]) -> bool
     ensures { result ≡ true → IsClosed follower.now all.now }
 {
     for standing in all {
-        let (first, second) = ahead_at(follower, standing);
-        if !has(all, &first) || !has(all, &second) {
+        if !is_closed_at(follower, all, standing) {
             return false;
         }
     }
     true
 }
 
+// Whether what comes of one of them is among them.
+fn is_closed_at(follower: &Follower<'_>, all: &[Standing], standing: &Standing) -> bool
+    requires { IsFlat follower.now.flat }
+    ensures { result ≡ true → IsClosedAt follower.now all.now standing.now }
+{
+    let (first, second) = ahead_at(follower, standing);
+    if !has(all, first) {
+        return false;
+    }
+    has(all, second)
+}
+
 // Whether one of the standings covers this one, if there is one.
-fn has(all: &[Standing], standing: &Option<Standing>) -> bool
-    ensures { result ≡ true → HasSome all.now standing.now }
+fn has(all: &[Standing], standing: Option<Standing>) -> bool
+    ensures { result ≡ true → HasSome all.now standing }
 {
     let Some(standing) = standing else {
         return true;
     };
-    for met in all {
-        if met.covers(standing) {
+    for index in 0..all.len() {
+        if all[index].covers(&standing) {
             return true;
         }
     }
@@ -96,8 +108,8 @@ fn met_from(
         waiting: Vec::new(alloc),
     };
     following.add(follower, Some(first))?;
-    for _ in 0..MOST_FOLLOWED {
-        let Some(next) = following.next() else {
+    for _step in 0..MOST_FOLLOWED {
+        let Some(next) = following.take() else {
             break;
         };
         let (first, second) = ahead_at(follower, &next);
@@ -109,7 +121,7 @@ fn met_from(
 
 impl Following {
     // A standing that is still to be followed, taken off.
-    fn next(&mut self) -> Option<Standing> {
+    fn take(&mut self) -> Option<Standing> {
         let place = self.waiting.pop()?;
         self.met.get(place).copied()
     }
@@ -120,48 +132,64 @@ impl Following {
         follower: &Follower<'_>,
         standing: Option<Standing>,
     ) -> Result<(), AllocError> {
-        let Some(standing) = standing else {
+        let Some(new) = standing else {
             return Ok(());
         };
-        if has(&self.met, &Some(standing)) {
+        if has(&self.met, standing) {
             return Ok(());
         }
-        match self.last_at(standing.place) {
-            Some(index) if self.met.len() >= MOST_APART => {
-                self.join(follower, index, &standing);
-                self.waiting.push(index)
-            }
-            _ => {
-                self.waiting.push(self.met.len())?;
-                self.met.push(standing)?;
-                self.joins.push(0)
+        if self.met.len() >= MOST_APART {
+            if let Some(index) = last_at(&self.met, new.place) {
+                self.join(follower, index, &new);
+                self.waiting.push(index)?;
+                return Ok(());
             }
         }
-    }
-
-    // The last standing of a place that was met.
-    fn last_at(&self, place: usize) -> Option<usize> {
-        self.met.iter().rposition(|met| met.place == place)
+        self.waiting.push(self.met.len())?;
+        self.met.push(new)?;
+        self.joins.push(0)?;
+        Ok(())
     }
 
     // Joins a standing to one that was met.
-    fn join(&mut self, follower: &Follower<'_>, index: usize, standing: &Standing) {
-        let Some(met) = self.met.get_mut(index) else {
+    fn join(&mut self, follower: &Follower<'_>, index: usize, new: &Standing) {
+        if index >= self.met.len() || index >= self.joins.len() {
             return;
-        };
-        let Some(joins) = self.joins.get_mut(index) else {
-            return;
-        };
-        let widens = *joins >= MOST_JOINS;
-        *joins = joins.saturating_add(1);
-        let set = names_set_at(follower, standing.place);
-        for name in 0..32 {
-            met.names[name] = if widens && set[name] {
-                met.names[name].widened(standing.names[name])
-            } else {
-                met.names[name].joined(standing.names[name])
-            };
         }
+        let widens = if self.joins[index] < MOST_JOINS {
+            [false; 32]
+        } else {
+            names_set_at(follower, new.place)
+        };
+        self.met[index] = joined(&self.met[index], new, &widens);
+        self.joins[index] = self.joins[index].saturating_add(1);
+    }
+}
+
+// The last standing of a place that was met.
+fn last_at(met: &[Standing], place: usize) -> Option<usize> {
+    let mut last = None;
+    for index in 0..met.len() {
+        if met[index].place == place {
+            last = Some(index);
+        }
+    }
+    last
+}
+
+// Two standings of one place joined; what grows of these names has no bound.
+fn joined(first: &Standing, second: &Standing, widens: &[bool; 32]) -> Standing {
+    let mut names = first.names;
+    for name in 0..32 {
+        names[name] = if widens[name] {
+            first.names[name].widened(second.names[name])
+        } else {
+            first.names[name].joined(second.names[name])
+        };
+    }
+    Standing {
+        place: first.place,
+        names,
     }
 }
 
@@ -171,29 +199,36 @@ fn names_set_at(follower: &Follower<'_>, place: usize) -> [bool; 32] {
     let Some(index) = place.checked_sub(1) else {
         return names;
     };
-    let Some(instruction) = follower.flat.code.get(index) else {
+    let code = follower.flat.code;
+    if index >= code.len() {
         return names;
-    };
-    if let Statement::While(_, body) = instruction.statement {
-        add_set(body, &mut names);
+    }
+    if let Statement::While(_, body) = code[index].statement {
+        add_set_all(body, &mut names);
     }
     names
 }
 
-// Adds the names that statements set.
+// Adds the names that a statement sets.
 #[cycle(set)]
-fn add_set(statements: &[Statement], names: &mut [bool; 32]) {
-    for statement in statements {
-        match statement {
-            Statement::Assign(name, _) => add_name(*name, names),
-            Statement::Read(name, _) => add_name(*name, names),
-            Statement::If(_, first, second) => {
-                add_set(first, names);
-                add_set(second, names);
-            }
-            Statement::While(_, body) => add_set(body, names),
-            _ => {}
+fn add_set(statement: &Statement, names: &mut [bool; 32]) {
+    match statement {
+        Statement::Assign(name, _) => add_name(*name, names),
+        Statement::Read(name, _) => add_name(*name, names),
+        Statement::If(_, first, second) => {
+            add_set_all(first, names);
+            add_set_all(second, names);
         }
+        Statement::While(_, body) => add_set_all(body, names),
+        _ => {}
+    }
+}
+
+// The same of several statements.
+#[cycle(set)]
+fn add_set_all(statements: &[Statement], names: &mut [bool; 32]) {
+    for place in 0..statements.len() {
+        add_set(&statements[place], names);
     }
 }
 
