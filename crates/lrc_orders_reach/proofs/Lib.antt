@@ -1,3 +1,5 @@
+pub mod Names
+pub mod Quotients
 pub mod Afterwards
 pub mod Led
 pub mod Placed

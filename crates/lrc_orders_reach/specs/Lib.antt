@@ -1,2 +1,4 @@
+pub mod Ranges
+pub mod Relations
 pub mod Ahead
 pub mod Standing
