@@ -11,7 +11,7 @@ use Rattle.lrc_trace.specs.declared.act.Deed.TheVariants as deeds
 use Rattle.lrc_exec.specs.Meaning.{Setting, Thread, Next, quiet, prints, reads, writes, acquires, releases, arrives, departs, traps, ends, next_of}
 use Rattle.lrc_exec.specs.Meaning.{first_act, holds, if_below, next_of_statement, or_trap, value_in, value_of}
 use Rattle.lrc_orders_undisputed.specs.Undisputed.{Conflicts, read_and_written, written_and_read, written_twice, acquired_twice}
-use Rattle.lrc_orders_reach.specs.declared.range.Range.{Range}
+use Rattle.lrc_ranges.specs.declared.range.Range.{Range}
 use Rattle.lrc_orders_reach.specs.declared.ahead.Follower.{Follower}
 use Rattle.lrc_orders_reach.specs.Standing.{IsAmong, setting_of}
 use Rattle.lrc_orders_away.specs.Away.{IsAway, IsNever}

@@ -5,8 +5,8 @@ use Rattle.lrc_lang.specs.declared.program.Statement.{Statement}
 use Rattle.lrc_trace.specs.declared.act.Deed.{Deed}
 use Rattle.lrc_exec.specs.Meaning.{Thread, next_of, value_of}
 use Rattle.lrc_orders_undisputed.specs.Undisputed.{Conflicts}
-use Rattle.lrc_orders_reach.specs.declared.range.Range.{Range}
-use Rattle.lrc_orders_reach.specs.Ranges.{AreIn}
+use Rattle.lrc_ranges.specs.declared.range.Range.{Range}
+use Rattle.lrc_ranges.specs.Ranges.{AreIn}
 use Rattle.lrc_orders_reach.specs.declared.ahead.Follower.{Follower}
 use Rattle.lrc_orders_reach.specs.declared.standing.Standing.{Standing}
 use Rattle.lrc_orders_reach.specs.Standing.{IsAmong, Stands, StandsIn, setting_of}

@@ -9,9 +9,9 @@ ghost use Rattle.lrc_orders_away.specs.Away.{AreAway, IsAway, IsAwayAt, IsNever}
 
 use lrc_lang::program::{Expression, Statement};
 use lrc_orders_reach::ahead::Follower;
-use lrc_orders_reach::evaluate::range_of;
-use lrc_orders_reach::range::Range;
 use lrc_orders_reach::standing::Standing;
+use lrc_ranges::evaluate::range_of;
+use lrc_ranges::range::Range;
 use lrc_trace::act::Deed;
 
 /// Returns whether a thread at one of these standings may be about to make an act that conflicts with the deed.

@@ -9,9 +9,9 @@ use Rattle.lrc_trace.specs.declared.act.Deed.{Deed}
 use Rattle.lrc_trace.specs.declared.act.Deed.TheVariants as deeds
 use Rattle.lrc_exec.specs.Meaning.{Setting, Thread, block, chosen, first_act, holds, next_of, next_of_statement, then_does, value_in, value_of}
 use Rattle.lrc_consistency_laws.specs.Follows.{Goes}
-use Rattle.lrc_orders_reach.specs.declared.range.Range.{Range}
-use Rattle.lrc_orders_reach.specs.Ranges.{AreIn}
-use Rattle.lrc_orders_reach.proofs.Names.{both_set}
+use Rattle.lrc_ranges.specs.declared.range.Range.{Range}
+use Rattle.lrc_ranges.specs.Ranges.{AreIn}
+use Rattle.lrc_ranges.proofs.Names.{both_set}
 use Rattle.lrc_orders_reach.specs.declared.ahead.Ahead.{Ahead}
 use Rattle.lrc_orders_reach.specs.declared.ahead.Follower.{Follower}
 use Rattle.lrc_orders_reach.specs.Ahead.{AreInSome, IsAhead, IsOn}

@@ -1,5 +1,3 @@
-pub mod Names
-pub mod Quotients
 pub mod Afterwards
 pub mod Led
 pub mod Placed

@@ -12,7 +12,7 @@ use Rattle.lrc_exec.specs.Meaning.{Setting, Thread, ends, first_act, next_of}
 use Rattle.lrc_exec.specs.Spots.{IsFlat}
 use Rattle.lrc_exec.proofs.Flat.{length-rests_from, rest_at-end, rest_at-instruction}
 use Rattle.lrc_consistency_laws.specs.Follows.{Goes}
-use Rattle.lrc_orders_reach.specs.declared.range.Range.{Range}
+use Rattle.lrc_ranges.specs.declared.range.Range.{Range}
 use Rattle.lrc_orders_reach.specs.declared.ahead.Ahead.{Ahead}
 use Rattle.lrc_orders_reach.specs.declared.ahead.Follower.{Follower}
 use Rattle.lrc_orders_reach.specs.declared.standing.Standing.{Standing}

@@ -3,9 +3,9 @@ use Rattle.std.proofs.Common.{◌≡◌, ◌+◌, ◌<◌, ◌≤◌, ℕ, List,
 use Rattle.std.specs.Prelude.{Some, slice_get}
 use Rattle.std.proofs.lemmas.Bool.{cases_eq, cases_lt}
 use Rattle.std.proofs.lemmas.Option.{get_or_from_slice_get, slice_get-get_or, slice_get_within}
-use Rattle.lrc_orders_reach.specs.declared.range.Range.{Range}
-use Rattle.lrc_orders_reach.specs.Ranges.{AreIn, IsIn, IsWithin}
-use Rattle.lrc_orders_reach.proofs.Names.{range_at}
+use Rattle.lrc_ranges.specs.declared.range.Range.{Range}
+use Rattle.lrc_ranges.specs.Ranges.{AreIn, IsIn, IsWithin}
+use Rattle.lrc_ranges.proofs.Names.{range_at}
 
 -- the values of the first names lie in their ranges
 abbrev pub AreInUpTo : ℕ → List Range → List ℕ → Type 0

@@ -1,4 +1,2 @@
-pub mod Ranges
-pub mod Relations
 pub mod Ahead
 pub mod Standing

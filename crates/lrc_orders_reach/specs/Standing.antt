@@ -9,8 +9,8 @@ use Rattle.lrc_exec.specs.Flat.{rest_at, where_it_holds, where_it_fails}
 use Rattle.lrc_exec.specs.Meaning.{Setting, Thread, next_of}
 use Rattle.lrc_exec.specs.Spots.{spot_thread}
 use Rattle.lrc_consistency_laws.specs.Follows.{Goes}
-use Rattle.lrc_orders_reach.specs.declared.range.Range.{Range}
-use Rattle.lrc_orders_reach.specs.Ranges.{AreIn}
+use Rattle.lrc_ranges.specs.declared.range.Range.{Range}
+use Rattle.lrc_ranges.specs.Ranges.{AreIn}
 use Rattle.lrc_orders_reach.specs.Ahead.{AreInSome}
 use Rattle.lrc_orders_reach.specs.declared.ahead.Ahead.{Ahead}
 use Rattle.lrc_orders_reach.specs.declared.ahead.Follower.{Follower}

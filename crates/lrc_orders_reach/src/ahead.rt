@@ -4,16 +4,16 @@ ghost use Rattle.std.specs.Prelude.{◌≡◌, ◌<◌, ◌≤◌, ℕ, IfSome, 
 ghost use Rattle.lrc_lang.specs.Sizes.{names_in_expression, names_in_statement};
 ghost use Rattle.lrc_lang.specs.Statements.{expression_of, statement_of};
 ghost use Rattle.lrc_exec.specs.Spots.{IsFlat};
-ghost use Rattle.lrc_orders_reach.specs.Ranges.{IsIn, IsMet};
+ghost use Rattle.lrc_ranges.specs.Ranges.{IsIn, IsMet};
 ghost use Rattle.lrc_orders_reach.specs.Ahead.{Acquires, Assigns, IsAhead, IsBlocked, IsOn, IsOnWith, IsParted, IsPartWhere, ReadsAny};
 ghost use Rattle.lrc_orders_reach.specs.Standing.{IsPut, IsStep};
 
-use crate::evaluate::range_of;
-use crate::narrow::narrow;
-use crate::range::Range;
 use crate::standing::Standing;
 use lrc_exec::spot::Flat;
 use lrc_lang::program::{Expression, Statement};
+use lrc_ranges::evaluate::range_of;
+use lrc_ranges::narrow::narrow;
+use lrc_ranges::range::Range;
 
 /// The node that is followed in the code, and the locks that it cannot acquire.
 #[derive(Clone, Copy)]

@@ -1,7 +1,7 @@
 // Where a thread may stand.
 
-use crate::range::Range;
 use lrc_exec::spot::Spot;
+use lrc_ranges::range::Range;
 
 /// A place of the code, and the range of the values that each of the 32 private names may have there.
 #[derive(Clone, Copy)]

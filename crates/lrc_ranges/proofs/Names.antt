@@ -5,8 +5,8 @@ use Rattle.std.proofs.lemmas.Bool.{cases_eq}
 use Rattle.std.proofs.lemmas.Grind.{get_or-set_at}
 use Rattle.std.proofs.lemmas.List.{get_or-set_other, length-set}
 use Rattle.std.proofs.lemmas.Option.{get_or_from_slice_get, slice_get-get_or, slice_get_within}
-use Rattle.lrc_orders_reach.specs.declared.range.Range.{Range}
-use Rattle.lrc_orders_reach.specs.Ranges.{AreIn, IsIn}
+use Rattle.lrc_ranges.specs.declared.range.Range.{Range}
+use Rattle.lrc_ranges.specs.Ranges.{AreIn, IsIn}
 
 -- the range of a name
 pub range_at : (names : List Range) (name k : ℕ) (range r : Range) → slice_get (set names name range) k ≡ Some r

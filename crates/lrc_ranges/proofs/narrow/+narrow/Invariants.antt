@@ -3,7 +3,7 @@
 use Rattle.std.proofs.Common.{◌+◌, ◌*◌}
 use Rattle.lrc_lang.specs.Sizes.{operators_in}
 use Rattle.lrc_lang.specs.Statements.{expression_of}
-use Rattle.lrc_orders_reach.proofs.narrow.+narrow.Given as goal
+use Rattle.lrc_ranges.proofs.narrow.+narrow.Given as goal
 
 abbrev pub decreases-narrow : goal.decreases-narrow
 decreases-narrow l = 3 * operators_in (expression_of l.condition.now)

@@ -1,7 +1,7 @@
 -- What two values that are compared are to one another.
 use Rattle.std.specs.Prelude.{◌≡◌, ◌≢◌, ◌≤◌, ◌<◌, ℕ}
-use Rattle.lrc_orders_reach.specs.declared.narrow.Relation.{Relation}
-use Rattle.lrc_orders_reach.specs.declared.narrow.Relation.TheVariants.{Equal, NotEqual, Less, LessOrEqual, Greater, GreaterOrEqual}
+use Rattle.lrc_ranges.specs.declared.narrow.Relation.{Relation}
+use Rattle.lrc_ranges.specs.declared.narrow.Relation.TheVariants.{Equal, NotEqual, Less, LessOrEqual, Greater, GreaterOrEqual}
 
 abbrev pub Relates : Relation → ℕ → ℕ → Type 0
 Relates Equal x y = x ≡ y

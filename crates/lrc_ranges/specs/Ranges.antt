@@ -1,6 +1,6 @@
 -- What lies in a range.
 use Rattle.std.specs.Prelude.{◌≡◌, ◌≤◌, ◌<◌, ◌-◌, ◌^◌, ℕ, Bool, true, false, List, Some, slice_get, slice_index}
-use Rattle.lrc_orders_reach.specs.declared.range.Range.{Range}
+use Rattle.lrc_ranges.specs.declared.range.Range.{Range}
 
 -- the value lies in the range; a greatest value of 2^64 - 1 is no bound
 pub record IsIn (range : Range) (value : ℕ) : Type 0 where

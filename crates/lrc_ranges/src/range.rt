@@ -9,8 +9,8 @@ pub struct Range {
 
 impl Range {
     ghost use Rattle.std.specs.Prelude.{◌≡◌, ◌≤◌, ◌<◌, ◌-◌, ◌^◌, ◌↔◌, ◌⊎◌, ℕ, IsTrue, true};
-    ghost use Rattle.lrc_orders_reach.specs.Ranges.{IsIn, IsWithin};
-    ghost use Rattle.lrc_orders_reach.specs.declared.range.Range.{Range as TheRange};
+    ghost use Rattle.lrc_ranges.specs.Ranges.{IsIn, IsWithin};
+    ghost use Rattle.lrc_ranges.specs.declared.range.Range.{Range as TheRange};
 
     /// Returns the range of all values.
     pub fn any() -> Range

@@ -1,5 +1,5 @@
 use Rattle.std.proofs.Common.{◌*◌, ◌%◌, ◌^◌}
-use Rattle.lrc_orders_reach.proofs.operate.product.Goals as goal
+use Rattle.lrc_ranges.proofs.operate.product.Goals as goal
 
 pub returns-then-not-is_bounded : goal.returns-then-not-is_bounded
 returns-then-not-is_bounded c = λ a b p q. c.any.ensures ((a * b) % 2 ^ 64)

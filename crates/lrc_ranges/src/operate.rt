@@ -2,7 +2,7 @@
 
 ghost use Rattle.std.specs.Prelude.{◌≡◌, ◌<◌, ◌≤◌, ◌+◌, ◌-◌, ◌*◌, ◌/◌, ◌%◌, ◌^◌, ℕ, Some, not, nat_eq, nat_lt, nat_le, true, Bool, false};
 ghost use Rattle.lrc_exec.specs.Meaning.{operated, one_if};
-ghost use Rattle.lrc_orders_reach.specs.Ranges.{IsIn};
+ghost use Rattle.lrc_ranges.specs.Ranges.{IsIn};
 
 use crate::range::Range;
 use lrc_lang::program::Operator;

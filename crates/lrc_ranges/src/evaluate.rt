@@ -4,7 +4,7 @@ ghost use Rattle.std.specs.Prelude.{◌≡◌, ◌≤◌, ℕ, List, Some};
 ghost use Rattle.lrc_lang.specs.Sizes.{names_in_expression};
 ghost use Rattle.lrc_lang.specs.Statements.{expression_of};
 ghost use Rattle.lrc_exec.specs.Meaning.{value_of};
-ghost use Rattle.lrc_orders_reach.specs.Ranges.{AreIn, IsIn};
+ghost use Rattle.lrc_ranges.specs.Ranges.{AreIn, IsIn};
 
 use crate::operate::applied;
 use crate::range::Range;

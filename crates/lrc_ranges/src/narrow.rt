@@ -5,8 +5,8 @@ ghost use Rattle.lrc_lang.specs.declared.program.Operator.TheVariants.{Multiply}
 ghost use Rattle.lrc_lang.specs.Sizes.{names_in_expression};
 ghost use Rattle.lrc_lang.specs.Statements.{expression_of};
 ghost use Rattle.lrc_exec.specs.Meaning.{operated, value_of};
-ghost use Rattle.lrc_orders_reach.specs.Ranges.{AreIn, IsIn, IsMet};
-ghost use Rattle.lrc_orders_reach.specs.Relations.{Relates};
+ghost use Rattle.lrc_ranges.specs.Ranges.{AreIn, IsIn, IsMet};
+ghost use Rattle.lrc_ranges.specs.Relations.{Relates};
 
 use crate::evaluate::range_of;
 use crate::range::Range;
