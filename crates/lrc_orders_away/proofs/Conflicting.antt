@@ -14,7 +14,7 @@ use Rattle.lrc_orders_undisputed.specs.Undisputed.{Conflicts, read_and_written, 
 use Rattle.lrc_ranges.specs.declared.range.Range.{Range}
 use Rattle.lrc_orders_reach.specs.declared.ahead.Follower.{Follower}
 use Rattle.lrc_orders_reach.specs.Standing.{IsAmong, setting_of}
-use Rattle.lrc_orders_away.specs.Away.{IsAway, IsNever}
+use Rattle.lrc_orders_away.specs.Away.{IsAway, IsAwayBy}
 use Rattle.lrc_orders_reach.proofs.Afterwards.{next_going, next_waiting}
 
 -- a deed does not conflict with what comes next
@@ -44,14 +44,6 @@ calm_else deed false next cause is = is
 
 calm_below : (deed : Deed) (n limit : ℕ) (cause : Cause) (next : Next) → IsCalm deed next → IsCalm deed (if_below n limit cause next)
 calm_below deed n limit cause next is = calm_then deed (nat_lt n limit) next cause is
-
--- what is told by each kind of statement
-abbrev pub IsAwayBy : Follower → List Range → Deed → Statement → Type 0
-IsAwayBy follower names deed (Read name word) = (w v : ℕ) → deed ≡ deeds.Write w v → IsNever follower word names w
-IsAwayBy follower names deed (Write word value) =
-    ((w v : ℕ) → deed ≡ deeds.Read w v → IsNever follower word names w) × ((w v : ℕ) → deed ≡ deeds.Write w v → IsNever follower word names w)
-IsAwayBy follower names deed (Acquire lock) = (l : ℕ) → deed ≡ deeds.Acquire l → IsNever follower lock names l
-IsAwayBy follower names deed _ = Unit {0}
 
 module _ (follower : Follower) (rest : List Statement) (names : List Range) (deed : Deed) (thread : Thread)
     (among : IsAmong (setting_of follower) names thread) where

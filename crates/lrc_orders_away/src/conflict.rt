@@ -1,11 +1,10 @@
 // Standings at which a thread may be about to make an act that conflicts.
 
-ghost use Rattle.std.specs.Prelude.{◌≡◌, ◌≤◌, List, false};
-ghost use Rattle.lrc_lang.specs.declared.program.Statement.{Statement as TheStatement};
+ghost use Rattle.std.specs.Prelude.{◌≡◌, ◌≤◌, false};
 ghost use Rattle.lrc_lang.specs.Sizes.{names_in_statement, names_in_expression};
 ghost use Rattle.lrc_lang.specs.Statements.{statement_of, expression_of};
 ghost use Rattle.lrc_exec.specs.Spots.{IsFlat};
-ghost use Rattle.lrc_orders_away.specs.Away.{AreAway, IsAway, IsAwayAt, IsNever};
+ghost use Rattle.lrc_orders_away.specs.Away.{AreAway, IsAwayAt, IsAwayBy, IsNever, IsNoAcquire, IsNoRead, IsNoWrite};
 
 use lrc_lang::program::{Expression, Statement};
 use lrc_orders_reach::ahead::Follower;
@@ -51,23 +50,62 @@ fn may_conflict_by(
     deed: Deed,
 ) -> bool
     requires { names_in_statement (statement_of statement.now) ≤ 32 }
-    ensures { result ≡ false
-        → (rest : List TheStatement) → IsAway follower.now statement.now rest names.now deed }
+    ensures { result ≡ false → IsAwayBy follower.now names.now deed statement.now }
 {
     match statement {
-        Statement::Read(_, word) => match deed {
-            Deed::Write(accessed, _) => may_be(follower, word, names, u64::from(accessed)),
-            _ => false,
-        },
-        Statement::Write(word, _) => match deed {
-            Deed::Read(accessed, _) => may_be(follower, word, names, u64::from(accessed)),
-            Deed::Write(accessed, _) => may_be(follower, word, names, u64::from(accessed)),
-            _ => false,
-        },
-        Statement::Acquire(lock) => match deed {
-            Deed::Acquire(acquired) => may_be(follower, lock, names, u64::from(acquired)),
-            _ => false,
-        },
+        Statement::Read(_, word) => may_be_written(follower, word, names, deed),
+        Statement::Write(word, _) => may_be_accessed(follower, word, names, deed),
+        Statement::Acquire(lock) => may_be_acquired(follower, lock, names, deed),
+        _ => false,
+    }
+}
+
+// Whether the deed may be a write of the word that the expression gives.
+fn may_be_written(
+    follower: &Follower<'_>,
+    word: &Expression,
+    names: &[Range; 32],
+    deed: Deed,
+) -> bool
+    requires { names_in_expression (expression_of word.now) ≤ 32 }
+    ensures { result ≡ false → IsNoWrite follower.now word.now names.now deed }
+{
+    match deed {
+        Deed::Write(written, _) => may_be(follower, word, names, u64::from(written)),
+        _ => false,
+    }
+}
+
+// Whether the deed may be a read or a write of the word that the expression gives.
+fn may_be_accessed(
+    follower: &Follower<'_>,
+    word: &Expression,
+    names: &[Range; 32],
+    deed: Deed,
+) -> bool
+    requires { names_in_expression (expression_of word.now) ≤ 32 }
+    ensures read { result ≡ false → IsNoRead follower.now word.now names.now deed }
+    ensures written { result ≡ false → IsNoWrite follower.now word.now names.now deed }
+{
+    match deed {
+        Deed::Read(accessed, _) => may_be(follower, word, names, u64::from(accessed)),
+        Deed::Write(accessed, _) => may_be(follower, word, names, u64::from(accessed)),
+        _ => false,
+    }
+}
+
+// Whether the deed may be an acquire of the lock that the expression gives.
+fn may_be_acquired(
+    follower: &Follower<'_>,
+    lock: &Expression,
+    names: &[Range; 32],
+    deed: Deed,
+) -> bool
+    requires { names_in_expression (expression_of lock.now) ≤ 32 }
+    ensures { result ≡ false → IsNoAcquire follower.now lock.now names.now deed }
+{
+    match deed {
+        Deed::Acquire(acquired) => may_be(follower, lock, names, u64::from(acquired)),
         _ => false,
     }
 }

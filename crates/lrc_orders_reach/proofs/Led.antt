@@ -39,7 +39,7 @@ module _ (follower : Follower) (rest : List Statement) (names : List Range) (bef
         rest_is = refl;
         size = length-set before.privates name v ∙ among.size;
         values = on_in (set names name told.1.range) ahead (set before.privates name v) told.1.goes_on
-            (both_set names before.privates name told.1.range v (omega (arith, told.0, among.size)) among.values (told.1.has before.privates v (among.values, value_here e v is)));
+            (both_set names before.privates name told.1.range v (omega (arith, told.0, among.size)) among.values (told.1.has before.privates v among.values (value_here e v is)));
         going = among.going;
       })))
   each_by (Read name e) ahead told =
@@ -70,7 +70,7 @@ module _ (follower : Follower) (rest : List Statement) (names : List Range) (bef
       })))))
   each_by (Acquire e) ahead (inl blocked) =
       or_trap_all _ (value_in before e) _ (λ l is. below_all _ l _ _ _ (else_all _ (holds before l) _ _
-      (λ may. absurd (open_blocked _ (blocked before.privates l (among.values, value_here e l is)) may))))
+      (λ may. absurd (open_blocked _ (blocked before.privates l among.values (value_here e l is)) may))))
   each_by (Release e) ahead goes_on =
       or_trap_all _ (value_in before e) _ (λ l is. below_all _ l _ _ _ (then_all _ (holds before l) _ _ (λ may. inr (inl (record {
         setting_is = among.setting_is;
@@ -96,14 +96,14 @@ module _ (follower : Follower) (rest : List Statement) (names : List Range) (bef
         setting_is = among.setting_is;
         rest_is = refl;
         size = among.size;
-        values = parted.fails before.privates 0 (among.values, value_here e 0 is) refl;
+        values = parted.fails before.privates 0 among.values (value_here e 0 is) refl;
         going = among.going;
       }))
       by_value (suc n) is may = inr (inl (record {
         setting_is = among.setting_is;
         rest_is = refl;
         size = among.size;
-        values = parted.holds before.privates (suc n) (among.values, value_here e (suc n) is) (omega arith);
+        values = parted.holds before.privates (suc n) among.values (value_here e (suc n) is) (omega arith);
         going = among.going;
       }))
   each_by (While' e p a) ahead parted = or_trap_all _ (value_in before e) _ by_value
@@ -114,14 +114,14 @@ module _ (follower : Follower) (rest : List Statement) (names : List Range) (bef
         setting_is = among.setting_is;
         rest_is = refl;
         size = among.size;
-        values = parted.fails before.privates 0 (among.values, value_here e 0 is) refl;
+        values = parted.fails before.privates 0 among.values (value_here e 0 is) refl;
         going = among.going;
       }))
       by_value (suc n) is may = inr (inl (record {
         setting_is = among.setting_is;
         rest_is = refl;
         size = among.size;
-        values = parted.holds before.privates (suc n) (among.values, value_here e (suc n) is) (omega arith);
+        values = parted.holds before.privates (suc n) among.values (value_here e (suc n) is) (omega arith);
         going = among.going;
       }))
 

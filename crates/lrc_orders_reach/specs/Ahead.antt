@@ -14,9 +14,10 @@ abbrev pub AreInSome : Option (List Range) → List ℕ → Type 0
 AreInSome None values = ⊥
 AreInSome (Some names) values = AreIn names values
 
--- with values in these ranges an expression has this one
-abbrev pub HasValue : Follower → Expression → List Range → (privates : List ℕ) → (value : ℕ) → Type 0
-HasValue follower expression names privates value = AreIn names privates × (value_of follower.me follower.flat.nodes privates expression ≡ Some value)
+-- so it is of each value that the expression has, where values lie in these ranges
+abbrev pub EachValue : Follower → Expression → List Range → (List ℕ → ℕ → Type 0) → Type 0
+EachValue follower expression names P =
+    (privates : List ℕ) (value : ℕ) → AreIn names privates → value_of follower.me follower.flat.nodes privates expression ≡ Some value → P privates value
 
 -- on with these ranges, and with another one for a name
 abbrev pub IsOn : List Range → Ahead → Type 0
@@ -28,21 +29,19 @@ IsOnWith name range names ahead = IsOn (slice_set names name range) ahead
 -- that has what an expression gives
 pub record Assigns (follower : Follower) (name : ℕ) (expression : Expression) (names : List Range) (ahead : Ahead) : Type 0 where
   pub range : Range
-  pub has : (privates : List ℕ) (value : ℕ) → HasValue follower expression names privates value → IsIn range value
+  pub has : EachValue follower expression names (λ privates value. IsIn range value)
   pub goes_on : IsOnWith name range names ahead
 
 -- whatever the expression gives is a blocked lock
 abbrev pub IsBlocked : Follower → Expression → List Range → Type 0
-IsBlocked follower lock names =
-    (privates : List ℕ) (value : ℕ) → HasValue follower lock names privates value → slice_index_or follower.blocked.now value false ≡ true
+IsBlocked follower lock names = EachValue follower lock names (λ privates value. slice_index_or follower.blocked.now value false ≡ true)
 
 abbrev pub Acquires : Follower → Expression → List Range → Ahead → Type 0
 Acquires follower lock names ahead = IsBlocked follower lock names ⊎ IsOn names ahead
 
 -- in these ranges are the values with which a condition holds, or fails
 abbrev pub IsPartWhere : Follower → Expression → List Range → Bool → Option (List Range) → Type 0
-IsPartWhere follower condition names holds part =
-    (privates : List ℕ) (value : ℕ) → HasValue follower condition names privates value → IsMet holds value → AreInSome part privates
+IsPartWhere follower condition names holds part = EachValue follower condition names (λ privates value. IsMet holds value → AreInSome part privates)
 
 pub record IsParted (follower : Follower) (condition : Expression) (names : List Range) (ahead : Ahead) : Type 0 where
   pub holds : IsPartWhere follower condition names true ahead.holds

@@ -1,6 +1,6 @@
 // What comes of a statement.
 
-ghost use Rattle.std.specs.Prelude.{◌≡◌, ◌<◌, ◌≤◌, ℕ, IfSome, true, false};
+ghost use Rattle.std.specs.Prelude.{◌≡◌, ◌<◌, ◌≤◌, ℕ, IfSome, None, true, false};
 ghost use Rattle.lrc_lang.specs.Sizes.{names_in_expression, names_in_statement};
 ghost use Rattle.lrc_lang.specs.Statements.{expression_of, statement_of};
 ghost use Rattle.lrc_exec.specs.Spots.{IsFlat};
@@ -50,13 +50,13 @@ pub fn ahead_at(
     let instruction = &code[index];
     let ahead = ahead_of(follower, instruction.statement, &standing.names);
     (
-        at(instruction.then, ahead.holds),
-        at(instruction.otherwise, ahead.fails),
+        standing_at(instruction.then, ahead.holds),
+        standing_at(instruction.otherwise, ahead.fails),
     )
 }
 
 // The standing at a place, if a node gets there.
-fn at(place: usize, names: Option<[Range; 32]>) -> Option<Standing>
+fn standing_at(place: usize, names: Option<[Range; 32]>) -> Option<Standing>
     ensures { IsPut place names result }
 {
     match names {
@@ -72,7 +72,7 @@ fn ahead_of(follower: &Follower<'_>, statement: &Statement, names: &[Range; 32])
 {
     match statement {
         Statement::Assign(name, value) => assigned(follower, *name, value, names),
-        Statement::Read(name, _) => read(*name, names),
+        Statement::Read(name, _) => with_any(*name, names),
         Statement::Write(..) => on(names),
         Statement::Acquire(lock) => acquired(follower, lock, names),
         Statement::Release(_) => on(names),
@@ -94,7 +94,9 @@ fn on(names: &[Range; 32]) -> Ahead
 }
 
 // No further.
-fn nowhere() -> Ahead {
+fn nowhere() -> Ahead
+    ensures { result ≡ record { holds = None; fails = None } }
+{
     Ahead {
         holds: None,
         fails: None,
@@ -112,7 +114,7 @@ fn with_name(name: u8, range: Range, names: &[Range; 32]) -> Ahead
 }
 
 // On with any value for a name.
-fn read(name: u8, names: &[Range; 32]) -> Ahead
+fn with_any(name: u8, names: &[Range; 32]) -> Ahead
     requires { name < 32 }
     ensures { ReadsAny name names.now result }
 {

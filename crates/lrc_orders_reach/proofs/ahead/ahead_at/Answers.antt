@@ -1,6 +1,5 @@
-use Rattle.std.proofs.Common.{◌≡◌, ◌+◌, inl, inr, refl, sym, arith}
-use Rattle.lrc_orders_reach.proofs.Led.{led_by}
-use Rattle.lrc_orders_reach.proofs.Placed.{no_step, rest_there, sound_there, step_there}
+use Rattle.std.proofs.Common.{◌≡◌, inl, arith}
+use Rattle.lrc_orders_reach.proofs.Placed.{no_step}
 use Rattle.lrc_orders_reach.proofs.ahead.ahead_at.Goals as goal
 
 pub returns-in_default : goal.returns-in_default
