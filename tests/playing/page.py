@@ -26,7 +26,7 @@ sys.path.insert(0, os.path.join(here, "../browser"))
 from browser import Browser
 
 PROGRAMS = ["late.tm", "litmus/dekker.tm", "litmus/bank.tm", "traps.tm", "named"]
-# A program with names, for a program that has them; else another example.
+# A program with names, for a program that shows them in all views; else another example.
 NAMED = """nodes 2;
 const ROUNDS = 2;
 shared sum, seen[2];
@@ -224,8 +224,14 @@ def check_text(name, machine, selector="#result .printed", scope=""):
     check_errors(name, done)
 
 
+def is_named(text):
+    return re.match(r"(?:\s|#.*\n)*(?:nodes|const|shared|lock|fn)\b", text) is not None
+
+
 def check_run(name, machine):
-    for form in ("explain", "sim", "plain", "stats"):
+    forms = ("explain", "sim", "plain", "stats", *["core"] * is_named(editor_text()))
+    same(f"{name}: forms", tuple(value("[...document.querySelectorAll('#result .choice button')].map(it => it.textContent)")), forms)
+    for form in forms:
         value(f"[...document.querySelectorAll('#result .choice button')].find(it => it.textContent === '{form}').click()")
         settle()
         check_text(f"{name} {form}", machine)
@@ -482,7 +488,7 @@ def check_guess(name, machine, options):
 def check_programs():
     for program in PROGRAMS:
         file = os.path.basename(program)
-        if program == "named" and subprocess.run([native, "check", "-"], input=NAMED, text=True, capture_output=True).returncode == 0:
+        if program == "named" and subprocess.run([native, "step", "-"], input=NAMED, text=True, capture_output=True).returncode != 1:
             file, text = "named.tm", NAMED
             drop("named.tm", NAMED)
             set_fields(nodes="")
@@ -597,12 +603,17 @@ def check_examples():
     """All programs of examples/ are there, each with the sentence that its comment begins with, and with the options and events of its run."""
     open_page()
     listed = value("[...document.querySelectorAll('.example')].map(it => [it.querySelector('code').textContent.trim(), it.querySelector('.says').textContent])")
-    files = {os.path.basename(it): it for it in glob.glob(f"{examples}/**/*.tm", recursive=True)}
-    same("examples: all of them", sorted(name for name, _ in listed), sorted(files))
-    for name, says in listed:
-        with open(files[name]) as file:
+    every = sorted(glob.glob(f"{examples}/**/*.tm", recursive=True))
+    same("examples: all of them", sorted(name for name, _ in listed), sorted(map(os.path.basename, every)))
+    comments = {}
+    for path in every:
+        with open(path) as file:
             comment = " ".join(line[1:].strip() for line in itertools.takewhile(lambda it: it.startswith("#"), file))
-        hold(f"examples: {name} has a sentence", says.endswith((".", "?")) and comment.startswith(says), says, comment)
+        comments.setdefault(os.path.basename(path), []).append(comment)
+    for name, says in listed:
+        hold(f"examples: {name} has a sentence", says.endswith((".", "?")) and any(it.startswith(says) for it in comments[name]), says, comments[name])
+    # Of several that are called so, the one with names stands last.
+    files = {os.path.basename(it): it for it in sorted(every, key=lambda it: "/named/" not in it)}
     for name in ("wide.tm", "stopping.tm", "collecting.tm", "late.tm"):
         example(name)
         ask("run")
@@ -616,6 +627,41 @@ def check_examples():
         given = open(words).read().split() if os.path.exists(words) else {"collecting.tm": ["--collect", "3"]}.get(name, [])
         pairs = {(one, other) for one, other in zip(given[::2], given[1::2]) if (one, other) != ("--page", "64")}
         hold(f"examples: {name} with the options of its run", all(f" {one} {other}" in line for one, other in pairs) and ("--events" in line) == os.path.exists(events), line)
+
+
+def lint_shown(file, text):
+    """The notes that stand under lines: those of `lint`, or of a text with names that it does not know the fault that `check` says."""
+    lint, check = (Native(text, file).play(f"treadmarks {command} {file}") for command in ("lint", "check"))
+    found = re.search(r":(\d+):\d+: (?:error|warning): (\S+)", lint.stdout)
+    fault = re.search(r"line (\d+): (\S+)", check.stderr)
+    if lint.returncode == 0 or (fault and found and found.groups() == fault.groups()):
+        return sorted({int(it) for it in re.findall(r":(\d+):\d+: (?:error|warning): ", lint.stdout)})
+    return [int(fault[1])] if fault else []
+
+
+def check_named():
+    """Programs with names are chosen, run on as many nodes as they say, and looked at as what a machine runs; what is wrong with one stands under its line."""
+    noted = "[...document.getElementById('text').children].flatMap((it, k) => it.dataset.note ? [k + 1] : [])"
+    for path in sorted(glob.glob(f"{examples}/named/*.tm")):
+        file = os.path.basename(path)
+        with open(path) as opened:
+            text = opened.read()
+        open_page()
+        value(f"""(() => {{ document.getElementById('examples-button').click();
+          [...document.querySelectorAll('.example')].filter(it => it.querySelector('code').textContent.trim() === {json.dumps(file)}).at(-1).click(); }})()""")
+        time.sleep(0.1)
+        same(f"{file}: named", editor_text(), text)
+        ask("run")
+        line = heading()[0][0]
+        hold(f"{file}: nodes as the text says", "--nodes" not in line, line)
+        check_run(f"{file} named", Native(text, file))
+        same(f"{file}: notes", value(noted), lint_shown(file, text))
+    for fault, place in (("conut = sum;\nprint conut + cuont;\n", 13), ("sum = ;\n", 12), ("mutex = 1;\n", 12), ("if sum > 1 and { }\n", 12)):
+        open_page()
+        drop("faulty.tm", NAMED + fault)
+        time.sleep(1)
+        same(f"named: the line of a fault: {fault!r}", value(noted), [place])
+        same(f"named: the notes: {fault!r}", value(noted), lint_shown("faulty.tm", NAMED + fault))
 
 
 def check_keys():
@@ -928,7 +974,7 @@ if shots:
     os.makedirs(shots, exist_ok=True)
 browser.size(1366, 768)
 open_page()
-CHECKS = (check_programs, check_orders, check_examples, check_editor, check_keys, check_keys_alone, check_link, check_files, check_haste, check_stop, check_long, check_events, check_server, check_without_module, take_shots)
+CHECKS = (check_programs, check_orders, check_examples, check_named, check_editor, check_keys, check_keys_alone, check_link, check_files, check_haste, check_stop, check_long, check_events, check_server, check_without_module, take_shots)
 for check in [it for it in CHECKS if not sys.argv[4:] or it.__name__ in sys.argv[4:]]:
     check()
     check_quiet()
