@@ -12,8 +12,8 @@ from shown import SHOWN, Differs, Looks, arrays_of, moments_of
 
 SIZES = [(1280, 800), (1366, 768), (1920, 1080), (1024, 768)]
 SHOT_AT = {"late": 13, "late_part": 12, "front_part": 4, "counter": 33, "sixteen_part": 277, "collecting": 22, "store_buffering": 3, "deadlock": 9,
-           "traps": 5, "jacobi": 239, "jacobi_eight": 239, "grids_part": 310, "grids_eight_part": 298, "tours_part": 300, "sort_part": 300,
-           "product_part": 200, "arrays": 70, "line": 200}
+           "traps": 5, "jacobi": 226, "jacobi_eight": 239, "grids_part": 310, "grids_eight_part": 298, "tours_part": 300, "sort_part": 300,
+           "product_part": 200, "arrays": 70, "line": 200, "philosophers": 20}
 # Ten steps, drawn and laid out.
 TEN_STEPS = "for (let k = 0; k < 10; k++) { go(1000 + k); document.body.getBoundingClientRect(); }"
 TEXTS = "(selector => [...document.querySelectorAll(selector)].map(element => element.textContent))"
@@ -282,6 +282,7 @@ def ends(pages, made):
     browser = pages.browser
     browser.size(1366, 768)
     for name, counts, link, headline in (("late", ["1 group of races"], "13", None), ("deadlock", ["1 deadlock"], None, "Deadlock: node 0 waits for node 1"),
+                                         ("philosophers", ["1 deadlock"], None, "Deadlock: node 0 waits for node 1 waits for node 2"),
                                          ("traps", ["3 traps"], None, "Node 0 trapped at line 7: word out of range; Node 1 trapped")):
         url = pages.save(name, made[name])
         last = list(moments_of(documents.lines_of(made[name])))[-1]
@@ -302,7 +303,7 @@ def ends(pages, made):
           return [...document.querySelectorAll('.node.now .word.touched')].every(word => { const box = word.getBoundingClientRect();
             return box.top >= nodes.top - 1 && box.bottom <= nodes.bottom + 1 && box.left >= nodes.left - 1 && box.right <= nodes.right + 1; }); })()""")
         pages.same(f"the word of the act is seen at {turn}", seen, True)
-    pages.same("labels above the columns", "old[" in pages.text("#headings") or "new[" in pages.text("#headings"), True)
+    pages.same("labels above the columns", "grid[" in pages.text("#headings"), True)
     pages.is_quiet("ends")
 
 
@@ -355,6 +356,7 @@ def part(pages, whole, shorter):
     """A part of a run shows what the whole run shows at the same turns, old values by writes before it too."""
     browser, moments = pages.browser, moments_of(documents.lines_of(whole))
     turns = [turn for turn in moments_of(documents.lines_of(shorter)) if turn is not None]
+    knows(pages, whole)
     browser.size(1280, 800)
     panels_shown = "[...document.querySelectorAll('section.node')].map(element => element.outerHTML)"
     panels = {}
@@ -394,7 +396,7 @@ def hostile(pages, document):
     pages.same("the text", pages.texts("#source code"), wanted.removesuffix("\n").split("\n") + ["# end"])
     pages.same("markup of the text", browser.value("document.querySelectorAll('#source b, #source script, #place b').length"), 0)
     browser.key("End")
-    pages.same("64 bits", "18446744073709551615" in pages.texts("section.node .value"), True)
+    pages.same("64 bits", "18446744073709551615" in pages.texts("section.node .value, section.node td"), True)
     pages.is_quiet("hostile")
 
 
@@ -413,6 +415,7 @@ def empty(pages, document):
 
 def past_the_end(pages, document):
     """No turns either, and nothing is said of the start of the run."""
+    knows(pages, document)
     pages.browser.open(pages.save("past_the_end", document))
     pages.looks.moment(pages.browser.value(SHOWN), moments_of(documents.lines_of(document))[None], "past the end", "")
     pages.same("past the end", pages.text("#headline"), "No turn is shown")

@@ -5,16 +5,19 @@ use Rattle.lrc_cli_answer.specs.declared.fault.Fault.TheVariants as faults
 use Rattle.lrc_cli_args.specs.declared.choice.Exploring.{Exploring}
 use Rattle.lrc_cli_args.specs.declared.choice.RunChoice.{RunChoice}
 use Rattle.lrc_named_core.specs.Tree.{Trap}
+use Rattle.lrc_named_held.specs.Held.{Held}
 use Rattle.lrc_named.specs.Named.{IsCoreTextOn, IsNamedFault, IsReadAsNamed}
 use Rattle.lrc_named.specs.declared.fault.NamedFault.{NamedFault}
 use Rattle.lrc_named.specs.declared.fault.NamedFault.TheVariants.{Text, Names, NoMemory}
 use Rattle.lrc_setting.specs.declared.setting.Nodes.{Nodes}
 use Rattle.lrc_source.specs.Telling.{ReadText, as_translated, as_written}
 
--- the named program with this text has this core, asks for so many nodes, and tells the core by its own text, lines and traps
+-- the named program with this text has this core, asks for so many nodes, and tells the core by its own text, lines and traps, and by what
+-- names hold
 abbrev pub IsCoreTold : (text : List ℕ) → Option Nodes → ReadText → Type 0
-IsCoreTold text nodes read = (lines : List ℕ) × (traps : List Trap)
-    × IsCoreTextOn text (option_map (λ (n : Nodes). n.count) nodes) read.core lines traps × (read ≡ as_translated read.core text lines traps)
+IsCoreTold text nodes read = (lines : List ℕ) × (traps : List Trap) × (held : List (List Held))
+    × IsCoreTextOn text (option_map (λ (n : Nodes). n.count) nodes) read.core lines traps held
+    × (read ≡ as_translated read.core text lines traps held)
 
 -- the text is read as this one of the core, and asks for so many nodes
 abbrev pub IsReadAs : (text : List ℕ) → Option Nodes → ReadText → Type 0

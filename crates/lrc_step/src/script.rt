@@ -7,7 +7,8 @@ pub const CLOSING: &[u8] = br##"</script>
 
 // Data flows one way. `readRun` takes the lines apart, once, and makes a moment of each turn: the states of all nodes just after it. `at` is
 // the moment that is shown. `draw` makes each region of the page anew from that moment: header, source, nodes, story, timeline. A key or a
-// button calls `go`, which sets `at` and draws. Only text nodes are made from data, never markup.
+// button calls `go`, which sets `at` and draws. The functions of arrays stand in the frame, before the data. Only text nodes are made from
+// data, never markup.
 
 // ---- The run, as the lines of the data say it ----
 // A moment is a state of all nodes: moment 0 is the start, moment k stands just after the k-th turn of the data.

@@ -1,0 +1,5 @@
+use Rattle.std.proofs.Common.{refl}
+use Rattle.lrc_cli.proofs.exact.one_exact_run.Goals as goal
+
+pub returns-in-Err-TooMany-clause-err : goal.returns-in-Err-TooMany-clause-err
+returns-in-Err-TooMany-clause-err c = (refl, c.in-Err-TooMany.ensures.too_many c.in-Err-TooMany.field-0-is)

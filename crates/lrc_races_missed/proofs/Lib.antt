@@ -1,0 +1,7 @@
+pub mod Given
+pub mod KeyLemmas
+pub mod KeyFinding
+pub mod EventLemmas
+pub mod PairLemmas
+pub mod LocationLemmas
+pub mod VariableLemmas

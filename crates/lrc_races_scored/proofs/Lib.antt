@@ -1,0 +1,6 @@
+pub mod Zipping
+pub mod Adding
+pub mod SortLemmas
+pub mod MissedLemmas
+pub mod ScoreLemmas
+pub mod TracedLemmas
