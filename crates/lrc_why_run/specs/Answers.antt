@@ -96,7 +96,8 @@ pub record IsWith (shown own : Shown) (trap : Trap) : Type 0 where
   pub labels : map label_seen own.labels.now ≡ map label_seen shown.labels.now
   pub said : trap_of own.trap ≡ trap
 
--- what is asked is answered with names and traps as the text tells them in this statement
+-- what is asked is answered with traps and names as the text tells them in this statement, where these are the names of its core
 abbrev pub TellsAt : ReadText → Names → Shown → Program → (nodes : ℕ) → Size → (statement : ℕ) → Asked → List ℕ → Type 0
 TellsAt text names shown program nodes page statement asked out = (own : Shown) × IsWith shown own (trap_said (traps_of text.telling) statement)
+    × AreNamesOf text.core names
     × Tells own (names_at text.telling statement names) program nodes page asked out

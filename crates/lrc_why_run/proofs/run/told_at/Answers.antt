@@ -39,6 +39,7 @@ returns c =
     (λ part tells. (
       own,
       record { acts = refl; lines = refl; intervals = refl; labels = refl; said = said },
+      c.names.ensures.text,
       subst (λ (n : Names). Tells own n source.program c.args.nodes c.args.page asked part.items) names
           (subst (λ (p : Program). Tells own (map bytes_of c.deref.result.now) p c.args.nodes c.args.page asked part.items) c.code.ensures tells),
     ))

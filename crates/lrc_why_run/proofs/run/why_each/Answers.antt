@@ -49,7 +49,7 @@ returns c =
     record {
       all = told.all;
       each = λ place part is one stands.
-          let (own, with, tells_own) = told.each place part is one stands in
+          let (own, with, are_names, tells_own) = told.each place part is one stands in
           let (behind, tells_behind, tells) = tells_own lines in
           let at : slice_index c.deref-2.result.now one.act ≡ statement_at program nodes acts one.act =
           ap (λ (l : List ℕ). slice_index l one.act) statements in
@@ -58,7 +58,7 @@ returns c =
             lines = lines;
             are_lines = c.lines.ensures.text;
             names = names;
-            are_names = c.names.ensures.text;
+            are_names = are_names;
             shown = own;
             is_shown = record {
               acts_are = with.acts;
