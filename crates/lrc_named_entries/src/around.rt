@@ -12,7 +12,7 @@ use std::alloc::{AllocError, Global};
 pub fn parameters_around<'t>(
     alloc: Global,
     declarations: &[Declaration<'t>],
-    at: u32,
+    at: u64,
 ) -> Result<Vec<Name<'t>>, AllocError>
     ensures { IfOk result (λ names. map named_of names.items
         ≡ parameters_around at (map declaration_of declarations.now)) }
@@ -28,7 +28,7 @@ pub fn parameters_around<'t>(
 fn push_parameters<'t>(
     names: &mut Vec<Name<'t>>,
     declaration: &Declaration<'t>,
-    at: u32,
+    at: u64,
 ) -> Result<(), AllocError>
     ensures { OnOk result (map named_of names.new.items
         ≡ map named_of names.old.items ++ parameters_in at (declaration_of declaration.now)) }
@@ -49,11 +49,12 @@ fn push_parameters<'t>(
 }
 
 // Whether a token stands from a function's name to the end of its body.
-fn belongs(at: u32, name: Name<'_>, body: &Expression<'_>) -> bool
+fn belongs(at: u64, name: Name<'_>, body: &Expression<'_>) -> bool
     ensures { result ≡ belongs at (named_of name.entry) (expression_of body.now) }
 {
-    let last = body.last();
-    name.at <= at && at <= last
+    let first = u64::from(name.at);
+    let last = u64::from(body.last());
+    first <= at && at <= last
 }
 
 fn push_all<'t>(names: &mut Vec<Name<'t>>, more: &[Name<'t>]) -> Result<(), AllocError>

@@ -23,7 +23,7 @@ pub fn lint_core_fault(
     file: &[u8],
     text: &[u8],
     tokens: &[Located<'_>],
-    written: &Written,
+    written: &Written<'_>,
 ) -> Result<Option<Linted>, AllocError>
     ensures told { IfOk result (λ told. option_map (λ linted. whole_text linted.parts.items) told
         ≡ told_of file.now text.now (map located_of tokens.now) written.now) }

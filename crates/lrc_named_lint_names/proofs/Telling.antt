@@ -1,5 +1,7 @@
 -- What is told of a fault of names, from what was found.
-use Rattle.std.proofs.Common.{◌≡◌, ℕ, List, ◌++◌, map, Option, ap, ◌∙◌, append_assoc}
+use Rattle.std.proofs.Common.{◌≡◌, ℕ, List, ◌++◌, map, get_or, Option, refl, sym, ap, subst, ◌∙◌, append_assoc}
+use Rattle.lrc_lint_fault.specs.Hint.{words_line}
+use Rattle.lrc_named_expression_faults.specs.declared.fault.Fault.{Fault}
 use Rattle.lrc_named_tokens.specs.Token.{Located}
 use Rattle.lrc_named_tokens.specs.View.{located_of}
 use Rattle.lrc_named_tree.specs.Tree.{Named, NamedTree}
@@ -7,8 +9,9 @@ use Rattle.lrc_named_tree.specs.View.{named_of}
 use Rattle.lrc_named_entries.specs.Entry.{Entry, entries_of, first_nodes, parameters_around}
 use Rattle.lrc_named_entries.specs.View.{entry_seen}
 use Rattle.lrc_named_name_hints.specs.declared.seen.Seen as code_seen
+use Rattle.lrc_named_name_hints.specs.Hints.{IsHintOf}
 use Rattle.lrc_named_name_hints.specs.Seen.{Seen, seen_of}
-use Rattle.lrc_named_lint_names.specs.Told.{seen_in}
+use Rattle.lrc_named_lint_names.specs.Told.{TellsFault, head_lines, nowhere, seen_in}
 
 pub two_pushed : (old : List ℕ) {first second : List ℕ} (a b : List ℕ) → first ≡ old ++ a → second ≡ first ++ b → second ≡ old ++ (a ++ b)
 two_pushed old a b h1 h2 = rw (h2, h1) (append_assoc old a b)
@@ -33,3 +36,15 @@ seen_there tokens tree at seen tokens_are entries_are parameters_are counted_is 
     ∙ ap (λ ps. seen_by tokens entries ps seen.counted seen.at) parameters_are
     ∙ ap (λ n. seen_by tokens entries parameters n seen.at) counted_is
     ∙ ap (seen_by tokens entries parameters counted) at_is
+
+-- where the fault is, and behind it its hint
+pub told : (file text : List ℕ) (tokens : List Located) (tree : NamedTree) (fault : Fault) (found : Located) (seen : Seen) (hint : Option (List ℕ))
+    (old first second : List ℕ) → found ≡ get_or tokens fault.at nowhere → seen ≡ seen_in tokens tree fault.at → IsHintOf fault.kind seen hint
+    → first ≡ old ++ head_lines file text found fault.kind → second ≡ first ++ words_line hint
+    → (lines : List ℕ) × (second ≡ old ++ lines) × TellsFault file text tokens tree fault lines
+told file text tokens tree fault found seen hint old first second there is is_hint head last =
+    let headed = head ∙ ap (λ it. old ++ head_lines file text it fault.kind) there in (
+      head_lines file text (get_or tokens fault.at nowhere) fault.kind ++ words_line hint,
+      two_pushed old (head_lines file text (get_or tokens fault.at nowhere) fault.kind) (words_line hint) headed last,
+      record { hint = hint; is_hint = subst (λ s. IsHintOf fault.kind s hint) is is_hint; is = refl },
+    )

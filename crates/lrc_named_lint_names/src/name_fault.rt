@@ -65,7 +65,7 @@ fn push_name_fault(
         × TellsFault file.now text.now (map located_of tokens.now) (program_of program.now) fault lines) }
 {
     let entries = entries_of(alloc, &program.declarations)?;
-    let parameters = parameters_around(alloc, &program.declarations, fault.at as u32)?;
+    let parameters = parameters_around(alloc, &program.declarations, fault.at)?;
     let seen = Seen {
         tokens,
         entries: &entries,

@@ -29,6 +29,20 @@ pub some_case : {A P : Type 0} (Q : A → Type 0) (o : Option A) (a : A) → o �
 some_case Q None a e h = absurd (cc)
 some_case Q (Some b) a e h = subst Q (cc) h
 
+some_same : {A : Type 0} {a b : A} → Some a ≡ Some b → a ≡ b
+some_same e = cc
+
+some_not_none : {A : Type 0} {a : A} → Some a ≡ None → ⊥
+some_not_none e = cc
+
+none_not_some : {A : Type 0} {a : A} → None ≡ Some a → ⊥
+none_not_some e = cc
+
+-- of a result, by what two clauses say
+pub by_both : {A E : Type 0} {P Q R : A → Type 0} (r : Result A E) → ((x : A) → P x → Q x → R x) → IfOk r P → IfOk r Q → IfOk r R
+by_both (Ok x) f p q = f x p q
+by_both (Err e) f p q = tt
+
 -- this is told of a text, or nothing
 abbrev pub IsAnswer : List ℕ → List ℕ → Option Linted → Type 0
 IsAnswer file text told =
@@ -57,7 +71,7 @@ faultless text tokens tree layout parsed clean = record { parsed = parsed; fault
 pub core_told : (file text : List ℕ) (tokens : List Located) (tree : NamedTree) (layout : code_layout.Layout) (found : Written) (told : Option Linted)
     → IsNamed text tokens tree → IsClean tree layout → IsWritten (declared_of layout.names) (lines_of tokens) tree found
     → option_map (λ (linted : Linted). whole_text linted.parts.items) told ≡ told_of file text tokens found → IsFaulty told → IsAnswer file text told
-core_told file text tokens tree layout (written.Core core origins) None parsed clean is told faulty =
+core_told file text tokens tree layout (written.Core core origins owns) None parsed clean is told faulty =
     inr (record {
       tokens = tokens;
       tree = tree;
@@ -66,26 +80,26 @@ core_told file text tokens tree layout (written.Core core origins) None parsed c
       is = faultless text tokens tree layout parsed clean;
       written = is.is;
     })
-core_told file text tokens tree layout (written.Core core origins) (Some linted) parsed clean is told faulty = absurd (cc)
-core_told file text tokens tree layout (written.Over x) None parsed clean is told faulty = absurd (cc)
+core_told file text tokens tree layout (written.Core core origins owns) (Some linted) parsed clean is told faulty = absurd (some_not_none told)
+core_told file text tokens tree layout (written.Over x) None parsed clean is told faulty = absurd (none_not_some told)
 core_told file text tokens tree layout (written.Over x) (Some linted) parsed clean is told faulty = (
   inr (inr (record {
     tokens = tokens;
     tree = tree;
     declared = declared_of layout.names;
     is = faultless text tokens tree layout parsed clean;
-    tells = inl (x, is, cc);
+    tells = inl (x, is, some_same told);
   })),
   faulty,
 )
-core_told file text tokens tree layout written.TooLong None parsed clean is told faulty = absurd (cc)
+core_told file text tokens tree layout written.TooLong None parsed clean is told faulty = absurd (none_not_some told)
 core_told file text tokens tree layout written.TooLong (Some linted) parsed clean is told faulty = (
   inr (inr (record {
     tokens = tokens;
     tree = tree;
     declared = declared_of layout.names;
     is = faultless text tokens tree layout parsed clean;
-    tells = inr (is, cc);
+    tells = inr (is, some_same told);
   })),
   faulty,
 )

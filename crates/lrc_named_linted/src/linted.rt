@@ -91,13 +91,13 @@ fn lint_names(
 }
 
 // What is told of the core.
-fn lint_core(
+fn lint_core<'p>(
     alloc: Global,
     file: &[u8],
     text: &[u8],
     tokens: &[Located<'_>],
-    program: &NamedProgram<'_>,
-    layout: &Layout<'_, '_>,
+    program: &NamedProgram<'p>,
+    layout: &Layout<'_, 'p>,
 ) -> Result<Option<Linted>, AllocError>
     requires parsed { IsNamed text.now (map located_of tokens.now) (program_of program.now) }
     requires clean { IsClean (program_of program.now) layout.now }
