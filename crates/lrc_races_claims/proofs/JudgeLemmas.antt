@@ -76,18 +76,27 @@ slot_filled sought naming events last claims slots after place claim verdict at 
       ];
 }
 
+-- what is said of the first claims is so
+abbrev pub AreSaid : Sought → Naming → List Event → ℕ → List LinedClaim → List Verdict → Type 0
+AreSaid sought naming events last claims verdicts = (k : ℕ) (claim : LinedClaim) (said : Verdict) → slice_get claims k ≡ Some claim
+    → slice_get verdicts k ≡ Some said → IsJudged sought naming events last (statement_of claim.claim) said
+
+pub verdict_none : (sought : Sought) (naming : Naming) (events : List Event) (last : ℕ) (claims : List LinedClaim) (verdicts : List Verdict) → verdicts ≡ []
+    → AreSaid sought naming events last claims verdicts
+verdict_none sought naming events last claims verdicts e k claim said at here =
+    let none : slice_get [] k ≡ Some said = subst (λ (l : List Verdict). slice_get l k ≡ Some said) e here in
+    let never : ⊥ = cc in absurd never
+
 -- one verdict more
-pub verdict_more : (sought : Sought) (naming : Naming) (events : List Event) (last : ℕ) (claims : List LinedClaim) (verdicts : List Verdict) (verdict : Verdict)
+pub verdict_more : (sought : Sought) (naming : Naming) (events : List Event) (last : ℕ) (claims : List LinedClaim) (verdicts after : List Verdict)
+    (verdict : Verdict) → after ≡ verdicts ++ verdict ∷ []
     → ((claim : LinedClaim) → slice_get claims (length verdicts) ≡ Some claim → IsJudged sought naming events last (statement_of claim.claim) verdict)
-    → ((k : ℕ) (claim : LinedClaim) (said : Verdict) → slice_get claims k ≡ Some claim → slice_get verdicts k ≡ Some said
-    → IsJudged sought naming events last (statement_of claim.claim) said)
-    → (k : ℕ) (claim : LinedClaim) (said : Verdict) → slice_get claims k ≡ Some claim → slice_get (verdicts ++ verdict ∷ []) k ≡ Some said
-    → IsJudged sought naming events last (statement_of claim.claim) said
-verdict_more sought naming events last claims verdicts verdict own each k claim said at here =
-    elim (push_cases verdicts verdict said k here) [
+    → AreSaid sought naming events last claims verdicts → AreSaid sought naming events last claims after
+verdict_more sought naming events last claims verdicts after verdict e own each k claim said at here =
+    elim (push_cases verdicts verdict said k (subst (λ (l : List Verdict). slice_get l k ≡ Some said) e here)) [
       | inl old ↦ each k claim said at old
-      | inr (same, e) ↦
-          subst (λ (v : Verdict). IsJudged sought naming events last (statement_of claim.claim) v) e
+      | inr (same, is) ↦
+          subst (λ (v : Verdict). IsJudged sought naming events last (statement_of claim.claim) v) is
           (own claim (subst (λ m. slice_get claims m ≡ Some claim) same at))
     ]
 

@@ -1,4 +1,5 @@
 pub mod Given
+pub mod Testing
 pub mod KeyLemmas
 pub mod KeyFinding
 pub mod EventLemmas

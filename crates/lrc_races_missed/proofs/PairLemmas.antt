@@ -156,19 +156,19 @@ before_all sought events claims variables places keys n lines end are before = (
     in_order = before.in_order;
     exact = λ told. (
       λ has.
-          let (is, lt, straight, crossed) = (before.exact told).0 has in (
+          let (is, lt, free) = (before.exact told).0 has in (
             is,
             (
-              λ claimed. straight (there told.earlier.event.line told.later.event.line claimed),
-              λ claimed. crossed (there told.later.event.line told.earlier.event.line claimed),
+              λ claimed. free.0 (there told.earlier.event.line told.later.event.line claimed),
+              λ claimed. free.1 (there told.later.event.line told.earlier.event.line claimed),
             ),
           ),
-      λ (is, straight, crossed).
+      λ (is, free).
           let within = told_within sought events told is in
           (before.exact told).1 (
             is,
             (let less : told.later.position < n = omega arith in less),
-            (λ has. straight (back told.earlier.event.line told.later.event.line has), λ has. crossed (back told.later.event.line told.earlier.event.line has)),
+            (λ has. free.0 (back told.earlier.event.line told.later.event.line has), λ has. free.1 (back told.later.event.line told.earlier.event.line has)),
           ),
     );
   },

@@ -1,5 +1,5 @@
 -- It was kept, or is judged now.
-use Rattle.std.proofs.Common.{sym, subst, ◌∙◌, ap}
+use Rattle.std.proofs.Common.{◌<◌, length, sym, subst, ◌∙◌, ap, arith}
 use Rattle.std.specs.Prelude.{Some}
 use Rattle.std.proofs.lemmas.Option.{slice_get-get_or, same_Some}
 use Rattle.std.proofs.lemmas.Result.{IfOk-weaker}
@@ -11,7 +11,8 @@ use Rattle.lrc_races_claims.proofs.judge_all.verdict_at.Goals as goal
 
 pub returns-in-Some-clause-judged : goal.returns-in-Some-clause-judged
 returns-in-Some-clause-judged c = λ sought naming last claim at is slots.
-    slots.each c.args.place claim c.in-Some.verdict at (slice_get-get_or c.args.slots.now c.args.place _ c.requires.within ∙ ap Some c.in-Some.is)
+    let within : c.args.place < length c.args.slots.now = omega arith in
+    slots.each c.args.place claim c.in-Some.verdict at (slice_get-get_or c.args.slots.now c.args.place _ within ∙ ap Some c.in-Some.is)
 
 pub returns-in-None-clause-judged : goal.returns-in-None-clause-judged
 returns-in-None-clause-judged c =

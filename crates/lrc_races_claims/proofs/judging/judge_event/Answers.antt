@@ -1,8 +1,15 @@
 -- The mark of the access says whether it races.
-use Rattle.std.proofs.Common.{◌∙◌, true, sym}
+use Rattle.std.proofs.Common.{◌∙◌, true, sym, arith}
+use Rattle.lrc_races_trace.proofs.Positions.{At-within}
 use Rattle.lrc_races_claims.specs.Truth.{event_lacks}
 use Rattle.lrc_races_claims.proofs.Judged.{races_event, free_event}
 use Rattle.lrc_races_claims.proofs.judging.judge_event.Goals as goal
+
+pub index-requires : goal.index-requires
+index-requires c =
+    let within = At-within c.in-Ok.ensures.is.at in
+    let long = c.requires.facts.1.marked.long in
+    omega (arith, c.args.facts.now.marks.ok.0)
 
 pub returns-then-index : goal.returns-then-index
 returns-then-index c = λ sought naming are.

@@ -1,8 +1,9 @@
 -- One event more is taken, and what is told of it is looked at.
-use Rattle.std.proofs.Common.{◌≡◌, ◌+◌, List, length, subst, arith}
+use Rattle.std.proofs.Common.{◌≡◌, ◌+◌, List, length, subst, sym, arith}
+use Rattle.std.specs.Prelude.{AllPairs}
 use Rattle.std.proofs.lemmas.Option.{slice_get-get_or}
 use Rattle.lrc_races_trace.specs.declared.event.Pair.{Pair}
-use Rattle.lrc_races_text.specs.Sought.{AreSoughtAt}
+use Rattle.lrc_races_trace.specs.Races.{ComesFirst}
 use Rattle.lrc_races_locations.proofs.Knowing.{taken_position}
 use Rattle.lrc_races_missed.specs.Keyless.{AreLinesAdded}
 use Rattle.lrc_races_missed.proofs.PairLemmas.{before_all, before_more, before_none, told_in_order}
@@ -31,7 +32,7 @@ loop-event-preserved c =
       taken = taken;
       missed = before_more c.args.sought events c.args.keys.now.keys n items c.loop-event.lines.items c.note_told.new.lines.items told
           (subst (λ (l : List Pair). AreLinesAdded c.args.keys.now.keys l c.loop-event.lines.items c.note_told.new.lines.items) c.as_slice.ensures.value
-          (c.in_ok-note_told.ensures (subst (λ (l : List Pair). _) c.as_slice.ensures.value ordered))) c.loop-event.invariant.missed;
+          (c.in_ok-note_told.ensures (subst (λ (l : List Pair). AllPairs ComesFirst l) (sym c.as_slice.ensures.value) ordered))) c.loop-event.invariant.missed;
     }
 
 pub returns : goal.returns
