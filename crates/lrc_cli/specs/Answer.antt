@@ -6,7 +6,7 @@ use Rattle.lrc_exec.specs.Rounds.{AreActsOfRounds}
 use Rattle.lrc_lang.specs.declared.program.Program.{Program}
 use Rattle.lrc_trace.specs.declared.act.Act.{Act}
 use Rattle.lrc_text.specs.Parts.{whole_text}
-use Rattle.lrc_explore.specs.Answers.{FitsSettled, FitsSettledNoted}
+use Rattle.lrc_explore.specs.Answers.{FitsSettled, FitsSettledNoted, MetTooMany}
 use Rattle.lrc_explore_text.specs.Explored.{Explores, MeetsFew, MeetsTooMany}
 use Rattle.lrc_explore_text.specs.Ends.{TellsEnds}
 use Rattle.lrc_explore_text.specs.Orders.{TellsFindings}
@@ -283,16 +283,23 @@ HasLazyRunFault exploring program number (TooManyStates most) = (most ≡ explor
 HasLazyRunFault exploring program number NoMemory = Unit {0}
 HasLazyRunFault exploring program number _ = ⊥
 
--- of one that looks for no race, and of one for ends
+-- of one that looks for no race
 abbrev pub HasFindingsFault : Exploring → Program → Fault → Type 0
-HasFindingsFault exploring program (TooManyStates most) = (most ≡ exploring.most.count) × MeetsTooMany program exploring.nodes.count most false
+HasFindingsFault exploring program (TooManyStates most) = (most ≡ exploring.most.count) × MetTooMany program exploring.nodes.count most false false
 HasFindingsFault exploring program NoMemory = Unit {0}
 HasFindingsFault exploring program _ = ⊥
+
+-- of one for ends, and of one for the order of a line, where races are looked for or ignored
+abbrev pub HasLineFault : Exploring → Program → Fault → Type 0
+HasLineFault exploring program (TooManyStates most) =
+    (most ≡ exploring.most.count) × MetTooMany program exploring.nodes.count most false (not exploring.ignores_races)
+HasLineFault exploring program NoMemory = Unit {0}
+HasLineFault exploring program _ = ⊥
 
 -- by what is asked for
 abbrev pub IsFlatFault : Option OutcomeNumber → (ends ignores_races : Bool) → Exploring → Program → Fault → Type 0
 IsFlatFault (Some outcome) ends ignores_races exploring program fault = HasOutcomeFault exploring program outcome.number fault
-IsFlatFault None true ignores_races exploring program fault = HasFindingsFault exploring program fault
+IsFlatFault None true ignores_races exploring program fault = HasLineFault exploring program fault
 IsFlatFault None false true exploring program fault = HasFindingsFault exploring program fault
 IsFlatFault None false false exploring program fault = HasOrdersFault exploring program fault
 
@@ -315,7 +322,7 @@ IsFaultIn (Exact options) exploring program fault = IsExactFault exploring.outco
 -- the fault of a search for the order whose events are asked for
 abbrev pub IsEventsFault : Option OutcomeNumber → Exploring → Program → Fault → Type 0
 IsEventsFault (Some outcome) exploring program fault = HasOutcomeFault exploring program outcome.number fault
-IsEventsFault None exploring program fault = HasFindingsFault exploring program fault
+IsEventsFault None exploring program fault = HasLineFault exploring program fault
 
 abbrev pub IsFaultOfSearch : Option Tell → Exploring → Program → Fault → Type 0
 IsFaultOfSearch (Some tell) exploring program fault = IsEventsFault exploring.outcome exploring program fault

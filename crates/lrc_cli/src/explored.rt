@@ -1,7 +1,7 @@
 // What the program answers to the command `explore`.
 
 ghost use Rattle.std.specs.Prelude.{◌≡◌, ◌≤◌, ◌⊎◌, IfErr, IfOk, None};
-ghost use Rattle.lrc_cli.specs.Answer.{HasFindingsFault, HasLazyFault, HasLazyRunFault, HasOrdersFault, HasOutcomeFault, IsAnswerTo, IsExactAnswer, IsExactFault, IsExploration, IsFault, IsFaultIn, IsFlatAnswer, IsFlatFault};
+ghost use Rattle.lrc_cli.specs.Answer.{HasFindingsFault, HasLazyFault, HasLazyRunFault, HasLineFault, HasOrdersFault, HasOutcomeFault, IsAnswerTo, IsExactAnswer, IsExactFault, IsExploration, IsFault, IsFaultIn, IsFlatAnswer, IsFlatFault};
 ghost use Rattle.lrc_cli.specs.Answer.{IsLazyAnswer, IsLazyFault, IsSaid, IsSearchFault, Prints, ShowsEnds, ShowsFindings, ShowsLazyOutcomes, ShowsLazyRun, ShowsOrders, ShowsOutcome, tries_asked};
 ghost use Rattle.lrc_cli_answer.specs.Texts.{IsTextFault, IsTextOf};
 ghost use Rattle.lrc_explain_waits.specs.Traps.{wording_of};
@@ -260,7 +260,7 @@ fn ends_asked(
     ensures ok { IfOk result (λ printout.
         ShowsEnds exploring.now (wording_of wording.now) program.now lines.now
         (whole_text printout.parts.items) printout.status) }
-    ensures err { IfErr result (HasFindingsFault exploring.now program.now) }
+    ensures err { IfErr result (HasLineFault exploring.now program.now) }
 {
     let nodes = exploring.nodes.count;
     let most = exploring.most.count;
