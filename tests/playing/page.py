@@ -26,7 +26,7 @@ sys.path.insert(0, os.path.join(here, "../browser"))
 from browser import Browser
 
 PROGRAMS = ["late.tm", "litmus/dekker.tm", "litmus/bank.tm", "traps.tm", "named"]
-# A program with names, for a program that shows them in all views; else another example.
+# A program with names.
 NAMED = """nodes 2;
 const ROUNDS = 2;
 shared sum, seen[2];
@@ -488,12 +488,11 @@ def check_guess(name, machine, options):
 def check_programs():
     for program in PROGRAMS:
         file = os.path.basename(program)
-        if program == "named" and subprocess.run([native, "step", "-"], input=NAMED, text=True, capture_output=True).returncode != 1:
+        if program == "named":
             file, text = "named.tm", NAMED
             drop("named.tm", NAMED)
             set_fields(nodes="")
         else:
-            program, file = ("counter.tm", "counter.tm") if program == "named" else (program, file)
             example(file)
             with open(f"{examples}/{program}") as opened:
                 text = opened.read()
@@ -639,6 +638,17 @@ def lint_shown(file, text):
     return [int(fault[1])] if fault else []
 
 
+def check_turns(name, machine):
+    """The views that go through a run turn by turn."""
+    ask("step")
+    check_step(f"{name} step", machine)
+    ask("why")
+    click(".acts button")
+    check_why(f"{name} why", machine, re.sub(r"^treadmarks \w+ | --as.*", "", heading()[0][0]))
+    ask("guess")
+    check_guess(f"{name} guess", machine, re.sub(r"^treadmarks \w+ ", "", heading()[0][0]))
+
+
 def check_named():
     """Programs with names are chosen, run on as many nodes as they say, and looked at as what a machine runs; what is wrong with one stands under its line."""
     noted = "[...document.getElementById('text').children].flatMap((it, k) => it.dataset.note ? [k + 1] : [])"
@@ -656,16 +666,8 @@ def check_named():
         hold(f"{file}: nodes as the text says", "--nodes" not in line, line)
         check_run(f"{file} named", Native(text, file))
         same(f"{file}: notes", value(noted), lint_shown(file, text))
-        press_text("#result .fields", "Open it")
-        same(f"{file}: its core is opened", editor_text(), Native(text, file).play(f"treadmarks core {file}").stdout)
-        ask("step")
-        (line, status), = heading()
-        core = f"{file[:-3]}_core.tm"
-        asked = f"treadmarks step {core} --nodes {re.search(r'^nodes (.*);', text, re.M)[1]}"
-        same(f"{file}: its core on as many nodes", line[:len(asked)], asked)
-        done = Native(editor_text(), core).play(line)
-        check_errors(f"{file}: its core", done)
-        same(f"{file}: its core turn by turn", document_text() if done.stdout else "", done.stdout)
+        if file in ("bank.tm", "peterson.tm"):
+            check_turns(f"{file} named", Native(text, file))
     for fault, place in (("conut = sum;\nprint conut + cuont;\n", 13), ("sum = ;\n", 12), ("mutex = 1;\n", 12), ("if sum > 1 and { }\n", 12)):
         open_page()
         drop("faulty.tm", NAMED + fault)
