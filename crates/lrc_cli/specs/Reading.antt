@@ -57,6 +57,11 @@ nodes_for false nodes asked = unwrap_or asked nodes
 abbrev pub exploring_for : Exploring → (asked : Option Nodes) → Exploring
 exploring_for exploring asked = record exploring { nodes = nodes_for exploring.nodes_given exploring.nodes asked }
 
--- a run with the nodes that a text asks for
+-- a run with the nodes that a text asks for: unless the words say how many, and by default
 abbrev pub run_for : RunChoice → (asked : Option Nodes) → RunChoice
-run_for run asked = record run { options = record run.options { nodes = nodes_for run.options.nodes_given run.options.nodes asked } }
+run_for run asked = record run {
+  options = record run.options {
+    nodes = nodes_for run.options.nodes_given run.options.nodes asked;
+    default_nodes = unwrap_or asked run.options.default_nodes;
+  };
+}

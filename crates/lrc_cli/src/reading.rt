@@ -126,14 +126,20 @@ pub fn exploring_for<'w>(exploring: &Exploring<'w>, asked: Option<Nodes>) -> Exp
     Exploring { nodes, ..made }
 }
 
-/// Returns a run with the nodes that a text asks for, unless the words say how many.
+/// Returns a run with the nodes that a text asks for, unless the words say how many. These nodes are the default.
 pub fn run_for<'w>(run: &RunChoice<'w>, asked: Option<Nodes>) -> RunChoice<'w>
     ensures { result ≡ run_for run.now asked }
 {
     let options = run.options;
     let nodes = nodes_for(options.nodes_given, options.nodes, asked);
+    let default_nodes = asked.unwrap_or(options.default_nodes);
+    let options = RunOptions {
+        nodes,
+        default_nodes,
+        ..options
+    };
     RunChoice {
-        options: RunOptions { nodes, ..options },
+        options,
         way: run.way,
     }
 }

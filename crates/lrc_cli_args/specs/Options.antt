@@ -331,6 +331,7 @@ pub record AreOptions (path : Text) (node_count : ℕ) (given : Bool) (step_coun
 -- what all runs of the nodes have in common is chosen by these matches
 pub record AreRunOptions (run : RunOptions) (rows : List Row) : Type 0 where
   pub plain : AreOptions run.file.now run.nodes.count run.nodes_given run.steps.count rows
+  pub default_nodes : run.default_nodes.count ≡ 1
   pub collect : collect_in rows ≡ run.collect.count
   pub size : IsPageSize (first_of (codes "page") rows) run.size
 

@@ -57,6 +57,8 @@ pub struct RunOptions<'w> {
     pub nodes: Nodes,
     /// Whether the words give the number of nodes. If not, it is the default.
     pub nodes_given: bool,
+    /// The number of nodes that run if the words do not give it: one, or as many as the text asks for.
+    pub default_nodes: Nodes,
     pub steps: Steps,
     pub collect: Collect,
     /// The size of a page.
