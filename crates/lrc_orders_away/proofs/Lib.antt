@@ -1,2 +1,0 @@
-pub mod Conflicting
-pub mod Coming

@@ -1,2 +1,0 @@
-pub mod Away
-pub mod Undisputed

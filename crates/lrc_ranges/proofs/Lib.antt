@@ -1,3 +1,0 @@
-pub mod Names
-pub mod Products
-pub mod Quotients
