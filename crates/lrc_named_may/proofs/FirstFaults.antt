@@ -1,5 +1,5 @@
 -- The first fault by its place among the lexemes is the first fault of the text.
-use Rattle.std.proofs.Common.{◌≡◌, ◌≤◌, ℕ, List, [], ◌∷◌, ◌++◌, length, refl, sym, ap, subst, ◌∙◌, inl, inr, append_assoc, append-nil, arith}
+use Rattle.std.proofs.Common.{◌≤◌, ℕ, List, [], ◌∷◌, ◌++◌, length, refl, sym, ap, subst, ◌∙◌, inl, inr, append_assoc, append-nil, arith}
 use Rattle.lrc_lang.specs.declared.fault.FaultKind.{FaultKind}
 use Rattle.lrc_named_tokens.specs.Lexemes.{HasLexemes}
 use Rattle.lrc_named_tokens.specs.Token.{Token, Located, Place}

@@ -3,15 +3,15 @@ use Rattle.std.proofs.Common.{◌≡◌, ◌≢◌, ◌⊎◌, ◌<◌, ◌≤�
 use Rattle.std.proofs.Common.{sym, ap, subst, ◌∙◌, inl, inr, ⊎_elim, append_assoc, append-nil, arith, length-append, length-take}
 use Rattle.std.proofs.lemmas.List.{length-map, map-append, take_all, take_more, drop_more, take-append-drop}
 use Rattle.lrc_lang.specs.declared.fault.FaultKind.{FaultKind}
-use Rattle.lrc_lang.specs.declared.fault.FaultKind.TheVariants.{TooLong, BadByte, BadNumber, Unexpected, TooDeep, TooManyNames, OverLimit, NoMemory}
+use Rattle.lrc_lang.specs.declared.fault.FaultKind.TheVariants.{BadByte, Unexpected, NoMemory}
 use Rattle.lrc_named_tokens.specs.declared.token.Located as code_located
 use Rattle.lrc_named_tokens.specs.declared.token.Lexeme.TheVariants as code_lexemes
 use Rattle.lrc_named_tokens.specs.declared.token.Token.TheVariants as code_tokens
 use Rattle.lrc_named_tokens.specs.Token.{Token, Lexeme, token, bad_byte, bad_number, Located}
-use Rattle.lrc_named_tokens.specs.View.{lexeme_of, located_of}
+use Rattle.lrc_named_tokens.specs.View.{located_of}
 use Rattle.lrc_named_parse.specs.declared.limits.Limits as code_limits
 use Rattle.lrc_named_parse.specs.declared.state.State as code_state
-use Rattle.lrc_named_parse.specs.Faults.{IsFaultOf, IsFaultless, AreFaultless}
+use Rattle.lrc_named_parse.specs.Faults.{IsFaultless, AreFaultless}
 use Rattle.lrc_named_parse.specs.SeenParser.{TakesLexeme}
 use Rattle.lrc_named_parse.specs.SeenState.{state_seen}
 use Rattle.lrc_named_parse.proofs.Behind.{IsBehind, IsBehind-push, IsFaultless-taken, fault_of}

@@ -6,10 +6,10 @@ use Rattle.lrc_named_may.proofs.first_fault.kinds_taken.Goals as goal
 
 pub loop-kind-preserved : goal.loop-kind-preserved
 loop-kind-preserved c = λ at.
-    taken_in (takes_kind at (state_seen c.args.state.now)) c.all_kinds.result.now all_kinds c.loop-kind.kind-index _ c.loop-kind.kinds.items
-    c.push_if_taken.new.kinds.items c.all_kinds.ensures c.loop-kind-test.true (c.loop-kind.invariant at) (c.in_ok-push_if_taken.ensures at)
+    taken_in (takes_kind at (state_seen c.args.state.now)) c.all_kinds-kind-items.result.now all_kinds c.loop-kind.kind-index _ c.loop-kind.kinds.items
+    c.push_if_taken.new.kinds.items c.all_kinds-kind-items.ensures c.loop-kind-test.true (c.loop-kind.invariant at) (c.in_ok-push_if_taken.ensures at)
 
 pub returns : goal.returns
 returns c = λ at.
-    taken_all (takes_kind at (state_seen c.args.state.now)) c.all_kinds.result.now all_kinds c.loop-kind.kind-index c.loop-kind.kinds.items
-    c.all_kinds.ensures c.loop-kind-test.false (c.loop-kind.invariant at)
+    taken_all (takes_kind at (state_seen c.args.state.now)) c.all_kinds-kind-items.result.now all_kinds c.loop-kind.kind-index c.loop-kind.kinds.items
+    c.all_kinds-kind-items.ensures c.loop-kind-test.false (c.loop-kind.invariant at)

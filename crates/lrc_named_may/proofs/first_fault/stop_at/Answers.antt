@@ -7,7 +7,7 @@ returns-in-Some c =
     refused c.in-Some.kind c.args.state.now c.args.limits.now c.args.at (lexeme_of c.args.lexeme) c.in_ok-may_stand.may_stand.items
     (c.in-Some.ensures c.args.at) (c.in_ok-may_stand.ensures c.args.at)
 
-pub returns-in-Err : goal.returns-in-Err
-returns-in-Err c =
-    stopped_by c.in_ok-stop_for.field-0 c.in-Err.kind c.args.state.now c.take.new.state c.args.limits.now c.take.new.limits c.args.at
-    (lexeme_of c.args.lexeme) c.in_ok-stop_for.ensures.kind c.in_ok-stop_for.ensures.other (c.in_default.ensures c.args.at) c.in-Err.ensures
+pub returns-in_ok-stop_for-in-Err : goal.returns-in_ok-stop_for-in-Err
+returns-in_ok-stop_for-in-Err c =
+    stopped_by c.in_ok-stop_for-in-Err.field-0 c.in-Err.kind c.args.state.now c.take.new.state c.args.limits.now c.take.new.limits c.args.at
+    (lexeme_of c.args.lexeme) c.in_ok-stop_for-in-Err.ensures.kind c.in_ok-stop_for-in-Err.ensures.other (c.in_default.ensures c.args.at) c.in-Err.ensures
