@@ -1,11 +1,10 @@
 -- A name that is looked for among the names of a trace.
-use Rattle.std.proofs.Common.{◌≡◌, ◌≢◌, ◌+◌, ℕ, zero, suc, ◌<◌, ◌≤◌, List, [], ◌∷◌, ◌++◌, length, get_or, take, inl, inr, refl, sym, subst, ap, ◌∙◌, arith}
-use Rattle.std.specs.Prelude.{Option, Some, None, AllPairs, Contains, slice_get}
-use Rattle.std.proofs.lemmas.Bool.{cases_eq, cases_lt, cases_order}
+use Rattle.std.proofs.Common.{◌≡◌, ◌≢◌, ℕ, zero, suc, ◌<◌, ◌≤◌, List, [], ◌∷◌, length, take, inl, inr, refl, sym, ◌∙◌, arith}
+use Rattle.std.specs.Prelude.{Some, AllPairs, Contains, slice_get}
+use Rattle.std.proofs.lemmas.Bool.{cases_order}
 use Rattle.std.proofs.lemmas.List.{take-append-le, length_push}
 use Rattle.std.proofs.lemmas.Option.{slice_get_within, get_or_from_slice_get}
 use Rattle.lrc_races_lines.specs.Table.{IsNumbered, met, new}
-use Rattle.lrc_races_text.specs.Naming.{Numbers}
 use Rattle.lrc_races_claims.specs.Known.{IsUnknown, IsOnlyNumber}
 
 -- ---- places in a front

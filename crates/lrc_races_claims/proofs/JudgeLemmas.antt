@@ -1,8 +1,7 @@
 -- A judge stays one, whatever it finds out.
-use Rattle.std.proofs.Common.{◌≡◌, ◌+◌, ℕ, zero, suc, ◌<◌, ◌≤◌, List, [], ◌∷◌, ◌++◌, length, get_or, inl, inr, refl, sym, subst, ap, ◌∙◌, arith}
+use Rattle.std.proofs.Common.{◌≡◌, ℕ, zero, suc, List, [], ◌∷◌, ◌++◌, length, inl, inr, refl, sym, subst, ap, ◌∙◌}
 use Rattle.std.specs.Prelude.{◌⊎◌, IfOk, Option, Some, None, Result, set, slice_get}
-use Rattle.std.proofs.lemmas.Bool.{cases_eq}
-use Rattle.std.proofs.lemmas.Option.{slice_get_within, slice_get-get_or, get_or_from_slice_get, same_Some}
+use Rattle.std.proofs.lemmas.Option.{same_Some}
 use Rattle.lrc_races_trace.specs.declared.event.Event.{Event}
 use Rattle.lrc_races_text.specs.declared.asked.Sought.{Sought}
 use Rattle.lrc_races_text.specs.Naming.{Naming}
@@ -17,7 +16,7 @@ use Rattle.lrc_races_claims.specs.declared.judging.FirstRacing.{FirstRacing}
 use Rattle.lrc_races_claims.specs.declared.known.KnownNames.{KnownNames}
 use Rattle.lrc_races_claims.specs.declared.places.Places.{Places}
 use Rattle.lrc_races_claims.specs.Asking.{IsAsking}
-use Rattle.lrc_races_claims.specs.Judge.{AreEmpty, AreSlots, AreVerdicts, IsJudge}
+use Rattle.lrc_races_claims.specs.Judge.{AreEmpty, AreSlots, IsJudge}
 use Rattle.lrc_races_claims.specs.Judging.{AreFacts, IsFirstFound}
 use Rattle.lrc_races_claims.specs.Known.{known_names}
 use Rattle.lrc_races_claims.specs.Placed.{ArePlaces, HasSamePlaces}

@@ -1,8 +1,8 @@
 -- What is said of claims.
-use Rattle.std.proofs.Common.{◌≡◌, ◌≢◌, ℕ, ◌<◌, ◌≤◌, List, Bool, true, false, length, get_or, inl, inr, refl, sym, subst, ap, ◌∙◌, arith}
+use Rattle.std.proofs.Common.{◌≡◌, ℕ, ◌<◌, ◌≤◌, List, Bool, true, false, length, get_or, inl, inr, refl, sym, subst, ap, ◌∙◌, arith}
 use Rattle.std.specs.Prelude.{◌⊎◌, ◌↔◌, IsTrue, MatchOption, Option, Some, None, max, min, slice_get}
-use Rattle.std.proofs.lemmas.Bool.{cases_eq, cases_lt}
-use Rattle.std.proofs.lemmas.Option.{slice_get-get_or, same_Some}
+use Rattle.std.proofs.lemmas.Bool.{cases_eq}
+use Rattle.std.proofs.lemmas.Option.{slice_get-get_or}
 use Rattle.lrc_races_trace.specs.declared.event.Event.{Event}
 use Rattle.lrc_races_trace.specs.declared.event.Operation.TheVariants.{Read}
 use Rattle.lrc_races_trace.specs.Trace.{At, Accesses, Writes}
@@ -13,20 +13,18 @@ use Rattle.lrc_races_text.specs.declared.asked.Sought.TheVariants.{AllRaces, Sur
 use Rattle.lrc_races_text.specs.Naming.{Naming, Numbers}
 use Rattle.lrc_races_locations.specs.Rivals.{Rivals, Separates}
 use Rattle.lrc_races_witness.specs.declared.relation.Access.{Access}
-use Rattle.lrc_races_witness.specs.Relations.{AreByLine, IsAccessOn, HasAccess, IsThatOn}
+use Rattle.lrc_races_witness.specs.Relations.{AreByLine, HasAccess, IsThatOn}
 use Rattle.lrc_races_witness.proofs.Lines.{in_order, one_line}
-use Rattle.lrc_races_score.specs.Claims.{Statement, event, pair, variable, first}
+use Rattle.lrc_races_score.specs.Claims.{event, pair}
 use Rattle.lrc_races_claims.specs.declared.judging.Facts.{Facts}
-use Rattle.lrc_races_claims.specs.declared.firsts.Firsts.{Firsts}
-use Rattle.lrc_races_claims.specs.declared.verdict.Reason.{Reason}
 use Rattle.lrc_races_claims.specs.declared.verdict.Reason.TheVariants.{OneThread, TwoVariables, BothRead, Separated, NoEarlier}
 use Rattle.lrc_races_claims.specs.declared.verdict.Verdict.{Verdict}
 use Rattle.lrc_races_claims.specs.declared.verdict.Verdict.TheVariants.{True, False}
-use Rattle.lrc_races_claims.specs.Racing.{RacesBefore, AccessAt, RacingAt, IsFirstRacing, AreMarked}
-use Rattle.lrc_races_claims.specs.Firsts.{IsAny, IsMarked, IsFirstLine, IsFirstOn, line_of, AreFirsts}
+use Rattle.lrc_races_claims.specs.Racing.{RacingAt, AreMarked}
+use Rattle.lrc_races_claims.specs.Firsts.{IsAny, IsMarked, IsFirstLine, line_of}
 use Rattle.lrc_races_claims.specs.Judging.{AreFacts}
 use Rattle.lrc_races_claims.specs.Known.{IsUnknown, IsOnlyNumber}
-use Rattle.lrc_races_claims.specs.Truth.{AreJudged, one_thread, two_variables, both_read, separated, rivals, LinesAreJudged, both, SomeIsOf, SomeRacesOf, IsFirstOf}
+use Rattle.lrc_races_claims.specs.Truth.{one_thread, two_variables, both_read, separated, rivals, LinesAreJudged, both, SomeIsOf, SomeRacesOf, IsFirstOf}
 use Rattle.lrc_races_claims.specs.Truth.{IsJudged, event_true, event_false, pair_judged}
 
 -- ---- the access on a line

@@ -1,5 +1,5 @@
 -- The first lines of variables, with one event more.
-use Rattle.std.proofs.Common.{◌≡◌, ◌≢◌, ◌+◌, ℕ, ◌<◌, ◌≤◌, List, [], Bool, true, false, length, inl, inr, refl, sym, subst, ap, ◌∙◌, arith}
+use Rattle.std.proofs.Common.{◌≡◌, ◌+◌, ℕ, List, [], Bool, true, false, length, inl, inr, refl, sym, subst, ap, ◌∙◌, arith}
 use Rattle.std.specs.Prelude.{◌⊎◌, Option, Some, None, slice_get}
 use Rattle.std.proofs.lemmas.Bool.{cases_eq, cases_lt}
 use Rattle.std.proofs.lemmas.Option.{same_Some}
@@ -10,7 +10,7 @@ use Rattle.lrc_races_trace.specs.Trace.{At, Accesses}
 use Rattle.lrc_races_trace.proofs.Positions.{At-one}
 use Rattle.lrc_races_claims.specs.declared.firsts.FirstLines.{FirstLines}
 use Rattle.lrc_races_claims.specs.declared.firsts.Firsts.{Firsts}
-use Rattle.lrc_races_claims.specs.Firsts.{line_at, line_of, first_line, IsLineSet, IsAny, IsMarked, IsFirstOn, IsFirstLine, AreFirsts}
+use Rattle.lrc_races_claims.specs.Firsts.{line_at, line_of, first_line, IsLineSet, IsAny, IsMarked, IsFirstLine, AreFirsts}
 
 module _ (These : ℕ → Event → Type 0) (n : ℕ) where
   -- the event is none of these

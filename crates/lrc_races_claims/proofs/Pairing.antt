@@ -1,6 +1,6 @@
 -- The places that race, with one pair more, and what they say of claims.
-use Rattle.std.proofs.Common.{◌≡◌, ◌+◌, ◌==◌, ℕ, zero, suc, ◌<◌, ◌≤◌, List, [], ◌∷◌, ◌++◌, Bool, true, false, cond, length, get_or, inl, inr, refl, sym, subst, ap, ◌∙◌, arith}
-use Rattle.std.specs.Prelude.{◌⊎◌, ◌↔◌, ◌&&◌, IsTrue, MatchOption, Option, Some, None, Contains, slice_get}
+use Rattle.std.proofs.Common.{◌≡◌, ◌+◌, ◌==◌, ℕ, List, [], ◌∷◌, ◌++◌, Bool, true, false, cond, length, inl, inr, refl, sym, subst, ap, ◌∙◌, arith}
+use Rattle.std.specs.Prelude.{◌⊎◌, ◌↔◌, ◌&&◌, MatchOption, Option, Some, None, Contains, slice_get}
 use Rattle.std.specs.List.{list_any}
 use Rattle.std.proofs.lemmas.Bool.{cases_eq, true≢false, and_parts, and_from, eqb-true, eq-eqb}
 use Rattle.std.proofs.lemmas.List.Folds.{list_any_at}
@@ -10,7 +10,6 @@ use Rattle.std.proofs.lemmas.Option.{slice_get_within, slice_get-get_or, get_or_
 use Rattle.lrc_races_trace.specs.declared.event.Event.{Event}
 use Rattle.lrc_races_trace.specs.declared.event.Pair.{Pair}
 use Rattle.lrc_races_trace.specs.Trace.{At, Accesses}
-use Rattle.lrc_races_trace.specs.Groups.{are_alike}
 use Rattle.lrc_races_trace.proofs.Positions.{At-one, At-within}
 use Rattle.lrc_races_detector.specs.declared.groups.Sides.{Sides}
 use Rattle.lrc_races_detector.proofs.Grouping.{alike_sides}
@@ -18,14 +17,14 @@ use Rattle.lrc_races_text.specs.declared.asked.Sought.{Sought}
 use Rattle.lrc_races_text.specs.declared.asked.Sought.TheVariants.{AllRaces, SureRaces}
 use Rattle.lrc_races_text.specs.Naming.{Naming, Numbers}
 use Rattle.lrc_races_text.specs.Spelled.{side_place}
-use Rattle.lrc_races_locations.specs.Located.{AreRacing, AreShown, IsShown}
+use Rattle.lrc_races_locations.specs.Located.{AreRacing, AreShown}
 use Rattle.lrc_races_locations.specs.Rivals.{Rivals}
 use Rattle.lrc_races_claims.specs.contracts.places.TwoPlacesPartialEq.TheImpl.{eq-value}
 use Rattle.lrc_races_claims.specs.declared.places.Places.{Places}
 use Rattle.lrc_races_claims.specs.declared.places.TwoPlaces.{TwoPlaces}
 use Rattle.lrc_races_claims.specs.Known.{IsUnknown, IsOnlyNumber, known_names}
-use Rattle.lrc_races_claims.specs.Placed.{SomeIsBefore, ArePlaceNames, AreNumbersOf, SomeRaceAt, SomeShownAt, ArePlaces}
-use Rattle.lrc_races_claims.specs.Truth.{AccessesAt, SomeIsAt, PlacesRace}
+use Rattle.lrc_races_claims.specs.Placed.{ArePlaceNames, AreNumbersOf, SomeRaceAt, SomeShownAt, ArePlaces}
+use Rattle.lrc_races_claims.specs.Truth.{SomeIsAt, PlacesRace}
 
 -- ---- two places in a set
 
@@ -289,12 +288,12 @@ none_found names name found is known = subst (λ (o : Option ℕ). MatchOption o
 
 -- ---- all pairs
 
-pub shown_noted : (naming : Naming) (names known : List (List ℕ)) (shown : List Pair) (n : ℕ) (pair : Pair) → slice_get shown n ≡ Some pair
-    → (before after : List TwoPlaces) → known ≡ names
-    → ((both : TwoPlaces) → Contains after both ↔ (Contains before both ⊎ AreNumbersOf naming known pair both))
+pub shown_noted : (naming : Naming) (names held : List (List ℕ)) (shown : List Pair) (n : ℕ) (pair : Pair) → slice_get shown n ≡ Some pair
+    → (before after : List TwoPlaces) → held ≡ names
+    → ((both : TwoPlaces) → Contains after both ↔ (Contains before both ⊎ AreNumbersOf naming held pair both))
     → ((both : TwoPlaces) → Contains before both ↔ SomeShownAt naming names shown n both)
     → (both : TwoPlaces) → Contains after both ↔ SomeShownAt naming names shown (n + 1) both
-shown_noted naming names known shown n pair at before after same more old =
+shown_noted naming names held shown n pair at before after same more old =
     shown_more naming names shown n pair at before after
     (subst (λ (l : List (List ℕ)). (both : TwoPlaces) → Contains after both ↔ (Contains before both ⊎ AreNumbersOf naming l pair both)) same more) old
 

@@ -1,26 +1,17 @@
 -- The places of accesses, with one event more, and what they say of claims.
-use Rattle.std.proofs.Common.{◌≡◌, ◌+◌, ℕ, zero, suc, ◌<◌, ◌≤◌, List, [], ◌∷◌, ◌++◌, Bool, true, false, cond, length, inl, inr, refl, sym, subst, ap, ◌∙◌, arith}
-use Rattle.std.specs.Prelude.{◌⊎◌, ◌↔◌, ◌&&◌, IsTrue, Some, Contains, slice_get}
-use Rattle.std.specs.List.{list_any}
-use Rattle.std.proofs.lemmas.Bool.{cases_eq, true≢false}
+use Rattle.std.proofs.Common.{◌≡◌, ◌+◌, ℕ, List, [], ◌∷◌, length, inl, inr, refl, sym, subst, ap, ◌∙◌, arith}
+use Rattle.std.specs.Prelude.{◌⊎◌, Some, Contains, slice_get}
+use Rattle.std.proofs.lemmas.Bool.{cases_eq}
 use Rattle.std.proofs.lemmas.List.Elements.{Contains-push, Contains-push_cases, Contains-append_left}
 use Rattle.std.proofs.lemmas.Option.{slice_get_within, get_or_from_slice_get}
 use Rattle.lrc_races_trace.specs.declared.event.Event.{Event}
-use Rattle.lrc_races_trace.specs.declared.event.Pair.{Pair}
 use Rattle.lrc_races_trace.specs.Trace.{At, Accesses}
-use Rattle.lrc_races_trace.specs.Groups.{alike, are_alike, same_location}
-use Rattle.lrc_races_trace.proofs.Positions.{At-one, At-within}
+use Rattle.lrc_races_trace.proofs.Positions.{At-one}
 use Rattle.lrc_races_lines.specs.Table.{IsNumbered, met, new}
-use Rattle.lrc_races_text.specs.declared.asked.Sought.{Sought}
-use Rattle.lrc_races_text.specs.declared.asked.Sought.TheVariants.{AllRaces, SureRaces}
-use Rattle.lrc_races_text.specs.Naming.{Naming, Numbers}
+use Rattle.lrc_races_text.specs.Naming.{Naming}
 use Rattle.lrc_races_text.specs.Spelled.{side_place}
-use Rattle.lrc_races_locations.specs.Located.{AreRacing, AreShown}
-use Rattle.lrc_races_locations.specs.Rivals.{Rivals}
-use Rattle.lrc_races_claims.specs.Placed.{SomeIsBefore, ArePlaceNames, AreNumbersOf, SomeRaceAt, ArePlaces}
-use Rattle.lrc_races_claims.specs.Truth.{AccessesAt, SomeIsAt, PlacesRace}
-use Rattle.lrc_races_claims.specs.declared.places.TwoPlaces.{TwoPlaces}
-use Rattle.lrc_races_claims.specs.Known.{IsUnknown, IsOnlyNumber}
+use Rattle.lrc_races_claims.specs.Placed.{SomeIsBefore, ArePlaceNames}
+use Rattle.lrc_races_claims.specs.Truth.{AccessesAt}
 
 -- ---- names of places
 

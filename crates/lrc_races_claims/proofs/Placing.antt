@@ -1,18 +1,13 @@
 -- The access on a line stands where the lesser lines end.
-use Rattle.std.proofs.Common.{◌≡◌, ℕ, ◌<◌, ◌≤◌, List, length, get_or, inl, inr, sym, subst, ap, ◌∙◌, arith}
-use Rattle.std.specs.Prelude.{MatchOption, MatchResult, Option, Some, None, Result, Ok, Err, slice_get}
-use Rattle.std.proofs.lemmas.Bool.{cases_eq, cases_lt, cases_order}
+use Rattle.std.proofs.Common.{◌≡◌, ℕ, ◌<◌, List, length, get_or, inl, inr, subst, ap, ◌∙◌, arith}
+use Rattle.std.proofs.lemmas.Bool.{cases_order}
 use Rattle.std.proofs.lemmas.Option.{slice_get-get_or}
 use Rattle.lrc_races_trace.specs.declared.event.Event.{Event}
 use Rattle.lrc_races_trace.specs.Trace.{At}
 use Rattle.lrc_races_trace.proofs.Positions.{At-one, At-within}
-use Rattle.lrc_races_witness.specs.declared.relation.Access.{Access}
-use Rattle.lrc_races_witness.specs.Relations.{AreByLine, HasNoAccess, IsThatOn}
+use Rattle.lrc_races_witness.specs.Relations.{AreByLine, HasNoAccess}
 use Rattle.lrc_races_witness.proofs.Lines.{line_below}
-use Rattle.lrc_races_claims.specs.declared.verdict.Reason.{Reason}
-use Rattle.lrc_races_claims.specs.declared.verdict.Reason.TheVariants.{NoAccess}
 use Rattle.lrc_races_claims.specs.Places.{IsLinePlace}
-use Rattle.lrc_races_claims.specs.Truth.{Lacks, behind, idle}
 
 -- an event on the line stands at its place
 pub on_place : (events : List Event) (line at : ℕ) → IsLinePlace events line at → AreByLine events → (p : ℕ) (a : Event) → At events p a

@@ -8,7 +8,7 @@ use Rattle.lrc_races_text.specs.declared.asked.Sought.{Sought}
 use Rattle.lrc_races_text.specs.Naming.{Naming, Numbers}
 use Rattle.lrc_races_text.specs.Spelled.{name_at, side_place}
 use Rattle.lrc_races_claims.specs.Known.{known_names}
-use Rattle.lrc_races_claims.specs.Placed.{SomeIsBefore, ArePlaceNames, AreNumbersOf, SomeRaceAt, ArePlaces, HasSamePlaces}
+use Rattle.lrc_races_claims.specs.Placed.{SomeIsBefore, ArePlaceNames, SomeRaceAt, ArePlaces, HasSamePlaces}
 use Rattle.lrc_races_claims.specs.declared.places.Places.{Places}
 use Rattle.lrc_races_claims.specs.declared.places.TwoPlaces.{TwoPlaces}
 

@@ -8,7 +8,7 @@ use Rattle.lrc_races_score.specs.Claims.{Statement}
 use Rattle.lrc_races_claims.specs.declared.verdict.Reason.{Reason}
 use Rattle.lrc_races_claims.specs.declared.verdict.Verdict.{Verdict}
 use Rattle.lrc_races_claims.specs.declared.verdict.Verdict.TheVariants.{True, False}
-use Rattle.lrc_races_claims.specs.Spelled.{separated_parts, reason_parts, verdict_parts, verdict_line}
+use Rattle.lrc_races_claims.specs.Spelled.{separated_parts, reason_parts, verdict_parts}
 
 pub on_ok : {T E : Type 0} (r : Result T E) {P Q : Type 0} → OnOk r P → (P → Q) → OnOk r Q
 on_ok (Ok x) p f = f p

@@ -1,5 +1,5 @@
 -- The accesses that race with earlier ones.
-use Rattle.std.specs.Prelude.{◌≡◌, ◌≢◌, ℕ, ◌<◌, ◌≤◌, ◌↔◌, List, Bool, IsTrue, Option, Some, None, length, slice_get}
+use Rattle.std.specs.Prelude.{◌≡◌, ℕ, ◌≤◌, ◌↔◌, List, Bool, IsTrue, Some, length, slice_get}
 use Rattle.lrc_races_trace.specs.declared.event.Event.{Event}
 use Rattle.lrc_races_trace.specs.Trace.{At, Accesses}
 use Rattle.lrc_races_text.specs.declared.asked.Sought.{Sought}

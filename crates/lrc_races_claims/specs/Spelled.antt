@@ -1,10 +1,9 @@
 -- What is printed of a claim: `report line L: true`, or `report line L: false: REASON`.
-use Rattle.std.specs.Prelude.{ℕ, List, [], ◌∷◌, ◌++◌, codes, decimal, flat_map}
+use Rattle.std.specs.Prelude.{ℕ, List, [], ◌∷◌, codes, decimal}
 use Rattle.lrc_races_text.specs.declared.asked.Sought.{Sought}
 use Rattle.lrc_races_text.specs.declared.asked.Sought.TheVariants.{AllRaces, SureRaces}
 use Rattle.lrc_races_text.specs.Spelled.{name_at, together}
-use Rattle.lrc_races_score.specs.Claims.{Statement, event, pair, locations, variable, first, statement_of}
-use Rattle.lrc_races_score.specs.declared.report.LinedClaim.{LinedClaim}
+use Rattle.lrc_races_score.specs.Claims.{Statement, locations, variable, first}
 use Rattle.lrc_races_claims.specs.declared.verdict.Reason.{Reason}
 use Rattle.lrc_races_claims.specs.declared.verdict.Reason.TheVariants.{TraceEnds, NoAccess, NoEarlier, OneThread, TwoVariables, BothRead, Separated}
 use Rattle.lrc_races_claims.specs.declared.verdict.Reason.TheVariants.{NoneAtFirst, NoneAtSecond, PlacesApart, NoneOfVariable, VariableApart, FirstIs}

@@ -1,5 +1,5 @@
 -- The event at the line's place is the one, or none is.
-use Rattle.std.proofs.Common.{◌≡◌, ◌<◌, length, arith}
+use Rattle.std.proofs.Common.{◌<◌, length, arith}
 use Rattle.std.proofs.lemmas.Option.{slice_get-get_or}
 use Rattle.lrc_races_witness.proofs.Lines.{found}
 use Rattle.lrc_races_claims.proofs.Placing.{none_past, none_there}

@@ -1,5 +1,5 @@
 -- An access that is marked gives its variable a line, where it has none.
-use Rattle.std.proofs.Common.{◌≡◌, ◌∙◌, Bool, true, inl, inr, ap}
+use Rattle.std.proofs.Common.{◌∙◌, inl, inr, ap}
 use Rattle.std.specs.Prelude.{Some}
 use Rattle.lrc_races_claims.proofs.Noting.{marked_noted, marked_passed, unmarked_passed}
 use Rattle.lrc_races_claims.proofs.firsts.note_marked.Goals as goal

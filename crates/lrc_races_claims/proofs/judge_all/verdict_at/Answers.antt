@@ -6,7 +6,6 @@ use Rattle.std.proofs.lemmas.Result.{IfOk-weaker}
 use Rattle.lrc_races_score.specs.Claims.{statement_of}
 use Rattle.lrc_races_score.specs.declared.report.LinedClaim.{LinedClaim}
 use Rattle.lrc_races_claims.specs.Truth.{IsJudged}
-use Rattle.lrc_races_claims.specs.declared.verdict.Verdict.{Verdict}
 use Rattle.lrc_races_claims.proofs.judge_all.verdict_at.Goals as goal
 
 pub returns-in-Some-clause-judged : goal.returns-in-Some-clause-judged

@@ -1,9 +1,7 @@
 -- Each test decides what is said.
-use Rattle.std.proofs.Common.{◌≡◌, inl, inr, arith}
-use Rattle.std.specs.Prelude.{◌⊎◌, ◌↔◌, IsTrue, true, false}
-use Rattle.lrc_races_witness.specs.Relations.{IsThatOn}
+use Rattle.std.proofs.Common.{◌≡◌, inl, inr}
+use Rattle.std.specs.Prelude.{◌⊎◌, IsTrue, true}
 use Rattle.lrc_races_witness.proofs.Rivals.{not_set, is_set}
-use Rattle.lrc_races_locations.specs.Rivals.{Separates}
 use Rattle.lrc_races_claims.proofs.Judged.{of_one_thread, of_two_variables, of_readers, of_separated, of_rivals}
 use Rattle.lrc_races_claims.proofs.judging.judge_accesses.Goals as goal
 use Rattle.lrc_races_claims.proofs.judging.judge_accesses.Goals.{else-not-one-via-then-not-one+else-not-other, else-not-one-via-else-not-one}

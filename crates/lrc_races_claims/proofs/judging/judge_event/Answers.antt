@@ -1,5 +1,5 @@
 -- The mark of the access says whether it races.
-use Rattle.std.proofs.Common.{◌∙◌, true, sym, arith}
+use Rattle.std.proofs.Common.{◌∙◌, sym, arith}
 use Rattle.lrc_races_trace.proofs.Positions.{At-within}
 use Rattle.lrc_races_claims.specs.Truth.{event_lacks}
 use Rattle.lrc_races_claims.proofs.Judged.{races_event, free_event}

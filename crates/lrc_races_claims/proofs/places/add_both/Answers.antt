@@ -1,5 +1,5 @@
 -- Both have numbers, or one has none.
-use Rattle.lrc_races_claims.proofs.Pairing.{only_found, none_found, pair_added, same_pairs, none_earlier, none_later}
+use Rattle.lrc_races_claims.proofs.Pairing.{only_found, none_found, pair_added, same_pairs, none_earlier}
 use Rattle.lrc_races_claims.proofs.places.add_both.Goals as goal
 
 pub returns-in_ok-add_pair-in-Some-later : goal.returns-in_ok-add_pair-in-Some-later

@@ -1,7 +1,7 @@
 -- The numbers of the places are looked for.
 use Rattle.std.proofs.Common.{List, ℕ, refl, subst, ◌∙◌}
 use Rattle.std.specs.Prelude.{MatchOption}
-use Rattle.lrc_races_claims.specs.Known.{IsOnlyNumber, IsUnknown, known_names}
+use Rattle.lrc_races_claims.specs.Known.{IsOnlyNumber, IsUnknown}
 use Rattle.lrc_races_claims.proofs.places.judge_locations.Goals as goal
 
 pub returns-clause-judged : goal.returns-clause-judged

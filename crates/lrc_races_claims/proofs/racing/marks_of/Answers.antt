@@ -1,7 +1,6 @@
 -- One event more is taken and marked.
-use Rattle.std.proofs.Common.{◌≡◌, ◌+◌, ◌==◌, List, Bool, length, sym, subst, ap, ◌∙◌, arith}
+use Rattle.std.proofs.Common.{◌+◌, ◌==◌, List, Bool, sym, subst, ap, ◌∙◌, arith}
 use Rattle.std.proofs.lemmas.Option.{slice_get-get_or}
-use Rattle.lrc_races_trace.specs.Trace.{At}
 use Rattle.lrc_races_locations.proofs.Knowing.{taken_position}
 use Rattle.lrc_races_claims.specs.Racing.{AreMarked}
 use Rattle.lrc_races_claims.proofs.Marking.{mark_more, mark_none}

@@ -2,7 +2,6 @@
 use Rattle.std.proofs.Common.{◌∙◌, ◌++◌, [], ap, refl}
 use Rattle.lrc_races_lines.specs.Table.{names_of}
 use Rattle.lrc_races_score.specs.Claims.{statement_of}
-use Rattle.lrc_races_text.specs.Spelled.{name_at}
 use Rattle.lrc_races_claims.proofs.Saying.{one_part, reasoned, three_at_once, two_parts, two_and_none, three_parts}
 use Rattle.lrc_races_claims.proofs.spelling.push_reason.Goals as goal
 

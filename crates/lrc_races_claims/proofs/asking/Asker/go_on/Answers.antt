@@ -1,5 +1,5 @@
 -- One event more.
-use Rattle.std.proofs.Common.{◌≡◌, ◌<◌, ◌∙◌, length, refl, sym, subst, arith}
+use Rattle.std.proofs.Common.{◌<◌, ◌∙◌, length, refl, sym, subst, arith}
 use Rattle.std.proofs.lemmas.Option.{slice_get-get_or}
 use Rattle.lrc_races_locations.proofs.Knowing.{taken_position}
 use Rattle.lrc_races_claims.specs.Asking.{HasAsked}

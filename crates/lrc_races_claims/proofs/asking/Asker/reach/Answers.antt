@@ -1,5 +1,5 @@
 -- It goes on from where it is, or from the beginning.
-use Rattle.std.proofs.Common.{◌≡◌, ◌∙◌, arith}
+use Rattle.std.proofs.Common.{arith}
 use Rattle.lrc_races_locations.proofs.Knowing.{taken_position}
 use Rattle.lrc_races_claims.proofs.asking.Asker.reach.Goals as goal
 

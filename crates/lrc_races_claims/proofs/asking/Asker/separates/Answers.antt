@@ -1,5 +1,5 @@
 -- What its thread knows says whether the earlier access is separated from the later.
-use Rattle.std.proofs.Common.{◌≡◌, sym, subst}
+use Rattle.std.proofs.Common.{subst}
 use Rattle.lrc_races_text.specs.Detecting.{HasTaken}
 use Rattle.lrc_races_claims.proofs.Separating.{below_separates}
 use Rattle.lrc_races_claims.proofs.asking.Asker.separates.Goals as goal

@@ -19,10 +19,10 @@ returns-in-Locations-clause-judged c =
 pub returns-in_ok-found-in-Variable-clause-judged : goal.returns-in_ok-found-in-Variable-clause-judged
 returns-in_ok-found-in-Variable-clause-judged c = λ sought naming last is.
     subst (λ (claim : Claim). IsJudged sought naming c.args.events.now last (statement_of claim) c.judge_variable.result) (sym c.in-Variable.is)
-    (c.judge_variable.ensures sought naming c.args.events.now last c.in-Variable.name.now (c.in_ok-found.ensures.found sought naming last is))
+    (c.judge_variable.ensures sought naming c.args.events.now last c.in-Variable.name.now (c.in_ok-found-in-Variable.ensures.found sought naming last is))
 
 pub returns-in_ok-found-in-First-clause-judged : goal.returns-in_ok-found-in-First-clause-judged
 returns-in_ok-found-in-First-clause-judged c = λ sought naming last is.
     subst (λ (claim : Claim). IsJudged sought naming c.args.events.now last (statement_of claim) c.judge_first.result) (sym c.in-First.is)
-    (first_judged sought naming c.args.events.now last c.first-found-2.new.self (c.in_ok-found-2.ensures.stays sought naming last is) c.in-First.name.now
-    c.in-First.line c.in_ok-found-2.found c.judge_first.result (c.in_ok-found-2.ensures.found sought naming last is) c.judge_first.ensures)
+    (first_judged sought naming c.args.events.now last c.first-in-First.new.self (c.in_ok-found-in-First.ensures.stays sought naming last is) c.in-First.name.now
+    c.in-First.line c.in_ok-found-in-First.found c.judge_first.result (c.in_ok-found-in-First.ensures.found sought naming last is) c.judge_first.ensures)

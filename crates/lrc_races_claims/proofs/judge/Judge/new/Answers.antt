@@ -1,5 +1,5 @@
 -- Nothing is known yet.
-use Rattle.std.proofs.Common.{◌≡◌, refl, sym}
+use Rattle.std.proofs.Common.{refl, sym}
 use Rattle.lrc_races_claims.proofs.judge.Judge.new.Goals as goal
 
 pub returns : goal.returns

@@ -1,6 +1,6 @@
 -- A number below those of the names that were looked for is one of the trace's.
-use Rattle.std.proofs.Common.{◌≤◌, arith}
-use Rattle.lrc_races_claims.proofs.Finding.{kept, longer, found, unfound}
+use Rattle.std.proofs.Common.{arith}
+use Rattle.lrc_races_claims.proofs.Finding.{kept, found, unfound}
 use Rattle.lrc_races_claims.proofs.known.KnownNames.find.Goals as goal
 
 pub returns-then-number-self-clause-found : goal.returns-then-number-self-clause-found

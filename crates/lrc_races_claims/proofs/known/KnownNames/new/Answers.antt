@@ -1,5 +1,5 @@
 -- All names of the table are known.
-use Rattle.std.proofs.Common.{◌≡◌, length, take, sym, subst, arith}
+use Rattle.std.proofs.Common.{arith}
 use Rattle.std.proofs.lemmas.List.{take_all}
 use Rattle.lrc_races_lines.specs.Table.{names_of}
 use Rattle.lrc_races_claims.proofs.known.KnownNames.new.Goals as goal
