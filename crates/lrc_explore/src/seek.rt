@@ -115,12 +115,7 @@ impl Found {
 
     // The first state from this place on where two nodes meet, if that is looked for, where there are more states than may
     // be. If there is none, there are too many.
-    fn meeting_from(
-        &self,
-        task: &Task<'_>,
-        first: usize,
-        races: bool,
-    ) -> Result<End, ExploreFault>
+    fn meeting_from(&self, task: &Task<'_>, first: usize, races: bool) -> Result<End, ExploreFault>
         requires found { AreFound task.now self.now }
         requires calm { races ≡ true → AreCalm task.now self.now.table.rows first }
         requires within { first < row_count self.now.table.rows }
