@@ -16,7 +16,7 @@ use Rattle.lrc_named_hints.specs.Spelled.{spelled}
 
 -- a fault of a token, as it is spelled
 abbrev pub token_fault_text : List ℕ → List ℕ → List ℕ
-token_fault_text words token = codes "error: " ++ words ++ codes " `" ++ token ++ codes "`\n"
+token_fault_text words spelling = codes "error: " ++ words ++ codes " `" ++ spelling ++ codes "`\n"
 
 abbrev pub unexpected_of : List ℕ → ℕ → Lexeme → List ℕ
 unexpected_of text offset (token finish) = unexpected_end_text

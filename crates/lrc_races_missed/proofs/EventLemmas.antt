@@ -1,6 +1,6 @@
 -- The racing events that no claim has, with one event more, and all.
-use Rattle.std.proofs.Common.{◌≡◌, ◌+◌, ℕ, ◌<◌, ◌≤◌, List, [], ◌∷◌, ◌++◌, Bool, true, length, get_or, refl, sym, subst, ap, ◌∙◌, arith}
-use Rattle.std.specs.Prelude.{◌↔◌, IsTrue, AllPairs, Contains, Some, slice_get}
+use Rattle.std.proofs.Common.{◌≡◌, ◌+◌, ℕ, ◌<◌, List, [], ◌∷◌, ◌++◌, Bool, true, length, get_or, refl, sym, subst, ap, ◌∙◌, arith}
+use Rattle.std.specs.Prelude.{◌↔◌, IsTrue, Contains, Some, slice_get}
 use Rattle.std.proofs.lemmas.Option.{slice_get-get_or, same_Some}
 use Rattle.lrc_races_trace.specs.declared.event.Event.{Event}
 use Rattle.lrc_races_trace.specs.Trace.{Accesses, At}
@@ -8,15 +8,15 @@ use Rattle.lrc_races_trace.proofs.Positions.{At-one, At-within}
 use Rattle.lrc_races_text.specs.declared.asked.Sought.{Sought}
 use Rattle.lrc_races_text.specs.declared.asked.Sought.TheVariants.{AllRaces, SureRaces}
 use Rattle.lrc_races_locations.specs.Rivals.{Rivals}
-use Rattle.lrc_races_witness.specs.Relations.{AreByLine, IsAccessOn}
+use Rattle.lrc_races_witness.specs.Relations.{AreByLine}
 use Rattle.lrc_races_score.specs.Claims.{event}
 use Rattle.lrc_races_score.specs.declared.report.LinedClaim.{LinedClaim}
-use Rattle.lrc_races_claims.specs.Racing.{AreMarked, RacesBefore}
+use Rattle.lrc_races_claims.specs.Racing.{AreMarked}
 use Rattle.lrc_races_missed.specs.declared.key.Key.{Key}
 use Rattle.lrc_races_missed.specs.declared.key.Key.TheVariants as keyed
 use Rattle.lrc_races_missed.specs.Keys.{AreKeys, event_key}
-use Rattle.lrc_races_missed.specs.Missed.{AreMissedEvents, Claims}
-use Rattle.lrc_races_missed.proofs.Given.{AreGiven, SomeGives, given_more, given_none, given_same}
+use Rattle.lrc_races_missed.specs.Missed.{AreMissedEvents}
+use Rattle.lrc_races_missed.proofs.Given.{AreGiven, given_more, given_none, given_same}
 use Rattle.lrc_races_missed.proofs.KeyLemmas.{claimed_key, key_claimed, only_event}
 
 -- a marked event whose key is not there gives its line

@@ -2,8 +2,7 @@
 use Rattle.std.proofs.Common.{◌≡◌, ℕ, List, refl, sym, subst, ap, ◌∙◌}
 use Rattle.std.specs.Prelude.{◌↔◌, Option, Some, None, MatchOption}
 use Rattle.std.proofs.lemmas.Option.{same_Some}
-use Rattle.lrc_races_text.specs.Naming.{Numbers}
-use Rattle.lrc_races_score.specs.Claims.{Statement, event, pair, locations, variable, first}
+use Rattle.lrc_races_score.specs.Claims.{event, pair, locations, variable, first}
 use Rattle.lrc_races_claims.specs.Known.{IsOnlyNumber, IsUnknown}
 use Rattle.lrc_races_claims.specs.declared.places.TwoPlaces.{TwoPlaces}
 use Rattle.lrc_races_missed.specs.declared.key.Key.{Key}

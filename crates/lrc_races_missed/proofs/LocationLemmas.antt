@@ -1,18 +1,16 @@
 -- The pairs of locations that race and that no claim has, with one pair more, and all.
-use Rattle.std.proofs.Common.{◌≡◌, ◌+◌, ℕ, ◌<◌, ◌≤◌, List, [], ◌∷◌, ◌++◌, Bool, true, length, inl, inr, refl, sym, subst, ap, ◌∙◌, arith}
-use Rattle.std.specs.Prelude.{◌↔◌, ◌⊎◌, IsTrue, AllPairs, Contains, Option, Some, None, slice_get}
-use Rattle.std.proofs.lemmas.Bool.{cases_eq, cases_lt, cases_order}
+use Rattle.std.proofs.Common.{◌≡◌, ◌+◌, ℕ, ◌<◌, List, [], ◌∷◌, ◌++◌, length, inl, inr, refl, sym, subst, ap, ◌∙◌, arith}
+use Rattle.std.specs.Prelude.{◌↔◌, AllPairs, Contains, Option, Some, slice_get}
+use Rattle.std.proofs.lemmas.Bool.{cases_order}
 use Rattle.std.proofs.lemmas.Option.{slice_get-get_or, slice_get_within, get_or_from_slice_get, same_Some}
 use Rattle.lrc_races_trace.specs.declared.event.Event.{Event}
 use Rattle.lrc_races_trace.specs.declared.event.Pair.{Pair}
 use Rattle.lrc_races_trace.specs.Trace.{Accesses, At}
-use Rattle.lrc_races_trace.proofs.Positions.{At-one, At-within}
+use Rattle.lrc_races_trace.proofs.Positions.{At-within}
 use Rattle.lrc_races_text.specs.declared.asked.Sought.{Sought}
-use Rattle.lrc_races_text.specs.declared.asked.Sought.TheVariants.{AllRaces, SureRaces}
 use Rattle.lrc_races_text.specs.Naming.{Naming, Numbers}
 use Rattle.lrc_races_text.specs.Spelled.{side_place}
 use Rattle.lrc_races_locations.specs.Located.{AreShown, ComesFirst, IsShown}
-use Rattle.lrc_races_locations.specs.Rivals.{Rivals}
 use Rattle.lrc_races_score.specs.Claims.{locations}
 use Rattle.lrc_races_score.specs.declared.report.LinedClaim.{LinedClaim}
 use Rattle.lrc_races_claims.specs.declared.places.TwoPlaces.{TwoPlaces}
@@ -23,7 +21,7 @@ use Rattle.lrc_races_missed.specs.declared.key.Key.TheVariants as keyed
 use Rattle.lrc_races_missed.specs.Keys.{AreKeys, AreTwoNumbers, places_key}
 use Rattle.lrc_races_missed.specs.Locating.{IsMet, IsNew, IsNoted, missed, nameless, passed, turned}
 use Rattle.lrc_races_missed.specs.Missed.{AreMissedLocations, Claims, HaveSamePlaces, crossed, straight}
-use Rattle.lrc_races_missed.proofs.Given.{AreGiven, SomeGives, given_more, given_none, given_same, in_source}
+use Rattle.lrc_races_missed.proofs.Given.{AreGiven, given_more, given_none, given_same, in_source}
 use Rattle.lrc_races_missed.proofs.KeyLemmas.{claimed_key, key_claimed, one_name, only_places}
 
 -- ---- places and their numbers
@@ -66,14 +64,14 @@ pub record GivesNew (naming : Naming) (claims : List LinedClaim) (shown : List P
 
 -- of the first n pairs the places are met, and those are given that are missed
 pub record AreNoted (naming : Naming) (names : List (List ℕ)) (claims : List LinedClaim) (shown : List Pair) (n : ℕ) (met : List TwoPlaces)
-    (missed : List Pair) : Type 0 where
-  pub met : (both : TwoPlaces) → Contains met both ↔ SomeShownAt naming names shown n both
-  pub given : AreGiven shown (GivesNew naming claims shown) ComesFirst n missed
+    (told : List Pair) : Type 0 where
+  pub known : (both : TwoPlaces) → Contains met both ↔ SomeShownAt naming names shown n both
+  pub given : AreGiven shown (GivesNew naming claims shown) ComesFirst n told
 
-pub noted_none : (naming : Naming) (names : List (List ℕ)) (claims : List LinedClaim) (shown : List Pair) (met : List TwoPlaces) (missed : List Pair) → met ≡ []
-    → missed ≡ [] → AreNoted naming names claims shown 0 met missed
-noted_none naming names claims shown met missed e f = record {
-  met = shown_none naming names shown met e;
+pub noted_none : (naming : Naming) (names : List (List ℕ)) (claims : List LinedClaim) (shown : List Pair) (met : List TwoPlaces) (told : List Pair) → met ≡ []
+    → told ≡ [] → AreNoted naming names claims shown 0 met told
+noted_none naming names claims shown met told e f = record {
+  known = shown_none naming names shown met e;
   given = subst (λ (l : List Pair). AreGiven shown (GivesNew naming claims shown) ComesFirst 0 l) (sym f)
       (given_none shown (GivesNew naming claims shown) ComesFirst);
 }
@@ -86,10 +84,10 @@ module _ (naming : Naming) (names : List (List ℕ)) (claims : List LinedClaim) 
   module _ (n : ℕ) (pair : Pair) (here : slice_get shown n ≡ Some pair) (met : List TwoPlaces)
       (exact : (both : TwoPlaces) → Contains met both ↔ SomeShownAt naming names shown n both) (both : TwoPlaces)
       (numbers : AreTwoNumbers names (side_place naming pair.earlier.event.location) (side_place naming pair.later.event.location) both) where
-    place : List ℕ
+    abbrev place : List ℕ
     place = side_place naming pair.earlier.event.location
 
-    other : List ℕ
+    abbrev other : List ℕ
     other = side_place naming pair.later.event.location
 
     there : (k : ℕ) (old : Pair) → k < n → slice_get shown k ≡ Some old → (two : TwoPlaces) → AreNumbersOf naming names old two → Contains met two
@@ -147,7 +145,7 @@ module _ (naming : Naming) (names : List (List ℕ)) (claims : List LinedClaim) 
         → IsNew met keys both → IsMet both met after → new ≡ old ++ pair ∷ [] → AreGiven shown (GivesNew naming claims shown) ComesFirst n old
         → AreNoted naming names claims shown (n + 1) after new
     noted_missed after old new only is_fresh is e given = record {
-      met = met_more after only is;
+      known = met_more after only is;
       given = subst (λ (l : List Pair). AreGiven shown (GivesNew naming claims shown) ComesFirst (n + 1) l) (sym e)
           (given_more shown ComesFirst ComesFirst (GivesNew naming claims shown) ordered carries n pair here pair (gives_new is_fresh)
           (λ w gives. sym gives.same) old given);
@@ -157,7 +155,7 @@ module _ (naming : Naming) (names : List (List ℕ)) (claims : List LinedClaim) 
         → ¬ IsNew met keys both → IsMet both met after → new ≡ old → AreGiven shown (GivesNew naming claims shown) ComesFirst n old
         → AreNoted naming names claims shown (n + 1) after new
     noted_passed after old new only stale is e given = record {
-      met = met_more after only is;
+      known = met_more after only is;
       given = subst (λ (l : List Pair). AreGiven shown (GivesNew naming claims shown) ComesFirst (n + 1) l) (sym e)
           (given_same shown ComesFirst ComesFirst (GivesNew naming claims shown) ordered carries n pair here (λ told gives. stale (is_new told gives)) old given);
     }
@@ -170,10 +168,10 @@ module _ (naming : Naming) (names : List (List ℕ)) (claims : List LinedClaim) 
   noted_more n pair here met after old new _ test (both, numbers) (nameless e f) noted =
       let is = (test both).0 numbers in let never : ⊥ = cc in absurd never
   noted_more n pair here met after old new _ test some (missed {both = both} fresh is e) noted =
-      noted_missed n pair here met noted.met both ((test both).1 refl) after old new
+      noted_missed n pair here met noted.known both ((test both).1 refl) after old new
       (λ two own. same_Some two both (sym ((test two).0 (record { earlier = own.earlier; later = own.later })))) fresh is e noted.given
   noted_more n pair here met after old new _ test some (passed {both = both} stale is e) noted =
-      noted_passed n pair here met noted.met both ((test both).1 refl) after old new
+      noted_passed n pair here met noted.known both ((test both).1 refl) after old new
       (λ two own. same_Some two both (sym ((test two).0 (record { earlier = own.earlier; later = own.later })))) stale is e noted.given
 
 -- ---- all pairs
@@ -192,9 +190,9 @@ not_both_ways p q (inr (e, lt)) (inl lt') = omega arith
 not_both_ways p q (inr (e, lt)) (inr (f, lt')) = omega arith
 
 pub locations_are : (sought : Sought) (naming : Naming) (events : List Event) (names : List (List ℕ)) (claims : List LinedClaim) (shown : List Pair) (n : ℕ)
-    (met : List TwoPlaces) (missed : List Pair) → n ≡ length shown → AreShown sought events shown → AreNoted naming names claims shown n met missed
-    → AreMissedLocations sought naming events claims missed
-locations_are sought naming events names claims shown n met missed end are noted = record {
+    (met : List TwoPlaces) (pairs : List Pair) → n ≡ length shown → AreShown sought events shown → AreNoted naming names claims shown n met pairs
+    → AreMissedLocations sought naming events claims pairs
+locations_are sought naming events names claims shown n met pairs end are noted = record {
   in_order = noted.given.in_order;
   exact = λ told. (
     λ has.
@@ -245,13 +243,14 @@ module _ (sought : Sought) (naming : Naming) (events : List Event) (names : List
     (keys : List Key) (shown : List Pair) (named : ArePlaceNames naming events (length events) names) (are : AreShown sought events shown)
     (are_keys : AreKeys variables names claims keys) where
   pub noted_found : (n : ℕ) (pair : Pair) → slice_get shown n ≡ Some pair → (met after : List TwoPlaces) (old new : List Pair) (found : Option TwoPlaces)
-      → (known : List (List ℕ)) (place other : List ℕ) → known ≡ names → place ≡ side_place naming pair.earlier.event.location
-      → other ≡ side_place naming pair.later.event.location
-      → ((both : TwoPlaces) → AreTwoNumbers known place other both ↔ (found ≡ Some both)) → IsNoted keys pair met after old new found
+      → (known : List (List ℕ)) (place second : List ℕ) → known ≡ names → place ≡ side_place naming pair.earlier.event.location
+      → second ≡ side_place naming pair.later.event.location
+      → ((both : TwoPlaces) → AreTwoNumbers known place second both ↔ (found ≡ Some both)) → IsNoted keys pair met after old new found
       → AreNoted naming names claims shown n met old → AreNoted naming names claims shown (n + 1) after new
-  noted_found n pair here met after old new found known place other same e f test is noted =
+  noted_found n pair here met after old new found known place second same e f test is noted =
       noted_more naming names claims variables keys are_keys shown are.in_order n pair here met after old new found
-      (λ both. subst (λ (l : List (List ℕ)). AreTwoNumbers l _ _ both ↔ (found ≡ Some both)) same
-      (subst (λ (a : List ℕ). AreTwoNumbers known a _ both ↔ (found ≡ Some both)) e
+      (λ both. subst (λ (l : List (List ℕ)). AreTwoNumbers l (side_place naming pair.earlier.event.location) (side_place naming pair.later.event.location) both
+      ↔ (found ≡ Some both)) same
+      (subst (λ (a : List ℕ). AreTwoNumbers known a (side_place naming pair.later.event.location) both ↔ (found ≡ Some both)) e
       (subst (λ (b : List ℕ). AreTwoNumbers known place b both ↔ (found ≡ Some both)) f (test both))))
       (numbers_of sought naming events names pair named ((are.exact pair).0 (contained shown n pair here))) is noted

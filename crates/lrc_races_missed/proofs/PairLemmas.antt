@@ -1,15 +1,14 @@
 -- The pairs that are told and that no claim has, with those of one event more, and all.
-use Rattle.std.proofs.Common.{◌≡◌, ◌+◌, ℕ, ◌<◌, ◌≤◌, List, [], ◌∷◌, ◌++◌, Bool, true, length, map, inl, inr, refl, sym, subst, ap, ◌∙◌, arith, append_assoc}
-use Rattle.std.specs.Prelude.{◌↔◌, ◌⊎◌, IsTrue, AllPairs, Contains, Some, slice_get}
+use Rattle.std.proofs.Common.{◌≡◌, ◌+◌, ℕ, ◌<◌, List, [], ◌∷◌, ◌++◌, length, map, inl, inr, refl, sym, subst, ap, ◌∙◌, arith, append_assoc}
+use Rattle.std.specs.Prelude.{◌↔◌, AllPairs, Contains, Some, slice_get}
 use Rattle.std.proofs.lemmas.Bool.{cases_eq}
 use Rattle.std.proofs.lemmas.List.{append-nil, map-append}
 use Rattle.std.proofs.lemmas.List.Elements.{Contains-append_cases, Contains-append_left, Contains-append_right}
 use Rattle.std.proofs.lemmas.Option.{slice_get-get_or, slice_get_within, get_or_from_slice_get}
 use Rattle.lrc_races_trace.specs.declared.event.Event.{Event}
 use Rattle.lrc_races_trace.specs.declared.event.Pair.{Pair}
-use Rattle.lrc_races_trace.specs.Races.{ComesFirst, IsTold}
+use Rattle.lrc_races_trace.specs.Races.{ComesFirst}
 use Rattle.lrc_races_trace.proofs.Positions.{At-within}
-use Rattle.lrc_races_sure.specs.Sure.{IsSureTold}
 use Rattle.lrc_races_detector.proofs.Pairs.{pairs-append}
 use Rattle.lrc_races_text.specs.declared.asked.Sought.{Sought}
 use Rattle.lrc_races_text.specs.declared.asked.Sought.TheVariants.{AllRaces, SureRaces}
@@ -19,10 +18,10 @@ use Rattle.lrc_races_score.specs.declared.report.LinedClaim.{LinedClaim}
 use Rattle.lrc_races_missed.specs.declared.key.Key.{Key}
 use Rattle.lrc_races_missed.specs.declared.key.Key.TheVariants as keyed
 use Rattle.lrc_races_missed.specs.declared.pairs.TwoLines.{TwoLines}
-use Rattle.lrc_races_missed.specs.Keyless.{AreKeyless, AreLinesAdded, IsKeyless}
+use Rattle.lrc_races_missed.specs.Keyless.{AreLinesAdded, IsKeyless}
 use Rattle.lrc_races_missed.specs.Keys.{AreKeys, pair_key}
-use Rattle.lrc_races_missed.specs.Missed.{AreMissedPairs, Claims, IsToldOf, IsUnclaimed, lines_of}
-use Rattle.lrc_races_missed.proofs.Given.{AreGiven, SomeGives, given_more, given_none, given_same}
+use Rattle.lrc_races_missed.specs.Missed.{AreMissedPairs, Claims, IsToldOf, lines_of}
+use Rattle.lrc_races_missed.proofs.Given.{AreGiven, given_more, given_none, given_same}
 use Rattle.lrc_races_missed.proofs.KeyLemmas.{claimed_key, key_claimed, only_pair}
 
 -- ---- the pairs of one event
@@ -92,14 +91,14 @@ pub record AreBefore (sought : Sought) (events : List Event) (keys : List Key) (
   pub pairs : List Pair
   pub in_order : AllPairs ComesFirst pairs
   pub exact : (told : Pair) → Contains pairs told ↔ (IsToldOf sought events told × (told.later.position < n) × IsKeyless keys (lines_of told))
-  pub lines : lines ≡ map lines_of pairs
+  pub lines_are : lines ≡ map lines_of pairs
 
 pub before_none : (sought : Sought) (events : List Event) (keys : List Key) (lines : List TwoLines) → lines ≡ [] → AreBefore sought events keys 0 lines
 before_none sought events keys lines e = record {
   pairs = [];
   in_order = λ i j d lt within. absurd (omega arith);
   exact = λ told. (λ (k, lt, is). absurd (omega arith), λ (is, lt, free). absurd (omega arith));
-  lines = e;
+  lines_are = e;
 }
 
 -- what is told of an event, of either sort of races
@@ -140,7 +139,7 @@ before_more sought events keys n told lines new at (more, are, e) before =
           | inr other ↦ Contains-append_left before.pairs more pair ((before.exact pair).1 (is, (let less : pair.later.position < n = omega arith in less), free))
         ],
       );
-      lines = e ∙ ap (λ l. l ++ map lines_of more) before.lines ∙ sym (map-append lines_of before.pairs more);
+      lines_are = e ∙ ap (λ l. l ++ map lines_of more) before.lines_are ∙ sym (map-append lines_of before.pairs more);
     }
 
 told_within : (sought : Sought) (events : List Event) (told : Pair) → IsToldOf sought events told → told.later.position < length events
@@ -172,7 +171,7 @@ before_all sought events claims variables places keys n lines end are before = (
           ),
     );
   },
-  before.lines,
+  before.lines_are,
 )
   where
     there : (line other : ℕ) → Claims claims (pair line other) → Contains keys (keyed.Pair line other)

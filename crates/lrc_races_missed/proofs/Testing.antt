@@ -1,9 +1,10 @@
 -- Tests of keys and of places, put together.
-use Rattle.std.proofs.Common.{◌≡◌, ◌∙◌, ℕ, List, Bool, true, false, refl, sym, subst, ap, inl, inr}
+use Rattle.std.proofs.Common.{◌≡◌, ◌∙◌, ℕ, List, [], ◌∷◌, ◌++◌, Bool, true, false, refl, sym, subst, ap, inl, inr}
 use Rattle.std.specs.Prelude.{◌↔◌, ◌⊎◌, ◌&&◌, not, IsTrue, Contains, Option, Some, None}
 use Rattle.std.proofs.lemmas.Bool.{true≢false}
 use Rattle.std.proofs.lemmas.Option.{same_Some}
 use Rattle.lrc_races_trace.specs.declared.event.Event.{Event}
+use Rattle.lrc_races_trace.specs.declared.event.Pair.{Pair}
 use Rattle.lrc_races_trace.specs.Trace.{Accesses}
 use Rattle.lrc_races_claims.specs.Firsts.{line_of}
 use Rattle.lrc_races_claims.specs.declared.judging.Facts.{Facts}
@@ -12,12 +13,12 @@ use Rattle.lrc_races_claims.proofs.Noting.{same_variable}
 use Rattle.lrc_races_missed.specs.declared.key.Key.{Key}
 use Rattle.lrc_races_missed.specs.declared.key.Key.TheVariants.{Places}
 use Rattle.lrc_races_missed.specs.declared.variables.Racing.{Racing}
-use Rattle.lrc_races_missed.specs.Locating.{IsNew, turned}
+use Rattle.lrc_races_missed.specs.Locating.{IsMet, IsNew, IsNoted, missed, nameless, passed, turned}
 use Rattle.lrc_races_missed.specs.Racings.{GivesRacing}
 
 -- one of two things is so
 pub one_is : {A B : Type 0} (one : Bool) → one ≡ true → (IsTrue one ↔ A) → IsTrue false ↔ ((A → ⊥) × (B → ⊥))
-one_is one set test = (λ t. absurd (true≢false (sym t)), λ free. free.0 (test.0 set))
+one_is one set test = (λ t. absurd (true≢false (sym t)), λ free. absurd (free.0 (test.0 set)))
 
 -- the one is not, and so it is the other that decides
 pub neither_is : {A B : Type 0} (one two : Bool) → one ≡ false → (IsTrue one ↔ A) → (IsTrue two ↔ B) → IsTrue (not two) ↔ ((A → ⊥) × (B → ⊥))
@@ -51,6 +52,20 @@ fresh met keys both one two three false e f g test test' test'' last = (
   },
   λ new. refl,
 )
+
+-- a pair is looked at
+pub nothing_noted : (keys : List Key) (pair : Pair) (met : List TwoPlaces) (old : List Pair) (found : Option TwoPlaces)
+    → ((both : TwoPlaces) → found ≡ Some both → ⊥) → IsNoted keys pair met met old old found
+nothing_noted keys pair met old None none = nameless refl refl
+nothing_noted keys pair met old (Some both) none = absurd (none both refl)
+
+pub looked_at : (keys : List Key) (pair : Pair) (before after : List TwoPlaces) (old new : List Pair) (found : Option TwoPlaces) (both : TwoPlaces)
+    → found ≡ Some both → (IsNew before keys both × (new ≡ old ++ pair ∷ [])) ⊎ ((IsNew before keys both → ⊥) × (new ≡ old)) → IsMet both before after
+    → IsNoted keys pair before after old new found
+looked_at keys pair before after old new found both is (inl (fresh, e)) met =
+    subst (λ (o : Option TwoPlaces). IsNoted keys pair before after old new o) (sym is) (missed fresh met e)
+looked_at keys pair before after old new found both is (inr (old_ones, e)) met =
+    subst (λ (o : Option TwoPlaces). IsNoted keys pair before after old new o) (sym is) (passed old_ones met e)
 
 -- ---- a variable that races
 

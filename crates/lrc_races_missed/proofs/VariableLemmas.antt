@@ -1,7 +1,6 @@
 -- The variables that race, and those that no claim has.
-use Rattle.std.proofs.Common.{◌≡◌, ◌+◌, ℕ, ◌<◌, ◌≤◌, List, [], ◌∷◌, ◌++◌, Bool, true, length, get_or, inl, inr, refl, sym, subst, ap, ◌∙◌, arith}
-use Rattle.std.specs.Prelude.{◌↔◌, ◌⊎◌, IsTrue, AllPairs, Contains, Option, Some, None, MatchOption, slice_get, unwrap_or}
-use Rattle.std.proofs.lemmas.Bool.{cases_eq, cases_order}
+use Rattle.std.proofs.Common.{◌≡◌, ◌+◌, ℕ, ◌<◌, List, [], ◌∷◌, ◌++◌, Bool, true, length, get_or, refl, sym, subst, ap, ◌∙◌, arith}
+use Rattle.std.specs.Prelude.{◌↔◌, AllPairs, Contains, Option, Some, None, slice_get, unwrap_or}
 use Rattle.std.proofs.lemmas.Option.{slice_get-get_or, slice_get_within, get_or_from_slice_get, same_Some}
 use Rattle.lrc_races_trace.specs.declared.event.Event.{Event}
 use Rattle.lrc_races_trace.specs.Trace.{Accesses, At}
@@ -10,10 +9,9 @@ use Rattle.lrc_races_text.specs.declared.asked.Sought.{Sought}
 use Rattle.lrc_races_text.specs.Naming.{Naming, Numbers}
 use Rattle.lrc_races_text.specs.Spelled.{name_at}
 use Rattle.lrc_races_witness.specs.Relations.{AreByLine}
-use Rattle.lrc_races_witness.proofs.Lines.{line_below, one_line}
 use Rattle.lrc_races_score.specs.Claims.{variable, first}
 use Rattle.lrc_races_score.specs.declared.report.LinedClaim.{LinedClaim}
-use Rattle.lrc_races_claims.specs.Racing.{IsFirstRacing, RacingAt}
+use Rattle.lrc_races_claims.specs.Racing.{RacingAt}
 use Rattle.lrc_races_claims.specs.Firsts.{IsFirstLine, IsMarked, line_of}
 use Rattle.lrc_races_claims.specs.Judging.{AreFacts}
 use Rattle.lrc_races_claims.specs.declared.judging.Facts.{Facts}
@@ -21,9 +19,9 @@ use Rattle.lrc_races_missed.specs.declared.key.Key.{Key}
 use Rattle.lrc_races_missed.specs.declared.key.Key.TheVariants as keyed
 use Rattle.lrc_races_missed.specs.declared.variables.Racing.{Racing}
 use Rattle.lrc_races_missed.specs.Keys.{AreKeys, variable_key, first_key}
-use Rattle.lrc_races_missed.specs.Missed.{AreAllRacing, AreMissedFirsts, AreMissedVariables, AreNumbered, Claims, IsRacing}
+use Rattle.lrc_races_missed.specs.Missed.{AreAllRacing, AreMissedFirsts, AreMissedVariables, AreNumbered, IsRacing}
 use Rattle.lrc_races_missed.specs.Racings.{GivesRacing}
-use Rattle.lrc_races_missed.proofs.Given.{AreGiven, SomeGives, given_more, given_none, given_same}
+use Rattle.lrc_races_missed.proofs.Given.{AreGiven, given_more, given_none, given_same}
 use Rattle.lrc_races_missed.proofs.KeyLemmas.{claimed_key, key_claimed, only_first, only_variable}
 
 -- ---- all that race

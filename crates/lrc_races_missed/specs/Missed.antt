@@ -46,7 +46,7 @@ pub record AreMissedPairs (sought : Sought) (events : List Event) (claims : List
 
 -- the lines of a pair
 abbrev pub lines_of : Pair → TwoLines
-lines_of pair = record { earlier = pair.earlier.event.line; later = pair.later.event.line }
+lines_of both = record { earlier = both.earlier.event.line; later = both.later.event.line }
 
 -- both have the same two places, in either order
 pub data HaveSamePlaces (naming : Naming) (one other : Pair) : Type 0 where

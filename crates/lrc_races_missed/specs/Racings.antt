@@ -1,5 +1,5 @@
 -- The variables that race, by what is known of the trace.
-use Rattle.std.specs.Prelude.{◌≡◌, ℕ, Some}
+use Rattle.std.specs.Prelude.{◌≡◌, Some}
 use Rattle.lrc_races_trace.specs.declared.event.Event.{Event}
 use Rattle.lrc_races_trace.specs.Trace.{Accesses}
 use Rattle.lrc_races_claims.specs.Firsts.{line_of}

@@ -1,5 +1,5 @@
 -- One event more is taken, and what is told of it is looked at.
-use Rattle.std.proofs.Common.{◌≡◌, ◌+◌, List, length, subst, sym, arith}
+use Rattle.std.proofs.Common.{◌≡◌, List, length, subst, sym, arith}
 use Rattle.std.specs.Prelude.{AllPairs}
 use Rattle.std.proofs.lemmas.Option.{slice_get-get_or}
 use Rattle.lrc_races_trace.specs.declared.event.Pair.{Pair}

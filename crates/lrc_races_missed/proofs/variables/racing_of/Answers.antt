@@ -19,7 +19,7 @@ pub loop-event-preserved : goal.loop-event-preserved
 loop-event-preserved c = λ by_line.
     let events = c.args.events.now in
     let n = c.loop-event.event-index in
-    subst (λ (all : List Racing). GivenRacing events c.args.facts.now (n + 1) all) (sym c.in_ok-push.ensures.items)
+    subst (λ (all : List Racing). GivenRacing events c.args.facts.now (n + 1) all) (sym c.in_ok-push-in-Some.ensures.items)
     (racing_more events c.args.facts.now by_line n _ c.racing_at.result c.in-Some.racing (slice_get-get_or events n _ c.loop-event-test.true)
     c.racing_at.ensures c.in-Some.is c.loop-event.all.items (c.loop-event.invariant by_line))
 

@@ -13,16 +13,16 @@ pub missed_events-requires : goal.missed_events-requires
 missed_events-requires c =
     let some = c.requires in
     let known = c.in_ok-learn_facts.ensures.stays some.sought some.naming some.last some.is in
-    ap length c.as_slice.ensures.value ∙ (known.facts c.in-Some.facts.now c.in-Some.is).marked.long
+    ap length c.as_slice.ensures.value ∙ (known.facts c.in-Some.facts c.in-Some.is).marked.long
 
-pub returns-in-Some-clause-missed : goal.returns-in-Some-clause-missed
-returns-in-Some-clause-missed c =
+pub returns-clause-missed : goal.returns-clause-missed
+returns-clause-missed c =
     IfOk-weaker c.missed_events.result _ _ (λ lines says sought naming last variables places by_line is are.
     let known = c.in_ok-learn_facts.ensures.stays sought naming last is in
     scored_so _ _ c.is_scored.result c.is_scored.ensures c.if-not-is_scored.false
     (says sought c.args.claims.now variables places by_line
     (subst (λ (marks : List Bool). AreMarked sought c.args.events.now (length c.args.events.now) marks) (sym c.as_slice.ensures.value)
-    (known.facts c.in-Some.facts.now c.in-Some.is).marked) are)) c.missed_events.ensures
+    (known.facts c.in-Some.facts c.in-Some.is).marked) are)) c.missed_events.ensures
 
-pub returns-in-Some-clause-stays : goal.returns-in-Some-clause-stays
-returns-in-Some-clause-stays c = on_any c.missed_events.result c.in_ok-learn_facts.ensures.stays
+pub returns-clause-stays : goal.returns-clause-stays
+returns-clause-stays c = on_any c.missed_events.result c.in_ok-learn_facts.ensures.stays
