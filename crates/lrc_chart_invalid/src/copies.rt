@@ -1,6 +1,6 @@
 // A node's copies of the pages, before a turn and after it.
 
-ghost use Rattle.std.specs.Prelude.{◌≡◌, ◌<◌, ◌++◌, ◌∷◌, [], IfOk, OnOk, false, if◌then◌else◌, length, slice_index_or};
+ghost use Rattle.std.specs.Prelude.{◌≡◌, ◌<◌, ◌&&◌, ◌++◌, ◌∷◌, [], IfOk, OnOk, false, if◌then◌else◌, length, slice_index_or};
 ghost use Rattle.lrc_protocol.specs.Pages.{copy_at};
 ghost use Rattle.lrc_chart_invalid.specs.Invalidated.{invalid_since, is_invalid, readable_in};
 
@@ -46,10 +46,18 @@ pub(crate) fn invalid_since(
     let pages = state.pages();
     let mut found = Vec::new(alloc);
     for page in 0..pages {
-        let is_so = was_readable(before, page) && is_invalid(memory, page);
-        push_if(&mut found, page, is_so)?;
+        push_if(&mut found, page, becomes_invalid(before, memory, page))?;
     }
     Ok(found)
+}
+
+// Whether the copy of a page was readable, and is invalid now.
+fn becomes_invalid(before: &[bool], memory: &Memory, page: u16) -> bool
+    requires { page < length memory.now.memory.copies }
+    ensures { result ≡ (slice_index_or before.now page false
+        && is_invalid (copy_at memory.now.memory page)) }
+{
+    was_readable(before, page) && is_invalid(memory, page)
 }
 
 // Whether the copy of a page was readable.

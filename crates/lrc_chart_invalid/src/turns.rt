@@ -55,7 +55,8 @@ fn play(
         Some(turn) => {
             let Turn { act: _act, out } = turn;
             replay.post(out)?;
-            found.push(invalid_at(alloc, replay, node, &before)?)
+            found.push(invalid_at(alloc, replay, node, &before)?)?;
+            Ok(())
         }
         None => Ok(()),
     }
@@ -73,11 +74,7 @@ fn place_of(replay: &Replay<'_>, event: Event) -> usize
 }
 
 // Of each page whether a node's copy may be read; nothing, where the node is not there.
-fn readable_at(
-    alloc: Global,
-    replay: &Replay<'_>,
-    node: usize,
-) -> Result<Vec<bool>, AllocError>
+fn readable_at(alloc: Global, replay: &Replay<'_>, node: usize) -> Result<Vec<bool>, AllocError>
     ensures { (world : World) → IsReplay replay.now world
         → IfOk result (λ all. all.items ≡ readable_from (slice_get world.nodes node)) }
 {
