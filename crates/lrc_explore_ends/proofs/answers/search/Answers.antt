@@ -33,8 +33,8 @@ returns-in-Through-clause-faults c = fault_says c.through.result (of_step c.args
 
 pub returns-in_err-traps-clause-faults : goal.returns-in_err-traps-clause-faults
 returns-in_err-traps-clause-faults c =
-    fault_up c.from_residual-in_err-traps.result c.in_err-traps.field-0.0 (IsSearchFault c.args.task.now c.args.races) c.from_residual-in_err-traps.ensures.1
-    (of_step c.args.task.now c.args.races _ c.in_err-traps.ensures.faults)
+    fault_up c.from_residual.result c.in_err-traps.field-0.0 (IsSearchFault c.args.task.now c.args.races) c.from_residual.ensures.1
+    (of_step c.args.task.now c.args.races c.in_err-traps.field-0.0 c.in_err-traps.ensures.faults)
 
 pub returns-in-Meeting-clause-fits : goal.returns-in-Meeting-clause-fits
 returns-in-Meeting-clause-fits c =
