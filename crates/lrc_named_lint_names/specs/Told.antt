@@ -5,8 +5,8 @@ use Rattle.lrc_lint_lines.specs.Head.{place_text}
 use Rattle.lrc_lint_fault.specs.Hint.{words_line}
 use Rattle.lrc_lint_fault.specs.Told.{line_of}
 use Rattle.lrc_named_tokens.specs.Token.{finish, token, Located}
-use Rattle.lrc_named_tree.specs.Tree.{NamedTree}
-use Rattle.lrc_named_entries.specs.Entry.{entries_of, first_nodes, parameters_around}
+use Rattle.lrc_named_tree.specs.Tree.{Named, NamedTree}
+use Rattle.lrc_named_entries.specs.Entry.{Entry, entries_of, first_nodes, parameters_around}
 use Rattle.lrc_named_expression_faults.specs.declared.fault.Fault.{Fault}
 use Rattle.lrc_named_expression_faults.specs.declared.fault.FaultKind.{FaultKind}
 use Rattle.lrc_named_expression_faults.specs.Fault.{words_of}
@@ -19,15 +19,13 @@ use Rattle.lrc_named_name_hints.specs.Seen.{Seen}
 abbrev pub nowhere : Located
 nowhere = record { place = record { line = 0; column = 0; offset = 0 }; lexeme = token finish }
 
+abbrev pub seen_by : List Located → List Entry → List Named → (counted : Option ℕ) → (at : ℕ) → Seen
+seen_by tokens entries parameters counted at =
+    record { tokens = tokens; entries = entries; parameters = parameters; counted = counted; at = at }
+
 -- what the hint on a fault of a token goes by
 abbrev pub seen_in : List Located → NamedTree → ℕ → Seen
-seen_in tokens tree at = record {
-  tokens = tokens;
-  entries = entries_of tree.declarations;
-  parameters = parameters_around at tree.declarations;
-  counted = first_nodes tree.declarations;
-  at = at;
-}
+seen_in tokens tree at = seen_by tokens (entries_of tree.declarations) (parameters_around at tree.declarations) (first_nodes tree.declarations) at
 
 -- where a fault is, which it is, and its line
 abbrev pub head_lines : List ℕ → List ℕ → Located → FaultKind → List ℕ

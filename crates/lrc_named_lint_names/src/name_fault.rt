@@ -1,17 +1,18 @@
 // What is told of a named program whose names have a fault.
 
-ghost use Rattle.std.specs.Prelude.{◌≡◌, ◌++◌, get_or, map, IfOk, OnOk, Some, List, ℕ};
+ghost use Rattle.std.specs.Prelude.{◌≡◌, ◌++◌, get_or, map, IfOk, OnOk, Option, List, ℕ};
 ghost use Rattle.lrc_text.specs.Parts.{whole_text};
 ghost use Rattle.lrc_lint_fault.specs.Hint.{words_line};
 ghost use Rattle.lrc_named_tokens.specs.View.{located_of};
-ghost use Rattle.lrc_named_tree.specs.View.{program_of};
+ghost use Rattle.lrc_named_tree.specs.View.{named_of, program_of};
+ghost use Rattle.lrc_named_entries.specs.View.{entry_seen};
 ghost use Rattle.lrc_named_name_hints.specs.Hint.{words_of};
 ghost use Rattle.lrc_named_name_hints.specs.Hints.{IsHintOf, has_hint};
-ghost use Rattle.lrc_named_name_hints.specs.Seen.{seen_of};
-ghost use Rattle.lrc_named_lint_names.specs.Told.{TellsFault, head_lines, nowhere, seen_in};
+ghost use Rattle.lrc_named_lint_names.specs.Told.{TellsFault, head_lines, nowhere, seen_by};
 
 use lrc_lint_fault::{Linted, no_program};
 use lrc_lint_lines::{push_excerpt, push_place};
+use lrc_named_entries::entry::Entry;
 use lrc_named_entries::{entries_of, first_nodes, parameters_around};
 use lrc_named_expression_faults::fault::{Fault, FaultKind};
 use lrc_named_hints::fault::spelling;
@@ -20,7 +21,7 @@ use lrc_named_name_hints::hint::{Hint, push_hint};
 use lrc_named_name_hints::hint_for;
 use lrc_named_name_hints::seen::Seen;
 use lrc_named_tokens::token::{Lexeme, Located, Place, Token};
-use lrc_named_tree::tree::NamedProgram;
+use lrc_named_tree::tree::{Name, NamedProgram};
 use std::alloc::{AllocError, Global};
 
 /// Returns whether a hint is told of faults of this kind.
@@ -66,23 +67,53 @@ fn push_name_fault(
 {
     let entries = entries_of(alloc, &program.declarations)?;
     let parameters = parameters_around(alloc, &program.declarations, fault.at)?;
-    let seen = Seen {
-        tokens,
-        entries: &entries,
-        parameters: &parameters,
-        counted: first_nodes(&program.declarations),
-        at: fault.at as usize,
-    };
+    let counted = first_nodes(&program.declarations);
+    let found = token_at(tokens, fault.at as usize);
+    push_head(out, alloc, file, text, found, fault.kind)?;
+    push_hint_on(out, alloc, fault, tokens, &entries, &parameters, counted)
+}
+
+// The hint on a fault, by the tokens, what is declared, the parameters around the fault, and the first `nodes`.
+fn push_hint_on(
+    out: &mut Vec<u8>,
+    alloc: Global,
+    fault: Fault,
+    tokens: &[Located<'_>],
+    entries: &[Entry<'_>],
+    parameters: &[Name<'_>],
+    counted: Option<u32>,
+) -> Result<(), AllocError>
+    ensures { let seen = seen_by (map located_of tokens.now) (map entry_seen entries.now)
+        (map named_of parameters.now) counted fault.at in
+        OnOk result ((hint : Option (List ℕ)) × IsHintOf fault.kind seen hint
+        × (out.new.items ≡ out.old.items ++ words_line hint)) }
+{
+    let seen = seen_at(tokens, entries, parameters, counted, fault.at);
     let hint = hint_for(alloc, fault.kind, &seen)?;
-    push_head(
-        out,
-        alloc,
-        file,
-        text,
-        token_at(tokens, seen.at),
-        fault.kind,
-    )?;
     push_hint_if_any(out, hint)
+}
+
+// What the hint on a fault of a token goes by.
+fn seen_at<'t>(
+    tokens: &'t [Located<'t>],
+    entries: &'t [Entry<'t>],
+    parameters: &'t [Name<'t>],
+    counted: Option<u32>,
+    at: u64,
+) -> Seen<'t>
+    ensures tokens { result.tokens.now ≡ tokens.entry.now }
+    ensures entries { result.entries.now ≡ entries.entry.now }
+    ensures parameters { result.parameters.now ≡ parameters.entry.now }
+    ensures counted { result.counted ≡ counted }
+    ensures at { result.at ≡ at }
+{
+    Seen {
+        tokens,
+        entries,
+        parameters,
+        counted,
+        at: at as usize,
+    }
 }
 
 // Where the fault is, which, and its line.

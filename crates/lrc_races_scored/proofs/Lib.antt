@@ -1,5 +1,6 @@
 pub mod Zipping
 pub mod Adding
+pub mod Saying
 pub mod SortLemmas
 pub mod MissedLemmas
 pub mod ScoreLemmas

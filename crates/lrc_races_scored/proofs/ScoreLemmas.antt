@@ -36,23 +36,30 @@ unscored_line claims verdicts sort missed says old same unset =
     (record { claims = claims_of sort claims; right = true_of sort claims verdicts; wrong = false_of sort claims verdicts }) missed) []) (sym unset ∙ same)
     (sym (append-nil old))
 
+abbrev made : ℕ → ℕ → ℕ → Tally
+made all right wrong = record { claims = all; right = right; wrong = wrong }
+
 pub scored_line : {T E : Type 0} (result : Result T E) (claims : List LinedClaim) (verdicts : List Verdict) (sort : Sort) (missed : ℕ) (says : Bool) (tally : Tally)
     (old new : List ℕ) → says ≡ is_scored sort claims → says ≡ true → tally.claims ≡ claims_of sort claims → tally.right ≡ true_of sort claims verdicts
     → tally.wrong ≡ false_of sort claims verdicts → OnOk result (new ≡ old ++ tally_line sort tally missed)
     → OnOk result (new ≡ old ++ score_line claims verdicts sort missed)
 scored_line result claims verdicts sort missed says tally old new same set e f g ok = on_ok_weaker result (λ is. is ∙ ap (λ l. old ++ l) line) ok
   where
-    one : tally ≡ record { claims = claims_of sort claims; right = true_of sort claims verdicts; wrong = false_of sort claims verdicts }
+    one : tally ≡ made (claims_of sort claims) (true_of sort claims verdicts) (false_of sort claims verdicts)
     one =
-        ap (λ n. record { claims = n; right = tally.right; wrong = tally.wrong }) e
-        ∙ ap (λ n. record { claims = claims_of sort claims; right = n; wrong = tally.wrong }) f
-        ∙ ap (λ n. record { claims = claims_of sort claims; right = true_of sort claims verdicts; wrong = n }) g
+        ap (λ n. made n tally.right tally.wrong) e ∙ ap (λ n. made (claims_of sort claims) n tally.wrong) f
+        ∙ ap (λ n. made (claims_of sort claims) (true_of sort claims verdicts) n) g
 
     line : tally_line sort tally missed ≡ score_line claims verdicts sort missed
     line =
-        ap (λ t. tally_line sort t missed) one
-        ∙ subst (λ (b : Bool). tally_line sort _ missed ≡ cond b (tally_line sort
-        (record { claims = claims_of sort claims; right = true_of sort claims verdicts; wrong = false_of sort claims verdicts }) missed) []) (sym set ∙ same) refl
+        ap (λ (t : Tally). tally_line sort t missed) one
+        ∙ subst (λ (b : Bool). tally_line sort (made (claims_of sort claims) (true_of sort claims verdicts) (false_of sort claims verdicts)) missed
+        ≡ cond b (tally_line sort (made (claims_of sort claims) (true_of sort claims verdicts) (false_of sort claims verdicts)) missed) []) (sym set ∙ same) refl
+
+-- by another number that is the same
+pub scored_part : (claims : List LinedClaim) (verdicts : List Verdict) (sort : Sort) (old new : List ℕ) (n m : ℕ) → new ≡ old ++ score_line claims verdicts sort n
+    → n ≡ m → new ≡ old ++ score_line claims verdicts sort m
+scored_part claims verdicts sort old new n m is same = is ∙ ap (λ k. old ++ score_line claims verdicts sort k) same
 
 -- ---- what is missed
 

@@ -1,8 +1,7 @@
 -- Which sort a claim is of, and whether a sort is scored.
-use Rattle.std.proofs.Common.{◌≡◌, ◌∙◌, ℕ, List, [], ◌∷◌, Bool, true, false, length, refl, sym, ap}
+use Rattle.std.proofs.Common.{◌≡◌, ℕ, List, [], ◌∷◌, length, refl}
 use Rattle.std.specs.Prelude.{nat_lt}
-use Rattle.lrc_races_score.specs.Claims.{Statement, event, pair, locations, variable, first, statement_of}
-use Rattle.lrc_races_score.specs.declared.claim.Claim.{Claim}
+use Rattle.lrc_races_score.specs.Claims.{event, pair, locations, variable, first}
 use Rattle.lrc_races_score.specs.declared.report.LinedClaim.{LinedClaim}
 use Rattle.lrc_races_scored.specs.contracts.sort.SortPartialEq.TheImpl.{eq-value}
 use Rattle.lrc_races_scored.specs.declared.sort.Sort.{Sort}

@@ -1,12 +1,12 @@
 -- The events of lines, as they are kept.
-use Rattle.std.proofs.Common.{◌≡◌, ℕ, ◌+◌, ◌<◌, ◌≤◌, List, [], ◌∷◌, ◌++◌, zero, suc, length, inl, inr, sym, subst, ap, ◌∙◌, arith, append-nil}
+use Rattle.std.proofs.Common.{◌≡◌, ℕ, ◌+◌, ◌<◌, ◌≤◌, List, [], ◌∷◌, ◌++◌, zero, suc, length, inl, inr, sym, subst, ap, arith, append-nil}
 use Rattle.std.specs.Prelude.{Result, OnOk, Some, Contains, slice_get, ◌⊎◌}
 use Rattle.std.proofs.lemmas.Result.{on_ok_weaker}
 use Rattle.std.proofs.lemmas.Option.{slice_get_within}
 use Rattle.lrc_races_trace.specs.declared.event.Event.{Event}
 use Rattle.lrc_races_trace.specs.declared.event.Operation.{Operation}
 use Rattle.lrc_races_trace.specs.declared.event.Operation.TheVariants as Op
-use Rattle.lrc_races_trace.specs.Trace.{Accesses, At}
+use Rattle.lrc_races_trace.specs.Trace.{Accesses}
 use Rattle.lrc_races_detector.proofs.Pairs.{pairs-append}
 use Rattle.lrc_races_lines.specs.Line.{Saying}
 use Rattle.lrc_races_lines.specs.declared.line.Kind.{Kind}

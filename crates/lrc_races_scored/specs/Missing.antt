@@ -35,9 +35,9 @@ abbrev pub ScoresFirsts : Sought → Naming → List Event → List LinedClaim �
 ScoresFirsts sought naming events claims missed =
     MatchBool (is_scored Firsts claims) (AreMissedFirsts sought naming events claims missed) (missed ≡ [])
 
-pub record AreMissed (sought : Sought) (naming : Naming) (events : List Event) (claims : List LinedClaim) (missed : Missed) : Type 0 where
-  pub events : ScoresEvents sought events claims missed.events.items
-  pub pairs : ScoresPairs sought events claims missed.pairs.items
-  pub locations : ScoresLocations sought naming events claims missed.locations.items
-  pub variables : ScoresVariables sought naming events claims missed.variables.items
-  pub firsts : ScoresFirsts sought naming events claims missed.firsts.items
+pub record AreMissed (sought : Sought) (naming : Naming) (trace : List Event) (claims : List LinedClaim) (missed : Missed) : Type 0 where
+  pub events : ScoresEvents sought trace claims missed.events.items
+  pub pairs : ScoresPairs sought trace claims missed.pairs.items
+  pub locations : ScoresLocations sought naming trace claims missed.locations.items
+  pub variables : ScoresVariables sought naming trace claims missed.variables.items
+  pub firsts : ScoresFirsts sought naming trace claims missed.firsts.items

@@ -1,5 +1,5 @@
 -- The sorts of claims, and how many claims there are of each.
-use Rattle.std.specs.Prelude.{ℕ, ◌&&◌, not, nat_lt, Bool, true, false, List, [], ◌∷◌, codes, count_by, zip}
+use Rattle.std.specs.Prelude.{ℕ, ◌&&◌, not, nat_lt, Bool, true, false, List, [], codes, count_by, zip}
 use Rattle.lrc_races_score.specs.Claims.{Statement, event, pair, locations, variable, first, statement_of}
 use Rattle.lrc_races_score.specs.declared.report.LinedClaim.{LinedClaim}
 use Rattle.lrc_races_claims.specs.declared.verdict.Verdict.{Verdict}

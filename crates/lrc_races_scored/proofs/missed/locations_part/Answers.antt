@@ -1,5 +1,4 @@
 -- Locations are scored or not; the places are known.
-use Rattle.std.proofs.Common.{sym, ◌∙◌}
 use Rattle.std.proofs.lemmas.Result.{IfOk-weaker}
 use Rattle.lrc_races_scored.proofs.MissedLemmas.{located_stays, scored_so, unscored}
 use Rattle.lrc_races_scored.proofs.missed.locations_part.Goals as goal

@@ -30,7 +30,7 @@ returns c =
     IfOk-weaker c.push_rest.result _ _ (λ status says naming last numbered is.
     let judged = c.in_ok-verdicts.ensures.stays c.args.sought naming last is in
     let done = c.in_ok-missed.ensures.stays c.args.sought naming last judged in
-    has_scored c.args.sought naming c.args.events.now last c.args.claims.now (names_of c.judge_all-verdicts.new.judge.names.threads)
+    has_scored c.args.sought naming c.args.events.now last c.args.claims.now (names_of c.judge_all.new.judge.names.threads)
     c.in_ok-verdicts.verdicts.items c.as_slice.result.now c.as_slice-2.result.now c.in_ok-missed.missed status c.args.text.now.items
     c.push_judged.new.text.items c.push_rest.new.text.items judged.threads c.as_slice.ensures.value c.as_slice-2.ensures.value
     (c.in_ok-verdicts.ensures.judged c.args.sought naming last is) (c.in_ok-missed.ensures.missed naming last numbered judged)

@@ -3,7 +3,6 @@ use Rattle.std.proofs.Common.{refl, sym}
 use Rattle.std.specs.Prelude.{List, ℕ}
 use Rattle.std.proofs.lemmas.Result.{on_ok_weaker}
 use Rattle.std.proofs.Common.{ap}
-use Rattle.lrc_races_missed.specs.declared.variables.Racing.{Racing}
 use Rattle.lrc_races_text.specs.Tables.{naming_of}
 use Rattle.lrc_races_claims.specs.Known.{known_names}
 use Rattle.lrc_races_scored.specs.Spelled.{event_line, first_line, locations_line, pair_line, variable_line}

@@ -1,6 +1,5 @@
 -- Those so far are counted.
 use Rattle.std.proofs.Common.{◌≡◌, ◌≤◌, take}
-use Rattle.std.specs.Prelude.{count_by}
 use Rattle.lrc_races_scored.specs.Sorts.{claims_of}
 use Rattle.lrc_races_scored.proofs.tally.count.Given as goal
 

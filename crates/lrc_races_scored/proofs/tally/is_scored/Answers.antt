@@ -1,5 +1,5 @@
 -- A report without claims counts as one of events.
-use Rattle.std.proofs.Common.{◌≡◌, ◌∙◌, length, ap, arith, rules}
+use Rattle.std.proofs.Common.{◌≡◌, ◌∙◌, length, ap, rules}
 use Rattle.std.specs.Prelude.{nat_lt}
 use Rattle.lrc_races_scored.proofs.SortLemmas.{scored_none, scored_some}
 use Rattle.lrc_races_scored.proofs.tally.is_scored.Goals as goal
