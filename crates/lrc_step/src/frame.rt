@@ -352,10 +352,10 @@ function cellWidth({ array, columns }) { return .62 * Math.max(array.digits, Str
 function headWidth({ rows }) { return .62 * (rows > 1 ? String(rows - 1).length : 0) + .5; }
 function gridWidth(slice) { return headWidth(slice) + slice.columns * cellWidth(slice) + 1.5; }
 
-/** The grids that there is room for; larger ones, where all slices are whole even so. */
-function gridsFor({ width, height, least }) {
+/** The grids that there is room for; larger ones, and in a great window smaller ones, where all slices are whole by that. */
+function gridsFor({ em, width, height, least }) {
   const isWhole = ({ slice, rows, columns }) => rows === slice.rows && columns === slice.columns;
-  for (const scale of [1.7, 1.3]) {
+  for (const scale of em > 18 ? [1.7, 1.3, 1, .8] : [1.7, 1.3]) {
     const grids = partsFor({ width: width / scale, height: height / scale, least });
     if (grids.length === run.slices.length && grids.every(isWhole)) return grids.map(grid => ({ ...grid, scale }));
   }

@@ -308,8 +308,8 @@ function draw() {
   drawHeader(turn, before);
   drawSource(turn, states);
   drawStory(turn, flight);
-  drawNodes(turn, states, before, scale);
   drawTimeline(turn, states, flight, scale);
+  drawNodes(turn, states, before, scale); // last, in the room that all else has left
   reveal(regions.source.querySelector(".now") ?? regions.source.querySelector(".badge"), regions.source);
   if (turn) reveal(document.getElementById(`node-${turn.node}`), regions.nodes);
   for (const word of regions.nodes.querySelectorAll(".node.now .touched, #arrays .touched")) revealWord(word);
@@ -379,7 +379,7 @@ function drawNodes(turn, states, before, scale) {
   const words = run.nodes > 4 ? [...alone, ...touchedLately(alone)].sort((one, other) => one - other) : alone;
   if (words.length > alone.length) drawPanels(views, words, []);
   const room = roomForGrids();
-  for (let tries = 0; tries < 3; tries++) {
+  for (let tries = 0; tries < 5; tries++) {
     drawPanels(views, words, gridsFor(room));
     const over = nodesHeight() - room.most;
     if (over < 1) return;
