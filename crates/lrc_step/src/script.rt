@@ -358,10 +358,11 @@ function drawSource(turn, states) {
   }));
 }
 
-/** Scrolls to a word of the act, below the headings of a table. */
+/** Scrolls to a word of the act, below the headings of a table; in one column the whole page, between the header and the buttons. */
 function revealWord(word) {
   const { nodes, headings } = regions;
-  if (nodes.scrollHeight <= nodes.clientHeight && nodes.scrollWidth <= nodes.clientWidth) return;
+  const scrolls = isInOneColumn() || nodes.scrollHeight > nodes.clientHeight || nodes.scrollWidth > nodes.clientWidth;
+  if (!scrolls) return;
   word.style.scrollMarginTop = `${headings.offsetHeight}px`;
   word.scrollIntoView({ block: "nearest", inline: "nearest" });
 }
