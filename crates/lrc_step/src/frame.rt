@@ -199,10 +199,12 @@ dialog { margin: auto; padding: 1.2rem 1.6rem; border: .1rem solid var(--line); 
   .node { font-size: clamp(.9rem, 6.5cqi / var(--nodes), 1.05rem); }
 }
 @media screen and (max-width: 60em), screen and (max-height: 32em) {
+  html { scroll-padding: 11rem 0 9rem; }
   body { display: block; height: auto; }
+  header { position: sticky; top: 0; z-index: 2; background: var(--paper); }
   .dense #nodes { grid-template-columns: repeat(auto-fit, minmax(min(100%, 18rem), 1fr)); }
   .rows main, main { display: flex; flex-direction: column; }
-  #controls { position: sticky; bottom: 0; padding: .3rem 0; background: var(--paper); }
+  #controls { position: sticky; bottom: 0; z-index: 2; padding: .3rem 0; background: var(--paper); }
 }
 @media print {
   @page { size: landscape; margin: 10mm; }
@@ -352,10 +354,10 @@ function cellWidth({ array, columns }) { return .62 * Math.max(array.digits, Str
 function headWidth({ rows }) { return .62 * (rows > 1 ? String(rows - 1).length : 0) + .5; }
 function gridWidth(slice) { return headWidth(slice) + slice.columns * cellWidth(slice) + 1.5; }
 
-/** The grids that there is room for; larger ones, where all slices are whole even so. */
-function gridsFor({ width, height, least }) {
+/** The grids that there is room for; larger ones, and in a great window smaller ones, where all slices are whole by that. */
+function gridsFor({ em, width, height, least }) {
   const isWhole = ({ slice, rows, columns }) => rows === slice.rows && columns === slice.columns;
-  for (const scale of [1.7, 1.3]) {
+  for (const scale of em > 18 ? [1.7, 1.3, 1, .8] : [1.7, 1.3]) {
     const grids = partsFor({ width: width / scale, height: height / scale, least });
     if (grids.length === run.slices.length && grids.every(isWhole)) return grids.map(grid => ({ ...grid, scale }));
   }
@@ -460,15 +462,16 @@ function nodesHeight() {
   return Math.max(...parts.map(part => part.getBoundingClientRect().bottom)) - regions.nodes.getBoundingClientRect().top + regions.nodes.scrollTop;
 }
 
+function isInOneColumn() { return getComputedStyle(regions.nodes.parentElement).display === "flex"; }
+
 /** What is left for grids, in their own signs: below a table of many nodes, or in each panel; in one column, half of the window. */
 function roomForGrids() {
   const { nodes } = regions;
   const main = nodes.parentElement;
   const isTable = run.nodes > 4;
-  const inOneColumn = getComputedStyle(main).display === "flex";
   const place = isTable ? nodes : nodes.querySelector("section .pages");
   const em = .85 * parseFloat(getComputedStyle(isTable ? regions.arrays : place.parentElement).fontSize);
-  const most = inOneColumn ? nodesHeight() + innerHeight / 2 : isTable ? nodes.clientHeight : main.clientHeight * .75;
+  const most = isInOneColumn() ? nodesHeight() + innerHeight / 2 : isTable ? nodes.clientHeight : main.clientHeight * .75;
   return { em, most, width: place.clientWidth / em, height: (most - nodesHeight()) / em, least: !isTable };
 }
 </script>

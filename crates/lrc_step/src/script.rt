@@ -308,8 +308,8 @@ function draw() {
   drawHeader(turn, before);
   drawSource(turn, states);
   drawStory(turn, flight);
-  drawNodes(turn, states, before, scale);
   drawTimeline(turn, states, flight, scale);
+  drawNodes(turn, states, before, scale); // last, in the room that all else has left
   reveal(regions.source.querySelector(".now") ?? regions.source.querySelector(".badge"), regions.source);
   if (turn) reveal(document.getElementById(`node-${turn.node}`), regions.nodes);
   for (const word of regions.nodes.querySelectorAll(".node.now .touched, #arrays .touched")) revealWord(word);
@@ -358,10 +358,11 @@ function drawSource(turn, states) {
   }));
 }
 
-/** Scrolls to a word of the act, below the headings of a table. */
+/** Scrolls to a word of the act, below the headings of a table; in one column the whole page, between the header and the buttons. */
 function revealWord(word) {
   const { nodes, headings } = regions;
-  if (nodes.scrollHeight <= nodes.clientHeight && nodes.scrollWidth <= nodes.clientWidth) return;
+  const scrolls = isInOneColumn() || nodes.scrollHeight > nodes.clientHeight || nodes.scrollWidth > nodes.clientWidth;
+  if (!scrolls) return;
   word.style.scrollMarginTop = `${headings.offsetHeight}px`;
   word.scrollIntoView({ block: "nearest", inline: "nearest" });
 }
@@ -379,7 +380,7 @@ function drawNodes(turn, states, before, scale) {
   const words = run.nodes > 4 ? [...alone, ...touchedLately(alone)].sort((one, other) => one - other) : alone;
   if (words.length > alone.length) drawPanels(views, words, []);
   const room = roomForGrids();
-  for (let tries = 0; tries < 3; tries++) {
+  for (let tries = 0; tries < 5; tries++) {
     drawPanels(views, words, gridsFor(room));
     const over = nodesHeight() - room.most;
     if (over < 1) return;
