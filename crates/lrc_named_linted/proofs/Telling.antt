@@ -3,8 +3,6 @@ use Rattle.std.proofs.Common.{◌≡◌, ◌⊎◌, ℕ, List, map, Option, Some
 use Rattle.std.specs.Option.{option_map}
 use Rattle.lrc_text.specs.Parts.{whole_text}
 use Rattle.lrc_lint_fault.specs.declared.linted.Linted.{Linted}
-use Rattle.lrc_named_core.specs.declared.tree.Origin.{Origin}
-use Rattle.lrc_named_core.specs.View.{origin_of}
 use Rattle.lrc_named_tokens.specs.Token.{Located}
 use Rattle.lrc_named_tree.specs.Tree.{NamedTree}
 use Rattle.lrc_named_names.specs.Names.{Declared}
@@ -25,9 +23,9 @@ use Rattle.lrc_named_lint_core.specs.Told.{IsFaulty, told_of}
 use Rattle.lrc_named_lint_names.specs.Told.{TellsFault}
 use Rattle.lrc_named_linted.specs.Linted.{IsUntold, TellsNamed}
 
-pub some_case : {A P : Type 0} (Q : A → Type 0) (o : Option A) (a : A) → o ≡ Some a → MatchOption o P Q → Q a
-some_case Q None a e h = absurd (cc)
-some_case Q (Some b) a e h = subst Q (cc) h
+pub some_case : {A : Type 0} (P : Type 0) (Q : A → Type 0) (o : Option A) (a : A) → o ≡ Some a → MatchOption o P Q → Q a
+some_case P Q None a e h = absurd (cc)
+some_case P Q (Some b) a e h = subst Q (cc) h
 
 some_same : {A : Type 0} {a b : A} → Some a ≡ Some b → a ≡ b
 some_same e = cc

@@ -4,9 +4,9 @@ use Rattle.lrc_named_tree.specs.View.{program_of}
 use Rattle.lrc_named_linted.proofs.Telling.{name_told, name_untold}
 use Rattle.lrc_named_linted.proofs.linted.lint_names.Goals as goal
 
-pub returns-then-has_hint : goal.returns-then-has_hint
-returns-then-has_hint c =
-    name_told c.args.file.now c.args.text.now (map located_of c.args.tokens.now) (program_of c.args.program.now) c.args.fault _ c.requires.parsed
+pub returns-in_ok-lint_name_fault : goal.returns-in_ok-lint_name_fault
+returns-in_ok-lint_name_fault c =
+    name_told c.args.file.now c.args.text.now (map located_of c.args.tokens.now) (program_of c.args.program.now) c.args.fault c.in_ok-lint_name_fault.field-0 c.requires.parsed
     c.requires.first c.in_ok-lint_name_fault.ensures.parts c.in_ok-lint_name_fault.ensures.status
 
 pub returns-else-has_hint : goal.returns-else-has_hint
