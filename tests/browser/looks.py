@@ -93,7 +93,7 @@ def states(pages, name, document):
         pages.same(f"{name}: wider than {width}", beyond[:1] if width == 390 else beyond, [0] if width == 390 else [0, 0])
         narrow = browser.value("[...document.querySelectorAll('section.node, .word')].filter(e => e.scrollWidth > e.clientWidth).length")
         pages.same(f"{name}: panels wider than their place, {width}", narrow, 0)
-        if pages.shots and width < 3840:
+        if pages.shots:
             browser.shoot(pages.shots / f"{name}-{width}x{height}.png")
 
 
@@ -307,10 +307,12 @@ def ends(pages, made):
     pages.is_quiet("ends")
 
 
-# Whether the word that the act touches is seen, in the node's own panel or in the table: marked, and within its region.
-SEEN = """(() => { const region = document.querySelector('#nodes').getBoundingClientRect(), words = [...document.querySelectorAll('.node.now .touched')];
+# Whether the word that the act touches is seen, in the node's own panel or in the table: marked, within its region, between the header and the buttons.
+SEEN = """(() => { const of = selector => document.querySelector(selector).getBoundingClientRect(), region = of('#nodes');
+  const top = Math.max(region.top, of('header').bottom), bottom = Math.min(region.bottom, of('#controls').top);
+  const words = [...document.querySelectorAll('.node.now .touched')];
   return words.length > 0 && words.every(word => { const box = word.getBoundingClientRect();
-    return box.top >= region.top - 1 && box.bottom <= region.bottom + 1 && box.left >= region.left - 1 && box.right <= region.right + 1; }); })()"""
+    return box.top >= top - 1 && box.bottom <= bottom + 1 && box.left >= region.left - 1 && box.right <= region.right + 1; }); })()"""
 
 
 def grids(pages, made):
@@ -328,13 +330,34 @@ def grids(pages, made):
             for turn in sorted({touching[k * (len(touching) - 1) // 4] for k in range(5)}):
                 pages.at_turn(turn)
                 pages.looks.moment(browser.value(SHOWN), moments[turn], f"{name} at {turn}, {width}", place_of(name, turns))
-                if width > 1000:
-                    pages.same(f"{name} at {turn}, {width}: the word of the act is seen", browser.value(SEEN), True)
+                pages.same(f"{name} at {turn}, {width}: the word of the act is seen", browser.value(SEEN), True)
         before = browser.busy()
         browser.value(TEN_STEPS.replace("1000", "20"))
         pages.same(f"{name}: stepped in time", (browser.busy() - before) / 10 < 0.1, True)
         pages.is_quiet(name)
     sizes_of_grids(pages, made)
+    opened_at_once(pages, made)
+
+
+def opened_at_once(pages, made):
+    """A page that is opened at a turn shows of the nodes what it shows when one comes to that turn, and in a great window each panel whole."""
+    browser = pages.browser
+    panels_shown = "[...document.querySelectorAll('section.node, #arrays')].map(element => element.innerHTML)"
+    beyond = "(nodes => nodes.scrollHeight - nodes.clientHeight)(document.querySelector('#nodes'))"
+    for name, turn in (("grids_part", 310), ("arrays", 70), ("line", 200)):
+        url = pages.save(name, made[name])
+        for width, height in ((1920, 1080), (3840, 2160)):
+            browser.size(width, height)
+            browser.open(url)
+            pages.at_turn(turn)
+            wanted = browser.value(panels_shown)
+            browser.open(f"{url}#turn={turn}")
+            pages.same(f"{name} opened at {turn}, {width}", browser.value(panels_shown), wanted)
+        pages.same(f"{name} at {turn}: panels beyond a great window", max(browser.value(beyond), 12), 12)
+    browser.size(3840, 2160)
+    browser.open(f"{pages.save('grids_part', made['grids_part'])}#turn=310")
+    whole = [[len(grid["rows"]), len(grid["rows"][0])] for grid in browser.value(SHOWN)["nodes"][0]["grids"]]
+    pages.same("10 by 10 words are whole in a great window", whole, [[11, 11], [11, 11]])
 
 
 def sizes_of_grids(pages, made):
