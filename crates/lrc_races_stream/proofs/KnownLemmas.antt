@@ -1,5 +1,5 @@
 -- What is known of what is to be noted, where lines answer.
-use Rattle.std.proofs.Common.{◌≡◌, ℕ, ◌<◌, ◌≤◌, List, length, inl, inr, arith}
+use Rattle.std.proofs.Common.{◌≡◌, ℕ, ◌<◌, List, length, inl, inr, arith}
 use Rattle.lrc_races_trace.specs.declared.event.Event.{Event}
 use Rattle.lrc_races_text.specs.declared.asked.Layout.{Layout}
 use Rattle.lrc_races_text.specs.declared.asked.Sought.{Sought}

@@ -1,5 +1,5 @@
 -- The claims about what is kept of all lines of a trace are scored.
-use Rattle.std.proofs.Common.{◌≡◌, ℕ, Bool, List, [], refl, sym, subst, ◌∙◌}
+use Rattle.std.proofs.Common.{◌≡◌, ℕ, Bool, List, [], sym, subst}
 use Rattle.lrc_races_score.specs.declared.report.LinedClaim.{LinedClaim}
 use Rattle.lrc_races_scored.proofs.TracedLemmas.{traced_by_line, traced_numbered}
 use Rattle.lrc_races_scored.specs.Scored.{HasScored, IsScore}

@@ -1,5 +1,5 @@
 -- The first event that no program would give, by what is kept of the lines.
-use Rattle.std.proofs.Common.{◌≡◌, ℕ, zero, suc, ◌+◌, ◌<◌, ◌≤◌, Bool, true, false, List, [], ◌∷◌, length, refl, subst, sym, ◌∙◌, ap, arith, append-nil, true≢false}
+use Rattle.std.proofs.Common.{◌≡◌, ℕ, zero, suc, ◌+◌, ◌<◌, ◌≤◌, Bool, true, false, List, [], length, subst, sym, ◌∙◌, ap, arith, append-nil}
 use Rattle.std.specs.Prelude.{Option, None, Some, Result, Ok, Err, IfOk, slice_get}
 use Rattle.std.specs.declared.alloc.AllocError.{AllocError}
 use Rattle.lrc_races_trace.specs.declared.event.Event.{Event}

@@ -1,7 +1,13 @@
 -- What is scored is what was kept.
+use Rattle.std.proofs.Common.{subst, sym}
+use Rattle.lrc_races_scored.specs.declared.traced.Traced.{Traced}
+use Rattle.lrc_races_witness.specs.Relations.{AreByLine}
 use Rattle.lrc_races_stream.specs.Score.{lacking}
 use Rattle.lrc_races_stream.proofs.ScoreLemmas.{score_of}
 use Rattle.lrc_races_stream.proofs.score.scored.Goals as goal
+
+pub push_score-requires : goal.push_score-requires
+push_score-requires c = subst (λ (traced : Traced). AreByLine traced.events.items) (sym c.replace-traced.ensures.value) c.requires
 
 pub returns-in-Ok : goal.returns-in-Ok
 returns-in-Ok c =
