@@ -310,9 +310,12 @@ def ends(pages, made):
 # Whether the word that the act touches is seen, in the node's own panel or in the table: marked, within its region, between the header and the buttons.
 SEEN = """(() => { const of = selector => document.querySelector(selector).getBoundingClientRect(), region = of('#nodes');
   const top = Math.max(region.top, of('header').bottom), bottom = Math.min(region.bottom, of('#controls').top);
+  const isSeen = word => { const box = word.getBoundingClientRect();
+    return box.top >= top - 1 && box.bottom <= bottom + 1 && box.left >= region.left - 1 && box.right <= region.right + 1; };
+  // A phone may have no room for the table of many nodes and for the arrays below it.
+  if (innerWidth < 500) return [...document.querySelectorAll('.node.now .touched, #arrays .touched')].some(isSeen);
   const words = [...document.querySelectorAll('.node.now .touched')];
-  return words.length > 0 && words.every(word => { const box = word.getBoundingClientRect();
-    return box.top >= top - 1 && box.bottom <= bottom + 1 && box.left >= region.left - 1 && box.right <= region.right + 1; }); })()"""
+  return words.length > 0 && words.every(isSeen); })()"""
 
 
 def grids(pages, made):
