@@ -85,10 +85,10 @@ module _ (world next : World) (node : ℕ) (l after : Logged) (entry : EntryReco
             let here : length (log_at next n) ≡ length (log_at world n) + 1 =
             subst (λ (m : ℕ). length (log_at next m) ≡ length (log_at world m) + 1) same.1
             (ap length log_here ∙ long ∙ ap (λ (log : List EntryRecord). length log + 1) (sym log_was)) in
-            both ∙ ap (λ (b : Bool). made_by n turns + (cond b 1 0 + 0)) same.0 ∙ omega (arith, counts n, here)
+            both ∙ ap (λ (b : Bool). made_by n turns + (0 + cond b 1 0)) same.0 ∙ omega (arith, counts n, here)
         | inr apart ↦
             let other : n ≢ node = λ e. apart.1 (sym e) in
-            both ∙ ap (λ (b : Bool). made_by n turns + (cond b 1 0 + 0)) apart.0 ∙ omega (arith, counts n, ap length (log_else n other))
+            both ∙ ap (λ (b : Bool). made_by n turns + (0 + cond b 1 0)) apart.0 ∙ omega (arith, counts n, ap length (log_else n other))
       ]
 
 -- ---- all that comes after
