@@ -3,7 +3,8 @@
 use crate::checks::passes;
 use crate::words::{Row, Wanted, first_wrong};
 
-const REFUSED: &[Row] = &[
+/// By a number out of range, and of runs and of lists of acts by their usage.
+const REFUSED_RUNS: &[Row] = &[
     ("plain a.tm --nodes 17", Wanted::BadNumber),
     ("plain a.tm --nodes 0", Wanted::BadNumber),
     ("plain a.tm --steps 0", Wanted::BadNumber),
@@ -145,6 +146,10 @@ const REFUSED: &[Row] = &[
     ),
     ("judge a.acts --memory exact --memory exact", Wanted::Usage),
     ("stats a.tm --from 1", Wanted::Usage),
+];
+
+/// Of `explore` and of the commands behind it, by their usage.
+const REFUSED_SEARCHES: &[Row] = &[
     ("explore a.tm --steps 5", Wanted::Usage),
     ("explore a.tm --memory strict", Wanted::Usage),
     ("explore a.tm --memory lazy --memory lazy", Wanted::Usage),
@@ -291,6 +296,11 @@ const REFUSED: &[Row] = &[
 ];
 
 #[test]
-fn words_are_refused(rt: HostRuntime) {
-    passes(&rt, first_wrong(rt.alloc(), REFUSED));
+fn words_of_runs_are_refused(rt: HostRuntime) {
+    passes(&rt, first_wrong(rt.alloc(), REFUSED_RUNS));
+}
+
+#[test]
+fn words_of_searches_are_refused(rt: HostRuntime) {
+    passes(&rt, first_wrong(rt.alloc(), REFUSED_SEARCHES));
 }
