@@ -21,9 +21,9 @@ pub fn applied(operator: Operator, x: Range, y: Range) -> Range
         Operator::Equal => equal(x, y),
         Operator::NotEqual => opposite(equal(x, y)),
         Operator::Less => less(x, y),
-        Operator::LessOrEqual => opposite(less(y, x)),
+        Operator::LessOrEqual => at_most(x, y),
         Operator::Greater => less(y, x),
-        Operator::GreaterOrEqual => opposite(less(x, y)),
+        Operator::GreaterOrEqual => at_most(y, x),
     }
 }
 
@@ -140,6 +140,19 @@ fn less(x: Range, y: Range) -> Range
         return Range::only(1);
     }
     if y.is_bounded() && y.greatest <= x.least {
+        return Range::only(0);
+    }
+    truths()
+}
+
+// Whether values of the one range are at most those of the other: 1 or 0, or both.
+fn at_most(x: Range, y: Range) -> Range
+    ensures { (a b : ℕ) → IsIn x a → IsIn y b → IsIn result (one_if (nat_le a b)) }
+{
+    if x.is_bounded() && x.greatest <= y.least {
+        return Range::only(1);
+    }
+    if y.is_bounded() && y.greatest < x.least {
         return Range::only(0);
     }
     truths()

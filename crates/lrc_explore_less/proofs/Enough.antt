@@ -1,0 +1,48 @@
+-- What no open state shows, no order shows.
+use Rattle.std.proofs.Common.{◌≡◌, ℕ, List, Bool, true, false, length, refl, sym, ◌∙◌, subst}
+use Rattle.std.specs.Prelude.{None, is_none}
+use Rattle.std.proofs.lemmas.Bool.{true≢false}
+use Rattle.std.proofs.lemmas.Option.{slice_get_within}
+use Rattle.lrc_trace.specs.declared.act.Act.{Act}
+use Rattle.lrc_exec.specs.Plain.{Plain}
+use Rattle.lrc_exec.specs.States.{plain_at}
+use Rattle.lrc_consistency_laws.specs.Racing.{HasNoRace}
+use Rattle.lrc_orders.specs.Stuck.{IsStuck}
+use Rattle.lrc_orders.specs.Verdict.{NeverStuck}
+use Rattle.lrc_orders.specs.Traps.{NeverTraps}
+use Rattle.lrc_orders.proofs.Meetings.{no_race}
+use Rattle.lrc_orders_laws.proofs.GoingOn.{state_fine}
+use Rattle.lrc_orders_live.proofs.Like.{meet_like, stuck_like}
+use Rattle.lrc_orders_undisputed.specs.Findings.{meeting, stuck, Shows}
+use Rattle.lrc_explore.specs.declared.task.Task.{Task}
+use Rattle.lrc_explore.proofs.Reaching.{fine_key}
+use Rattle.lrc_explore_less.specs.declared.less.Less.{Less}
+use Rattle.lrc_explore_less.specs.Passing.{AreLess}
+use Rattle.lrc_explore_less.specs.Enough.{AreDone, AreOpenCalm, AreOpenGoing, HasBegun}
+use Rattle.lrc_explore_less.proofs.Looked.{HasTrap, meeting_looked, stuck_looked, trap_looked}
+use Rattle.lrc_explore_less.proofs.Onto.{Open, are_kept}
+use Rattle.lrc_explore_less.proofs.Reduced.{none_shows}
+
+module _ (task : Task) (less : Less) (is : AreLess task less) (begun : HasBegun task less) (done : AreDone task less (length less.opens.items)) where
+  pub never_races : AreOpenCalm task less (length less.opens.items) → HasNoRace task.program.now task.flat.nodes
+  never_races calm = no_race task.program.now task.flat.nodes (λ machine reached p q meet.
+      none_shows task.program.now task.flat.nodes (Open task less is begun done) (λ l m. Shows meeting l m) (are_kept task less is begun done) meeting_looked
+      (λ past there o met.
+      let s = o.stood in
+      calm o.index o.place s.key (slice_get_within less.opens.items o.index o.place o.is_open) o.is_open s.there met.0 met.1 (meet_like s.alike met.0 met.1 met.2))
+      reached.order reached.acts machine reached.led (p, q, meet))
+
+  pub never_sticks : AreOpenGoing task less (length less.opens.items) → NeverStuck task.program.now task.flat.nodes
+  never_sticks going order gets =
+      none_shows task.program.now task.flat.nodes (Open task less is begun done) (λ l m. Shows stuck l m) (are_kept task less is begun done) stuck_looked
+      (λ past there o halted.
+      let s = o.stood in
+      going o.index o.place s.key (slice_get_within less.opens.items o.index o.place o.is_open) o.is_open s.there
+      (stuck_like there (plain_at task.flat s.key.state) (state_fine o.state)
+      (fine_key task s.key (is.sound.found.reached.each o.place s.key s.there)) s.alike halted))
+      order gets.acts gets.machine gets.led gets.stuck
+
+  pub never_trapping : is_none less.trap ≡ true → NeverTraps task.program.now task.flat.nodes
+  never_trapping none order traps =
+      none_shows task.program.now task.flat.nodes (Open task less is begun done) HasTrap (are_kept task less is begun done) trap_looked
+      (λ past there o trapped. true≢false (sym trapped ∙ o.trapless none)) order traps.acts traps.machine traps.led traps.traps

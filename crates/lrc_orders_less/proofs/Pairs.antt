@@ -1,0 +1,62 @@
+-- Pairs of threads of which something is known, where threads are added or a pair is.
+use Rattle.std.proofs.Common.{◌≡◌, ◌∙◌, ℕ, List, [], ◌∷◌, ◌++◌, Bool, true, false, inl, inr, refl, sym, ap, subst}
+use Rattle.std.specs.Prelude.{Some, None, nat_eq, slice_get, slice_index}
+use Rattle.std.proofs.lemmas.Bool.{and_parts, eqb-true}
+use Rattle.std.proofs.lemmas.Option.{same_Some}
+use Rattle.lrc_exec.specs.declared.spot.Flat.{Flat}
+use Rattle.lrc_exec.specs.declared.spot.Spot.{Spot}
+use Rattle.lrc_exec.specs.declared.state.State.{State}
+use Rattle.lrc_orders.specs.Kept.{Grows}
+use Rattle.lrc_orders.proofs.Keeping.{stands_on}
+use Rattle.lrc_orders.proofs.Gathering.{put_all}
+use Rattle.lrc_orders.specs.declared.noted.Noted.{Noted}
+use Rattle.lrc_orders_table.specs.declared.rows.Row.{Row}
+use Rattle.lrc_orders_table.specs.declared.known.Means.{Means}
+use Rattle.lrc_orders_table.specs.declared.table.Table.{Table}
+use Rattle.lrc_orders_table.specs.Nexts.{next_in}
+use Rattle.lrc_orders_table.specs.Tables.{IsRowOf}
+use Rattle.lrc_orders_table.proofs.RowNodes.{node_there}
+use Rattle.lrc_orders_away.specs.Undisputed.{KeepsAway}
+use Rattle.lrc_orders_less.specs.Clash.{clash_by}
+use Rattle.lrc_orders_less.specs.Reaches.{AreReaches, IsClearPair, StaysClear}
+use Rattle.lrc_orders_less.specs.declared.reaches.Pair.{Pair}
+use Rattle.lrc_orders_less.specs.declared.reaches.Reaches.{Reaches}
+use Rattle.lrc_orders_less.specs.contracts.reaches.PairPartialEq.TheImpl.{eq-value as pair_eq}
+
+pub pair_is : (a b : Pair) → pair_eq.it a b ≡ true → a ≡ b
+pair_is a b e =
+    let p = and_parts (nat_eq a.acting b.acting) (nat_eq a.other b.other) e in
+    ap (λ n. record { acting = n; other = a.other }) (eqb-true a.acting b.acting p.0)
+    ∙ ap (λ n. record { acting = b.acting; other = n }) (eqb-true a.other b.other p.1)
+
+pub pair_grown : (flat : Flat) (old new : List Spot) (pair : Pair) → Grows old new → IsClearPair flat old pair → IsClearPair flat new pair
+pair_grown flat old new pair g c = record {
+  acting = c.acting;
+  acting_there = stands_on pair.acting c.acting g c.acting_there;
+  other = c.other;
+  other_there = stands_on pair.other c.other g c.other_there;
+  keeps = c.keeps;
+}
+
+pub reaches_grown : (flat : Flat) (old new : List Spot) (reaches : Reaches) → Grows old new → AreReaches flat old reaches → AreReaches flat new reaches
+reaches_grown flat old new reaches g are k pair known at is = pair_grown flat old new pair g (are k pair known at is)
+
+-- a pair more
+pub reaches_more : (flat : Flat) (threads : List Spot) (old new : Reaches) (pair : Pair) (known : Bool) → AreReaches flat threads old
+    → new.pairs.entries ≡ old.pairs.entries ++ (pair, known) ∷ [] → (known ≡ true → IsClearPair flat threads pair) → AreReaches flat threads new
+reaches_more flat threads old new pair known are is clear k other also at so =
+    put_all (λ n (e : Pair × Bool). e.1 ≡ true → IsClearPair flat threads e.0) false old.pairs.entries new.pairs.entries (pair, known) is
+    (λ n e there. are n e.0 e.1 there) clear k (other, also) at so
+
+-- what is known of a pair is known of the nodes of a row
+pub clear_row : (means : Means) (table : Table) (row : Row) (key : Noted) (node other : ℕ) (pair : Pair) → IsRowOf means table row key
+    → pair.acting ≡ slice_index row.threads node → pair.other ≡ slice_index row.threads other
+    → IsClearPair means.flat table.rows.threads.keys pair → StaysClear means.flat key.state node other
+clear_row means table row key node other pair of acting others c own spot apart here there =
+    let threads = table.rows.threads.keys in
+    let own_is : c.acting ≡ own =
+    same_Some c.acting own (sym c.acting_there ∙ ap (slice_get threads) acting ∙ node_there table row key node own of.stands here) in
+    let spot_is : c.other ≡ spot =
+    same_Some c.other spot (sym c.other_there ∙ ap (slice_get threads) others ∙ node_there table row key other spot of.stands there) in
+    subst (λ (s : Spot). KeepsAway means.flat s own.held (clash_by (next_in means.flat own))) spot_is
+    (subst (λ (s : Spot). KeepsAway means.flat c.other s.held (clash_by (next_in means.flat s))) own_is c.keeps)

@@ -1,0 +1,6 @@
+ghost use Rattle.std.specs.Prelude.{◌≡◌, ℕ};
+
+/// Nothing.
+pub fn nothing()
+    ensures { (a : ℕ) → a ≡ a }
+{}
