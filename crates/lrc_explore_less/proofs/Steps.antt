@@ -1,7 +1,8 @@
 -- What is known once a step was taken, or passed by.
 use Rattle.std.proofs.Common.{◌≡◌, ℕ, ◌+◌, ◌<◌, ◌≤◌, List, [], ◌∷◌, ◌++◌, Bool, true, false, inl, inr, length, refl, sym, ap, ◌∙◌, subst, arith}
 use Rattle.std.specs.Prelude.{Option, Some, None, if◌then◌else◌, is_none, nat_lt, slice_get}
-use Rattle.std.proofs.lemmas.Bool.{cases_eq, cases_lt, true≢false, ltb-true}
+use Rattle.std.proofs.lemmas.Bool.{cases_eq, cases_lt, true≢false}
+use borrow.Author.Tests.{ltb-true}
 use Rattle.std.proofs.lemmas.List.{length_push}
 use Rattle.std.proofs.lemmas.Option.{same_Some, slice_get_within}
 use Rattle.lrc_trace.specs.declared.act.Act.{Act}

@@ -1,5 +1,5 @@
 -- States that are enough: each step from one of them leads on to one of them.
-use Rattle.std.specs.Prelude.{◌≡◌, ℕ, ◌<◌, Bool, true, false, List, Option, Some, None, is_none, length, slice_get}
+use Rattle.std.specs.Prelude.{◌≡◌, ◌↔◌, ℕ, ◌<◌, Bool, true, false, IsTrue, List, Option, Some, None, is_none, length, slice_get}
 use Rattle.lrc_trace.specs.declared.act.Act.{Act}
 use Rattle.lrc_exec.specs.Plain.{Plain, plain_start}
 use Rattle.lrc_exec.specs.States.{plain_at}
@@ -20,6 +20,8 @@ use Rattle.lrc_explore.specs.Answers.{MeetAt}
 use Rattle.lrc_explore.specs.Reached.{HasStart, IsExpandedAt}
 use Rattle.lrc_explore.specs.Traps.{ShowsTrapAt}
 use Rattle.lrc_explore_less.specs.declared.less.Less.{Less}
+use Rattle.lrc_explore_less.specs.declared.seek.Visit.{Visit}
+use Rattle.lrc_explore_less.specs.declared.seek.Visit.TheVariants as visit
 
 -- no node traps in a step from the state at a place
 abbrev pub IsTraplessAt : Task → Rows → (place : ℕ) → Type 0
@@ -70,3 +72,15 @@ pub record IsThrough (task : Task) (less : Less) (races : Bool) (stuck : Option 
 abbrev pub IsEnd : Task → Less → (races : Bool) → End → Type 0
 IsEnd task less races (end.Meeting place p q) = MeetAt task less.found races place p q
 IsEnd task less races (end.Through stuck trap) = IsThrough task less races stuck trap
+
+-- what was seen at an open state, and that every step was taken from it
+pub record IsPast (task : Task) (less : Less) (place : ℕ) (races stuck : Bool) : Type 0 where
+  pub key : Noted
+  pub there : IsRowAt less.found.table.rows place key
+  pub calm : races ≡ true → IsCalm (plain_at task.flat key.state)
+  pub halted : IsTrue stuck ↔ IsStuck (plain_at task.flat key.state)
+  pub done : IsDoneAt task less.found.table.rows (is_none less.trap) place
+
+abbrev pub IsVisit : Task → Less → (place : ℕ) → (races : Bool) → Visit → Type 0
+IsVisit task less place races (visit.Meeting p q) = MeetAt task less.found races place p q
+IsVisit task less place races (visit.Past stuck) = IsPast task less place races stuck

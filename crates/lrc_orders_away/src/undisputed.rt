@@ -56,9 +56,8 @@ fn stays_away(
     keeps_away(alloc, flat, &state.spots[other], &held, deed)
 }
 
-/// Returns whether it is known that a node comes to no act that conflicts with the deed of another node, which holds
-/// these locks, before its next barriers. It fails if memory runs out.
-pub fn keeps_away(
+// Whether it is known that a node comes to no act that conflicts, before its next barriers.
+fn keeps_away(
     alloc: Global,
     flat: &Flat,
     spot: &Spot,

@@ -1,6 +1,7 @@
 -- Pairs of threads of which something is known, where threads are added or a pair is.
 use Rattle.std.proofs.Common.{◌≡◌, ◌∙◌, ℕ, List, [], ◌∷◌, ◌++◌, Bool, true, false, inl, inr, refl, sym, ap, subst}
-use Rattle.std.specs.Prelude.{Some, None, nat_eq, slice_get, slice_index}
+use Rattle.std.specs.Prelude.{Option, Some, None, Vec, nat_eq, slice_get, slice_index}
+use Rattle.std.specs.declared.alloc.Global.{Global}
 use Rattle.std.proofs.lemmas.Bool.{and_parts, eqb-true}
 use Rattle.std.proofs.lemmas.Option.{same_Some}
 use Rattle.lrc_exec.specs.declared.spot.Flat.{Flat}
@@ -18,9 +19,11 @@ use Rattle.lrc_orders_table.specs.Tables.{IsRowOf}
 use Rattle.lrc_orders_table.proofs.RowNodes.{node_there}
 use Rattle.lrc_orders_away.specs.Undisputed.{KeepsAway}
 use Rattle.lrc_orders_less.specs.Clash.{clash_by}
-use Rattle.lrc_orders_less.specs.Reaches.{AreReaches, IsClearPair, StaysClear}
+use Rattle.lrc_orders_less.specs.Reaches.{AreReaches, AreTexts, IsClearPair, IsText, StaysClear}
 use Rattle.lrc_orders_less.specs.declared.reaches.Pair.{Pair}
 use Rattle.lrc_orders_less.specs.declared.reaches.Reaches.{Reaches}
+use Rattle.lrc_orders_less.specs.declared.reaches.Text.{Text}
+use Rattle.lrc_orders_reach.specs.declared.standing.Standing.{Standing}
 use Rattle.lrc_orders_less.specs.contracts.reaches.PairPartialEq.TheImpl.{eq-value as pair_eq}
 
 pub pair_is : (a b : Pair) → pair_eq.it a b ≡ true → a ≡ b
@@ -38,15 +41,34 @@ pair_grown flat old new pair g c = record {
   keeps = c.keeps;
 }
 
+pub text_grown : (flat : Flat) (old new : List Spot) (text : Text) (found : Option (Vec Standing Global)) → Grows old new → IsText flat old text found
+    → IsText flat new text found
+text_grown flat old new text found g t = record { spot = t.spot; there = stands_on text.thread t.spot g t.there; reach = t.reach }
+
 pub reaches_grown : (flat : Flat) (old new : List Spot) (reaches : Reaches) → Grows old new → AreReaches flat old reaches → AreReaches flat new reaches
-reaches_grown flat old new reaches g are k pair known at is = pair_grown flat old new pair g (are k pair known at is)
+reaches_grown flat old new reaches g are = record {
+  pairs = λ k pair known at is. pair_grown flat old new pair g (are.pairs k pair known at is);
+  texts = λ k text found at. text_grown flat old new text found g (are.texts k text found at);
+}
 
 -- a pair more
-pub reaches_more : (flat : Flat) (threads : List Spot) (old new : Reaches) (pair : Pair) (known : Bool) → AreReaches flat threads old
-    → new.pairs.entries ≡ old.pairs.entries ++ (pair, known) ∷ [] → (known ≡ true → IsClearPair flat threads pair) → AreReaches flat threads new
-reaches_more flat threads old new pair known are is clear k other also at so =
-    put_all (λ n (e : Pair × Bool). e.1 ≡ true → IsClearPair flat threads e.0) false old.pairs.entries new.pairs.entries (pair, known) is
-    (λ n e there. are n e.0 e.1 there) clear k (other, also) at so
+pub pairs_more : (flat : Flat) (threads : List Spot) (old new : Reaches) (pair : Pair) (known : Bool) → AreReaches flat threads old
+    → new.texts ≡ old.texts → new.pairs.entries ≡ old.pairs.entries ++ (pair, known) ∷ [] → (known ≡ true → IsClearPair flat threads pair)
+    → AreReaches flat threads new
+pairs_more flat threads old new pair known are same is clear = record {
+  pairs = λ k other also at so.
+      put_all (λ n (e : Pair × Bool). e.1 ≡ true → IsClearPair flat threads e.0) false old.pairs.entries new.pairs.entries (pair, known) is
+      (λ n e there. are.pairs n e.0 e.1 there) clear k (other, also) at so;
+  texts = λ k text found at. are.texts k text found (ap (λ t. slice_get t.entries k) (sym same) ∙ at);
+}
+
+-- a text more
+pub texts_more : (flat : Flat) (threads : List Spot) (old new : List (Text × Option (Vec Standing Global))) (text : Text)
+    (found : Option (Vec Standing Global)) → AreTexts flat threads old → new ≡ old ++ (text, found) ∷ [] → IsText flat threads text found
+    → AreTexts flat threads new
+texts_more flat threads old new text found are is one k other more at =
+    put_all (λ n (e : Text × Option (Vec Standing Global)). IsText flat threads e.0 e.1) false old new (text, found) is
+    (λ n e there. are n e.0 e.1 there) one k (other, more) at
 
 -- what is known of a pair is known of the nodes of a row
 pub clear_row : (means : Means) (table : Table) (row : Row) (key : Noted) (node other : ℕ) (pair : Pair) → IsRowOf means table row key

@@ -110,7 +110,9 @@ pub data ComesTo (blocked : List Bool) : Thread → Thread → Type 0 where
 
 -- each thread that a node comes to, before it departs and past no acquire of a blocked lock, waits at a barrier or stands so as one of these
 -- says
+abbrev pub IsReachOf : Flat → (me : ℕ) → (blocked : List Bool) → Spot → List Standing → Type 0
+IsReachOf flat me blocked spot all =
+    (first thread : Thread) → spot_thread flat spot ≡ Some first → ComesTo blocked first thread → (thread.arrived ≡ true) ⊎ StandsIn flat me all thread
+
 abbrev pub IsReach : Follower → Spot → List Standing → Type 0
-IsReach follower spot all =
-    (first thread : Thread) → spot_thread follower.flat spot ≡ Some first → ComesTo follower.blocked.now first thread
-    → (thread.arrived ≡ true) ⊎ StandsIn follower.flat follower.me all thread
+IsReach follower spot all = IsReachOf follower.flat follower.me follower.blocked.now spot all
