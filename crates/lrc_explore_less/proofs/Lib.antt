@@ -4,3 +4,4 @@ pub mod Onto
 pub mod Enough
 pub mod Ways
 pub mod Steps
+pub mod Seeking

@@ -11,9 +11,11 @@ use Rattle.lrc_exec.specs.Plain.{Plain}
 use Rattle.lrc_exec.specs.States.{plain_at}
 use Rattle.lrc_orders.specs.declared.noted.Noted.{Noted}
 use Rattle.lrc_orders.specs.Kept.{Grows, IsAddedAt}
+use Rattle.lrc_orders.specs.Stuck.{GetsStuck, IsStuck}
 use Rattle.lrc_orders.specs.Traps.{has_trap}
+use Rattle.lrc_consistency_laws.specs.Follows.{nodes_of_acts}
 use Rattle.lrc_orders.proofs.Gathering.{put_all}
-use Rattle.lrc_orders.proofs.Keeping.{grows_not, stands_on}
+use Rattle.lrc_orders.proofs.Keeping.{grows_again, grows_not, item_at, stands_on}
 use Rattle.lrc_orders.proofs.Searching.{copy_same}
 use Rattle.lrc_orders_settling.specs.declared.step.Step.{Step}
 use Rattle.lrc_orders_settling.specs.declared.step.Step.TheVariants.{Alone}
@@ -24,17 +26,21 @@ use Rattle.lrc_orders_table.specs.declared.rows.Rows.{Rows}
 use Rattle.lrc_orders_table.specs.Rows.{IsRowAt, WidensRows, row_count}
 use Rattle.lrc_orders_table.proofs.RowLaws.{row_copy, row_grown, row_within, rows_not}
 use Rattle.lrc_orders_less.specs.Reaches.{IsAlwaysUndisputed}
+use Rattle.lrc_orders_less.proofs.Pairs.{reaches_grown as reaches_more}
+use Rattle.lrc_explore.specs.declared.task.Found.{Found}
 use Rattle.lrc_explore.specs.declared.task.Origin.{Origin}
 use Rattle.lrc_explore.specs.declared.task.Task.{Task}
 use Rattle.lrc_explore.specs.declared.task.Trapping.{Trapping}
 use Rattle.lrc_explore.specs.declared.task.Trapping.TheVariants as trapping
-use Rattle.lrc_explore.specs.Reached.{CannotTakeAt, HasAfterAt, IsFrom, LeadsTo}
+use Rattle.lrc_explore.specs.Reached.{AreFound, CannotTakeAt, HasAfterAt, IsFrom, LeadsTo}
 use Rattle.lrc_explore.specs.Traps.{ShowsTrapAt}
+use Rattle.lrc_explore.specs.Told.{LeadTo}
 use Rattle.lrc_explore.proofs.Keys.{has_after}
+use Rattle.lrc_explore.proofs.Reaching.{gets_stuck}
 use Rattle.lrc_explore_less.specs.declared.less.Less.{Less}
 use Rattle.lrc_explore_less.specs.declared.less.Pass.{Pass}
 use Rattle.lrc_explore_less.specs.declared.less.Pass.TheVariants as pass
-use Rattle.lrc_explore_less.specs.Passing.{AreLess, ArePassing, HasNotTaken, HasPassed, HasTaken, IsSound, IsTrap, LeadsOpen, Passes, Reaches, Way, here, on, pass_of, trap_then}
+use Rattle.lrc_explore_less.specs.Passing.{AreFirst, AreLess, ArePassing, HasNotTaken, HasPassed, HasTaken, IsSound, IsTrap, LeadsOpen, Passes, Reaches, Way, here, on, pass_of, trap_then}
 use Rattle.lrc_explore_less.proofs.Ways.{leads_grown, reaches_grown, way_grown, way_on, way_open}
 
 -- ---- a step that was taken
@@ -103,6 +109,17 @@ trap_taken task old mid None true place step w is key at shows = (key, at, (show
 
 pub trap_more : (task : Task) (old new : Rows) (trap : Option Trapping) → WidensRows old new → IsTrap task old trap → IsTrap task new trap
 trap_more task old new trap w is = trap_grown task old new trap w is
+
+-- ---- what is known stays so
+
+pub sound_taken : (task : Task) (old new : Less) (mid : Found) (trap : Option Trapping) → IsSound task old → WidensRows old.found.table.rows mid.table.rows
+    → new ≡ record old { found = new.found; trap = trap } → AreFound task new.found → WidensRows mid.table.rows new.found.table.rows
+    → IsTrap task mid.table.rows trap → IsSound task new
+sound_taken task old new mid trap s w same f v is = subst (IsSound task) (sym same) (record {
+  found = f;
+  reaches = reaches_more task.flat old.found.table.rows.threads.keys new.found.table.rows.threads.keys old.reaches (grows_again w.threads v.threads) s.reaches;
+  trap = trap_grown task mid.table.rows new.found.table.rows trap v is;
+})
 
 -- ---- on the way
 
@@ -201,6 +218,34 @@ opened_less task old new first last p is same more = subst (AreLess task) (sym s
     grown : Grows old.opens.items new.opens.items
     grown = record { more = last ∷ []; is = more }
 
+-- from all states but the last every step is taken
+pub first_passing : (task : Task) (less : Less) (last : ℕ) → IsSound task less → last + 1 ≡ row_count less.found.table.rows
+    → AreFirst less.opens.items last → ArePassing task less last
+first_passing task less last sound is first = record {
+  sound = sound;
+  leads = λ place lt.
+      let (x, at) = item_at less.opens.items place (omega (arith, lt, first.0)) in
+      record { to = x; way = subst (λ n. Way task all calm n x) (first.1 place x at) (here x); index = place; is_open = at };
+  passed = λ place end le to ends.
+      let same : place ≡ end = omega (arith, le, to, ends, is) in subst (Way task all calm place) same (here place);
+  within = λ index place at.
+      let lt = slice_get_within less.opens.items index place at in let same = first.1 index place at in omega (arith, lt, same, first.0);
+  few = omega (arith, first.0);
+  some = omega (arith, is);
+}
+  where
+    all : Rows
+    all = less.found.table.rows
+    calm : Bool
+    calm = is_none less.trap
+
+pub first_more : (opens new : List ℕ) (count : ℕ) → AreFirst opens count → new ≡ opens ++ count ∷ [] → AreFirst new (count + 1)
+first_more opens new count first is = (
+  ap length is ∙ length_push opens count ∙ ap (λ n. n + 1) first.0,
+  λ index place at.
+      put_all (λ k (x : ℕ). x ≡ k) false opens new count is first.1 (sym first.0) index place at,
+)
+
 -- ---- past a step
 
 module _ (task : Task) (old new : Less) (is : AreLess task old) (sound : IsSound task new)
@@ -274,3 +319,14 @@ passed_so task old new first at node put p sound w opens last t known = by_added
         on_passing task old new first p sound w opens calm at put.0 last step a.0 a.1
     by_added false e =
         by_first (subst (IsAddedAt (row_count old.found.table.rows) (row_count new.found.table.rows) put.0) e t.added) (nat_lt put.0 first) refl
+
+-- ---- an order that gets stuck
+
+pub stuck_order : (task : Task) (found : Found) (place : ℕ) (key : Noted) (acts : List Act) (order : List ℕ) → AreFound task found
+    → IsRowAt found.table.rows place key → IsStuck (plain_at task.flat key.state) → LeadTo task found place acts → order ≡ nodes_of_acts acts
+    → GetsStuck task.program.now task.flat.nodes order
+stuck_order task found place key acts order f at is led same =
+    let copy = row_copy found.table.rows place key led.key at led.there in
+    subst (GetsStuck task.program.now task.flat.nodes) (sym same)
+    (gets_stuck task led.key (f.reached.each place led.key led.there) acts led.machine led.led led.alike
+    (subst IsStuck (copy_same task.flat key.state led.key.state copy.state) is))

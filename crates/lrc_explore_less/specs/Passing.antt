@@ -92,6 +92,10 @@ pub record ArePassing (task : Task) (less : Less) (first : ℕ) : Type 0 where
   pub few : length less.opens.items ≤ first
   pub some : first < row_count less.found.table.rows
 
+-- these are the first so many places
+abbrev pub AreFirst : List ℕ → (count : ℕ) → Type 0
+AreFirst opens count = (length opens ≡ count) × ((index place : ℕ) → slice_get opens index ≡ Some place → place ≡ index)
+
 -- what became of passing on
 abbrev pub HasPassed : Task → Less → (first : ℕ) → Pass → Type 0
 HasPassed task less first pass.Open = ArePassing task less first

@@ -5,7 +5,7 @@ ghost use Rattle.lrc_orders_table.specs.Rows.{row_count};
 ghost use Rattle.lrc_orders_table.specs.Tables.{KeepsRows};
 ghost use Rattle.lrc_explore.specs.Answers.{IsFault};
 ghost use Rattle.lrc_explore.specs.Reached.{AreFound, CannotTakeAt, IsMeansOf, IsStepOf, IsTask, LeadsTo};
-ghost use Rattle.lrc_explore.specs.Traps.{ShowsTrapAt, led_traps};
+ghost use Rattle.lrc_explore.specs.Traps.{ShowsTrapAt, led_traps, start_trap};
 ghost use Rattle.lrc_explore_less.specs.Passing.{pass_of, trap_then};
 
 use lrc_explore::task::{Found, Origin, Task, Trapping};
@@ -44,6 +44,13 @@ fn trap_then(trap: Option<Trapping>, traps: bool, origin: Origin) -> Option<Trap
         Some(first) => Some(first),
         None => { if traps { Some(Trapping::Step(origin)) } else { None } }
     }
+}
+
+// Where a node traps first, if it does as the start settles.
+fn start_trap(start: bool) -> Option<Trapping>
+    ensures { result ≡ start_trap start }
+{
+    if start { Some(Trapping::Start) } else { None }
 }
 
 // What steps from rows are taken by.
@@ -107,7 +114,7 @@ impl Less {
     ghost use Rattle.lrc_explore.specs.Reached.{AreFound, HasAfterAt, IsExpandedAt, IsMore, IsNext, IsStepOf, IsTask};
     ghost use Rattle.lrc_explore.specs.Traps.{ShowsTrapAt};
     ghost use Rattle.lrc_explore_less.specs.declared.less.Pass.TheVariants.{On};
-    ghost use Rattle.lrc_explore_less.specs.Passing.{AreLess, ArePassing, HasNotTaken, HasPassed, HasTaken, IsSound};
+    ghost use Rattle.lrc_explore_less.specs.Passing.{AreFirst, AreLess, ArePassing, HasNotTaken, HasPassed, HasTaken, IsSound};
     ghost use Rattle.lrc_explore_less.specs.Enough.{HasBegun, IsDoneAt};
 
     /// Makes a list without states, for this many nodes.
@@ -136,8 +143,23 @@ impl Less {
         ensures faults { IfErr result (IsFault task.now) }
     {
         let traps = self.found.begin(alloc, task)?;
-        self.trap = if traps { Some(Trapping::Start) } else { None };
+        self.trap = start_trap(traps);
+        self.open_first()?;
         self.advance(alloc, task)
+    }
+
+    // Every step is to be taken from all states but the last. (There are none: the start alone was added.)
+    fn open_first(&mut self) -> Result<(), AllocError>
+        requires some { 0 < row_count self.old.found.table.rows }
+        requires opens { self.old.opens.items ≡ [] }
+        ensures opens { OnOk result ((last : ℕ) → last + 1 ≡ row_count self.old.found.table.rows
+            → AreFirst self.new.opens.items last) }
+        ensures others { self.new ≡ record self.old { opens = self.new.opens } }
+    {
+        for place in 0..self.found.table.rows.len() - 1 {
+            self.opens.push(place)?;
+        }
+        Ok(())
     }
 
     /// Finds the states to which every step leads from that at a place.
@@ -208,7 +230,8 @@ impl Less {
         ensures faults { IfErr result (IsFault task.now) }
     {
         let first = self.found.table.rows.len() - 1;
-        while self.found.table.rows.len() <= most_rows(task) {
+        let most = most_rows(task);
+        while self.found.table.rows.len() <= most {
             match self.pass(alloc, task, first)? {
                 Pass::On => {}
                 Pass::Joined => return Ok(()),
