@@ -5,3 +5,4 @@ pub mod Enough
 pub mod Ways
 pub mod Steps
 pub mod Seeking
+pub mod Expanding

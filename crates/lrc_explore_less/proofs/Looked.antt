@@ -9,6 +9,7 @@ use Rattle.lrc_trace.specs.declared.act.Deed.TheVariants.{Quiet, Print, Read, Wr
 use Rattle.lrc_trace.specs.Run.{act_of}
 use Rattle.lrc_exec.specs.Plain.{Plain, plain_step, plain_from}
 use Rattle.lrc_consistency_laws.proofs.Plainly.{one_more}
+use Rattle.lrc_orders.specs.Meeting.{Meet}
 use Rattle.lrc_orders.specs.Stuck.{IsAtRest}
 use Rattle.lrc_orders.specs.Traps.{has_trap, is_trap}
 use Rattle.lrc_orders_laws.specs.Free.{TurnsAt}
@@ -37,10 +38,15 @@ ahead_shows finding past made machine there held advances order acts final run s
     (record { order = order; acts = acts; final = final; led = run; short = omega arith; shows = shows }) in
     record { order = c.order; acts = c.acts; final = c.final; led = c.led; short = c.short; good = c.shows }
 
+meeting_kept : (old new : List Act) (final new_final : Plain) → ((p q : ℕ) → Meet final p q → Meet new_final p q) → Shows meeting old final
+    → Shows meeting new new_final
+meeting_kept old new final new_final on (p, q, meet) = (p, q, on p q meet)
+
 pub meeting_looked : IsLookedFor (λ l m. Shows meeting l m)
 meeting_looked = record {
-  follows = λ acts new final new_final f (p, q, meet). (p, q, f.meets p q meet);
-  drops = λ past machine after final node deed order acts step turns run d (p, q, meet). (p, q, d.meets p q meet);
+  follows = λ acts new final new_final f is. meeting_kept acts new final new_final f.meets is;
+  drops = λ past machine after final node deed order acts step turns run d is.
+      meeting_kept (past ++ act_of node deed ∷ acts) (past ++ d.new_acts) final d.new_final d.meets is;
   ahead = ahead_shows meeting;
 }
 

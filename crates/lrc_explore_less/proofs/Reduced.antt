@@ -1,4 +1,4 @@
--- Where undisputed acts lead from the settled states on to some of them that show nothing, no order shows anything.
+-- Where undisputed acts lead from the settled states on to some of them, what some order shows one of these shows.
 use Rattle.std.proofs.Common.{◌≡◌, ℕ, zero, suc, ◌+◌, ◌≤◌, List, [], ◌∷◌, ◌++◌, inl, inr, Bool, true, false, length, refl, sym, ap, ◌∙◌, subst, arith, append_assoc}
 use Rattle.std.specs.Prelude.{Some}
 use Rattle.std.proofs.lemmas.List.{append-nil}
@@ -21,7 +21,7 @@ use Rattle.lrc_orders_laws.proofs.Held.{Held, held_at_start}
 use Rattle.lrc_orders_laws.proofs.Diamond.{true_is_false}
 use Rattle.lrc_orders_laws.proofs.Front.{Follows, follows_behind}
 use Rattle.lrc_orders_laws.proofs.Turning.{Dropped, dropped}
-use Rattle.lrc_orders_laws.proofs.Finishing.{all_may_finish, free_steady}
+use Rattle.lrc_orders_laws.proofs.Finishing.{AllFinish, all_may_finish, free_steady}
 use Rattle.lrc_orders_laws.proofs.Settle.{settle, settling_free, along}
 use Rattle.lrc_orders_laws.proofs.Aligned as barriers
 use Rattle.lrc_orders_laws.proofs.Aligned.{aligned_at_start, at_barrier, all_wait, aligned_past}
@@ -105,14 +105,23 @@ pub record AreKept (program : Program) (nodes : ℕ) (Open : List Act → Plain 
   pub onward : (past acts : List Act) (machine after : Plain) → Open past machine → Leads machine acts after → Onto Open (past ++ acts) after
   pub begins : (acts : List Act) (machine : Plain) → Settles (plain_start program nodes) acts machine → Onto Open acts machine
 
+-- what is to be shown may be known only once each node's free acts come to an end
+abbrev pub MayFinish : (Goal : Type 0) → (Good : List Act → Plain → Type 0) → Type 0
+MayFinish Goal Good =
+    (machine : Plain) (order : List ℕ) (total acts : List Act) (final : Plain) → plain_from machine order ≡ Some (acts, final) → Good total final
+    → (AllFinish machine → Goal) → Goal
+
+pub may_finish : (Good : List Act → Plain → Type 0) → MayFinish ⊥ Good
+may_finish Good machine order total acts final run good go = all_may_finish machine go
+
 module _ (program : Program) (nodes : ℕ) (Open Good : List Act → Plain → Type 0) (kept : AreKept program nodes Open) (looked : IsLookedFor Good)
-    (none : (past : List Act) (machine : Plain) → Open past machine → Good past machine → ⊥) where
+    (Goal : Type 0) (finish : MayFinish Goal Good) (shown : (past : List Act) (machine : Plain) → Open past machine → Good past machine → Goal) where
   abbrev FromOpen : ℕ → Type 0
   FromOpen most = (past : List Act) (machine : Plain) → Open past machine → (order : List ℕ) (acts : List Act) (final : Plain) → length order ≤ most
-      → plain_from machine order ≡ Some (acts, final) → Good (past ++ acts) final → ⊥
+      → plain_from machine order ≡ Some (acts, final) → Good (past ++ acts) final → Goal
 
   from_onto : (most : ℕ) → FromOpen most → (past : List Act) (machine : Plain) → Held machine → Onto Open past machine → (order : List ℕ) (acts : List Act)
-      (final : Plain) → length order ≤ most → plain_from machine order ≡ Some (acts, final) → Good (past ++ acts) final → ⊥
+      (final : Plain) → length order ≤ most → plain_from machine order ≡ Some (acts, final) → Good (past ++ acts) final → Goal
   from_onto most next past machine held onto order acts final le run good =
       let a = looked.ahead past onto.made machine onto.there held onto.advances order acts final run good in
       next (past ++ onto.made) onto.there onto.open_there a.order a.acts a.final (let short = a.short in omega (arith, short, le)) a.led a.good
@@ -120,8 +129,8 @@ module _ (program : Program) (nodes : ℕ) (Open Good : List Act → Plain → T
   -- from where a step has begun
   settle_on : (most : ℕ) → FromOpen most → (past begun : List Act) (machine mid : Plain) → Open past machine → Fine mid
       → ((made : List Act) (there : Plain) → Settles mid made there → Leads machine (begun ++ made) there) → (order : List ℕ) (acts : List Act)
-      (final : Plain) → length order ≤ most → plain_from mid order ≡ Some (acts, final) → Good (past ++ (begun ++ acts)) final → ⊥
-  settle_on most next past begun machine mid is fine leads order acts final le run good = all_may_finish mid (λ fin.
+      (final : Plain) → length order ≤ most → plain_from mid order ≡ Some (acts, final) → Good (past ++ (begun ++ acts)) final → Goal
+  settle_on most next past begun machine mid is fine leads order acts final le run good = finish mid order (past ++ (begun ++ acts)) acts final run good (λ fin.
       let st = settle mid fin in
       let al = along st.settles fine.held order acts final run in
       let onto = kept.onward past (begun ++ st.acts) machine st.final is (leads st.acts st.final st.settles) in
@@ -137,7 +146,7 @@ module _ (program : Program) (nodes : ℕ) (Open Good : List Act → Plain → T
       → length order ≤ most → plain_from machine (x ∷ order) ≡ Some (acts, final) → (deed : Deed) (after : Plain) (more : List Act)
       → plain_step machine x ≡ Some (deed, after) → plain_from after order ≡ Some (more, final) → acts ≡ act_of x deed ∷ more
       → (s : Stepped machine x deed after) → Good (past ++ acts) final → (contended free : Bool) → is_contended deed ≡ contended
-      → is_free (next_of s.thread) ≡ free → ⊥
+      → is_free (next_of s.thread) ≡ free → Goal
   -- a read, a write or an acquire begins a step
   by_kind most next past machine is x order acts final le run deed after more first rest acts_are s good true free e f =
       settle_on most next past (act_of x deed ∷ []) machine after is (fine_after machine (kept.fine past machine is) x deed after s (contended_no_depart deed e))
@@ -168,7 +177,7 @@ module _ (program : Program) (nodes : ℕ) (Open Good : List Act → Plain → T
   from_open : (most : ℕ) → FromOpen most
   from_open most past machine is [] acts final le run good =
       let same = some_pair_parts [] acts machine final run in
-      none past machine is
+      shown past machine is
       (subst (λ l. Good l machine) (append-nil past) (subst (λ l. Good (past ++ l) machine) (sym same.0) (subst (Good (past ++ acts)) (sym same.1) good)))
   from_open zero past machine is (x ∷ order) acts final le run good = absurd (omega (arith, le))
   from_open (suc most) past machine is (x ∷ order) acts final le run good =
@@ -177,9 +186,9 @@ module _ (program : Program) (nodes : ℕ) (Open Good : List Act → Plain → T
       by_kind most (from_open most) past machine is x order acts final (omega (arith, le)) run s.deed s.after s.more s.first s.rest s.acts_are st good
       (is_contended s.deed) (is_free (next_of st.thread)) refl refl
 
-  pub none_shows : (order : List ℕ) (acts : List Act) (final : Plain) → plain_from (plain_start program nodes) order ≡ Some (acts, final)
-      → Good acts final → ⊥
-  none_shows order acts final run good = all_may_finish (plain_start program nodes) (λ fin.
+  pub all_shown : (order : List ℕ) (acts : List Act) (final : Plain) → plain_from (plain_start program nodes) order ≡ Some (acts, final)
+      → Good acts final → Goal
+  all_shown order acts final run good = finish (plain_start program nodes) order acts acts final run good (λ fin.
       let start = plain_start program nodes in
       let fine : Fine start = record { held = held_at_start program nodes; aligned = aligned_at_start program nodes } in
       let st = settle start fin in

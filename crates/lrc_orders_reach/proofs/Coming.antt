@@ -1,16 +1,20 @@
 -- A thread stays among what was followed.
-use Rattle.std.proofs.Common.{◌≡◌, ◌<◌, ◌⊎◌, ◌∙◌, ℕ, List, [], inl, inr, length, get_or, Bool, true, false, refl, sym, ap, subst}
+use Rattle.std.proofs.Common.{◌≡◌, ◌<◌, ◌⊎◌, ◌∙◌, ℕ, List, [], inl, inr, length, get_or, Bool, true, false, refl, sym, ap, subst, arith}
 use Rattle.std.specs.Prelude.{Option, Some, None, slice_get, if◌then◌else◌}
 use Rattle.std.proofs.lemmas.Option.{same_Some, slice_get-get_or, slice_get_within}
 use Rattle.lrc_trace.specs.declared.act.Deed.{Deed}
+use Rattle.lrc_exec.specs.declared.spot.Flat.{Flat}
 use Rattle.lrc_exec.specs.declared.spot.Spot.{Spot}
+use Rattle.lrc_exec.specs.Flat.{rest_at}
 use Rattle.lrc_exec.specs.Meaning.{Thread, Next, departs, next_of}
 use Rattle.lrc_exec.specs.Spots.{spot_thread, thread_at}
 use Rattle.lrc_consistency_laws.specs.Follows.{Goes, quietly, printing, reading, writing, acquiring, releasing, arriving, departing, trapping, ending}
 use Rattle.lrc_orders_reach.specs.declared.ahead.Follower.{Follower}
 use Rattle.lrc_orders_reach.specs.declared.standing.Standing.{Standing}
 use Rattle.lrc_orders_reach.specs.Standing.{ComesTo, there, on, HasSome, IsClosed, IsClosedAt, IsOpen, IsPart, IsReach, IsStep, Stands, StandsIn}
+use Rattle.lrc_ranges.specs.declared.range.Range.{Range}
 use Rattle.lrc_orders_reach.proofs.Afterwards.{next_waiting}
+use Rattle.lrc_orders_reach.proofs.Values.{AreInUpTo, AreWithinUpTo, all_within}
 
 -- one of them covers a standing
 pub has_none : (all : List Standing) → HasSome all None
@@ -26,7 +30,7 @@ pub closed_at : (follower : Follower) (all : List Standing) (standing : Standing
 closed_at follower all standing first second step has_first has_second before after deed stands goes may =
     elim (step before after deed stands goes may) [
       | inl waits ↦ inl waits
-      | inr on ↦ inr (elim on [
+      | inr later ↦ inr (elim later [
         | inl one ↦ has_first follower.flat follower.me after one
         | inr two ↦ has_second follower.flat follower.me after two
       ])
@@ -105,3 +109,31 @@ reached_some follower spot first all on_its_way going stands has closed = reache
     let same : thread_at follower.flat spot ≡ thread =
     ap (λ b. record (thread_at follower.flat spot) { arrived = b }) (sym going) ∙ is in
     inr (has follower.flat follower.me thread (subst (Stands follower.flat follower.me first) same stands)))
+
+-- ---- standings
+
+-- so each covers another whose ranges lie in its own
+pub part_of : (inner outer : Standing) → outer.place ≡ inner.place → length inner.names ≡ length outer.names
+    → AreWithinUpTo (length outer.names) inner.names outer.names → IsPart inner outer
+part_of inner outer same even within flat me thread s = record {
+  rest_is = s.rest_is ∙ ap (rest_at flat.code.now) (sym same);
+  among = record {
+    setting_is = s.among.setting_is;
+    size = s.among.size;
+    values = all_within inner.names outer.names thread.privates even within s.among.values;
+    going = s.among.going;
+  };
+}
+
+-- where a node stands, with its values
+pub stands_with : (flat : Flat) (spot : Spot) (names : List Range) → length spot.privates ≡ 32 → length names ≡ 32 → AreInUpTo 32 names spot.privates
+    → Stands flat spot.me (record { place = spot.place; names = names }) (thread_at flat spot)
+stands_with flat spot names values size are = record {
+  rest_is = refl;
+  among = record {
+    setting_is = refl;
+    size = values;
+    values = λ k range at. are k range (let lt = slice_get_within names k range at in omega (arith, lt, size)) at;
+    going = refl;
+  };
+}

@@ -34,7 +34,7 @@ module _ (follower : Follower) (rest : List Statement) (names : List Range) (bef
   each_by : (statement : Statement) (ahead : Ahead) → IsAhead follower names statement ahead → AllAfter (Comes statement ahead) (next_of_statement before statement rest)
   unfolding Comes
   each_by (Assign name e) ahead told =
-      or_trap_all _ (value_in before e) _ (λ v is may. inr (inl (record {
+      or_trap_all (Comes (Assign name e) ahead) (value_in before e) _ (λ v is may. inr (inl (record {
         setting_is = among.setting_is;
         rest_is = refl;
         size = length-set before.privates name v ∙ among.size;
@@ -43,7 +43,7 @@ module _ (follower : Follower) (rest : List Statement) (names : List Range) (bef
         going = among.going;
       })))
   each_by (Read name e) ahead told =
-      or_trap_all _ (value_in before e) _ (λ w is. below_all _ w _ _ _ (λ v may. inr (inl (record {
+      or_trap_all (Comes (Read name e) ahead) (value_in before e) _ (λ w is. below_all (Comes (Read name e) ahead) w _ _ _ (λ v may. inr (inl (record {
         setting_is = among.setting_is;
         rest_is = refl;
         size = length-set before.privates name v ∙ among.size;
@@ -52,8 +52,8 @@ module _ (follower : Follower) (rest : List Statement) (names : List Range) (bef
         going = among.going;
       }))))
   each_by (Write word e) ahead goes_on =
-      or_trap_all _ (value_in before word) _ (λ w is. or_trap_all _ (value_in before e) _ (λ v is'.
-      below_all _ w _ _ _ (λ may. inr (inl (record {
+      or_trap_all (Comes (Write word e) ahead) (value_in before word) _ (λ w is. or_trap_all (Comes (Write word e) ahead) (value_in before e) _ (λ v is'.
+      below_all (Comes (Write word e) ahead) w _ _ _ (λ may. inr (inl (record {
         setting_is = among.setting_is;
         rest_is = refl;
         size = among.size;
@@ -61,7 +61,7 @@ module _ (follower : Follower) (rest : List Statement) (names : List Range) (bef
         going = among.going;
       })))))
   each_by (Acquire e) ahead (inr goes_on) =
-      or_trap_all _ (value_in before e) _ (λ l is. below_all _ l _ _ _ (else_all _ (holds before l) _ _ (λ may. inr (inl (record {
+      or_trap_all (Comes (Acquire e) ahead) (value_in before e) _ (λ l is. below_all (Comes (Acquire e) ahead) l _ _ _ (else_all (Comes (Acquire e) ahead) (holds before l) _ _ (λ may. inr (inl (record {
         setting_is = among.setting_is;
         rest_is = refl;
         size = among.size;
@@ -69,10 +69,10 @@ module _ (follower : Follower) (rest : List Statement) (names : List Range) (bef
         going = among.going;
       })))))
   each_by (Acquire e) ahead (inl blocked) =
-      or_trap_all _ (value_in before e) _ (λ l is. below_all _ l _ _ _ (else_all _ (holds before l) _ _
+      or_trap_all (Comes (Acquire e) ahead) (value_in before e) _ (λ l is. below_all (Comes (Acquire e) ahead) l _ _ _ (else_all (Comes (Acquire e) ahead) (holds before l) _ _
       (λ may. absurd (open_blocked _ (blocked before.privates l among.values (value_here e l is)) may))))
   each_by (Release e) ahead goes_on =
-      or_trap_all _ (value_in before e) _ (λ l is. below_all _ l _ _ _ (then_all _ (holds before l) _ _ (λ may. inr (inl (record {
+      or_trap_all (Comes (Release e) ahead) (value_in before e) _ (λ l is. below_all (Comes (Release e) ahead) l _ _ _ (then_all (Comes (Release e) ahead) (holds before l) _ _ (λ may. inr (inl (record {
         setting_is = among.setting_is;
         rest_is = refl;
         size = among.size;
@@ -81,14 +81,14 @@ module _ (follower : Follower) (rest : List Statement) (names : List Range) (bef
       })))))
   each_by Barrier ahead by = λ may. inl refl
   each_by (Print e) ahead goes_on =
-      or_trap_all _ (value_in before e) _ (λ v is may. inr (inl (record {
+      or_trap_all (Comes (Print e) ahead) (value_in before e) _ (λ v is may. inr (inl (record {
         setting_is = among.setting_is;
         rest_is = refl;
         size = among.size;
         values = on_in names ahead before.privates goes_on among.values;
         going = among.going;
       })))
-  each_by (If' e p a q b) ahead parted = or_trap_all _ (value_in before e) _ by_value
+  each_by (If' e p a q b) ahead parted = or_trap_all (Comes (If' e p a q b) ahead) (value_in before e) _ by_value
     where
       by_value : (v : ℕ) → value_in before e ≡ Some v → IsOpen follower.blocked.now deeds.Quiet
           → IsLed (setting_of follower) (If' e p a q b) rest ahead (then_does before (chosen v (block a ++ rest) (block b ++ rest)))
@@ -106,7 +106,7 @@ module _ (follower : Follower) (rest : List Statement) (names : List Range) (bef
         values = parted.holds before.privates (suc n) among.values (value_here e (suc n) is) (omega arith);
         going = among.going;
       }))
-  each_by (While' e p a) ahead parted = or_trap_all _ (value_in before e) _ by_value
+  each_by (While' e p a) ahead parted = or_trap_all (Comes (While' e p a) ahead) (value_in before e) _ by_value
     where
       by_value : (v : ℕ) → value_in before e ≡ Some v → IsOpen follower.blocked.now deeds.Quiet
           → IsLed (setting_of follower) (While' e p a) rest ahead (then_does before (chosen v (block a ++ While' e p a ∷ rest) rest))

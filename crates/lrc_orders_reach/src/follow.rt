@@ -203,10 +203,16 @@ fn names_set_at(follower: &Follower<'_>, place: usize) -> [bool; 32] {
     if index >= code.len() {
         return names;
     }
-    if let Statement::While(_, body) = code[index].statement {
-        add_set_all(body, &mut names);
-    }
+    let instruction = &code[index];
+    add_set_in_loop(instruction.statement, &mut names);
     names
+}
+
+// Adds the names that the body of a loop sets; of no other statement any.
+fn add_set_in_loop(statement: &Statement, names: &mut [bool; 32]) {
+    if let Statement::While(_, body) = statement {
+        add_set_all(body, names);
+    }
 }
 
 // Adds the names that a statement sets.

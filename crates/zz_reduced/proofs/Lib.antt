@@ -1,1 +1,2 @@
 pub mod Reduced
+pub mod Looked

@@ -1,5 +1,5 @@
 use Rattle.std.proofs.Common.{refl}
-use Rattle.zz_reduced.proofs.Reduced.{steady_undisputed}
+use Rattle.zz_reduced.proofs.Looked.{trap_looked}
 use Rattle.zz_reduced.proofs.laws.nothing.Goals as goal
 
 pub returns : goal.returns
