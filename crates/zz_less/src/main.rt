@@ -28,7 +28,8 @@ fn counts(alloc: Global, program: &Program, nodes: u32, most: usize) -> Result<(
     let code = Code::new(alloc, program)?;
     let task = task_of(alloc, &code, count, most, false)?;
     let mut less = Less::none(alloc, count as usize);
-    let _end = less.search(alloc, &task, false)?;
+    less.begin(alloc, &task)?;
+    let _end = less.seek(alloc, &task, false)?;
     Ok((less.opens.len(), less.found.table.rows.len(), less.reaches.pairs.len()))
 }
 
