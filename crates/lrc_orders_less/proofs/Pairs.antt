@@ -10,6 +10,8 @@ use Rattle.lrc_exec.specs.declared.state.State.{State}
 use Rattle.lrc_orders.specs.Kept.{Grows}
 use Rattle.lrc_orders.proofs.Keeping.{stands_on}
 use Rattle.lrc_orders.proofs.Gathering.{put_all}
+use Rattle.lrc_orders.proofs.Same.{beq_same, pointwise_same}
+use mathlib.Core.Bool.{beq}
 use Rattle.lrc_orders.specs.declared.noted.Noted.{Noted}
 use Rattle.lrc_orders_table.specs.declared.rows.Row.{Row}
 use Rattle.lrc_orders_table.specs.declared.known.Means.{Means}
@@ -17,7 +19,12 @@ use Rattle.lrc_orders_table.specs.declared.table.Table.{Table}
 use Rattle.lrc_orders_table.specs.Nexts.{next_in}
 use Rattle.lrc_orders_table.specs.Tables.{IsRowOf}
 use Rattle.lrc_orders_table.proofs.RowNodes.{node_there}
+use Rattle.lrc_trace.specs.declared.act.Deed.{Deed}
+use Rattle.lrc_orders_reach.specs.declared.ahead.Follower.{Follower}
+use Rattle.lrc_orders_reach.specs.Standing.{IsReach, IsReachOf}
+use Rattle.lrc_orders_away.specs.Away.{AreAway}
 use Rattle.lrc_orders_away.specs.Undisputed.{KeepsAway}
+use Rattle.lrc_orders_away.proofs.Coming.{keeps_away}
 use Rattle.lrc_orders_less.specs.Clash.{clash_by}
 use Rattle.lrc_orders_less.specs.Reaches.{AreReaches, AreTexts, IsClearPair, IsText, StaysClear}
 use Rattle.lrc_orders_less.specs.declared.reaches.Pair.{Pair}
@@ -25,12 +32,19 @@ use Rattle.lrc_orders_less.specs.declared.reaches.Reaches.{Reaches}
 use Rattle.lrc_orders_less.specs.declared.reaches.Text.{Text}
 use Rattle.lrc_orders_reach.specs.declared.standing.Standing.{Standing}
 use Rattle.lrc_orders_less.specs.contracts.reaches.PairPartialEq.TheImpl.{eq-value as pair_eq}
+use Rattle.lrc_orders_less.specs.contracts.reaches.TextPartialEq.TheImpl.{eq-value as text_eq}
 
 pub pair_is : (a b : Pair) → pair_eq.it a b ≡ true → a ≡ b
 pair_is a b e =
     let p = and_parts (nat_eq a.acting b.acting) (nat_eq a.other b.other) e in
     ap (λ n. record { acting = n; other = a.other }) (eqb-true a.acting b.acting p.0)
     ∙ ap (λ n. record { acting = b.acting; other = n }) (eqb-true a.other b.other p.1)
+
+pub text_is : (a b : Text) → text_eq.it a b ≡ true → a ≡ b
+text_is a b e =
+    let p = and_parts (nat_eq a.thread b.thread) _ e in
+    ap (λ n. record { thread = n; blocked = a.blocked }) (eqb-true a.thread b.thread p.0)
+    ∙ ap (λ l. record { thread = b.thread; blocked = l }) (pointwise_same beq beq_same a.blocked b.blocked p.1)
 
 pub pair_grown : (flat : Flat) (old new : List Spot) (pair : Pair) → Grows old new → IsClearPair flat old pair → IsClearPair flat new pair
 pair_grown flat old new pair g c = record {
@@ -82,3 +96,14 @@ clear_row means table row key node other pair of acting others c own spot apart 
     same_Some c.other spot (sym c.other_there ∙ ap (slice_get threads) others ∙ node_there table row key other spot of.stands there) in
     subst (λ (s : Spot). KeepsAway means.flat s own.held (clash_by (next_in means.flat own))) spot_is
     (subst (λ (s : Spot). KeepsAway means.flat c.other s.held (clash_by (next_in means.flat s))) own_is c.keeps)
+
+-- a text that keeps clear keeps away
+pub clear_text : (flat : Flat) (threads : List Spot) (text : Text) (spot : Spot) (all : List Standing) (follower : Follower) (deed : Deed)
+    → follower.flat ≡ flat → follower.me ≡ spot.me → follower.blocked.now ≡ text.blocked → IsReachOf flat spot.me text.blocked spot all
+    → AreAway follower all deed → KeepsAway flat spot text.blocked deed
+clear_text flat threads text spot all follower deed f m b reach away =
+    let own : IsReach follower spot all =
+    subst (λ x. IsReachOf x follower.me follower.blocked.now spot all) (sym f)
+    (subst (λ x. IsReachOf flat x follower.blocked.now spot all) (sym m) (subst (λ x. IsReachOf flat spot.me x spot all) (sym b) reach)) in
+    subst (λ x. KeepsAway x spot text.blocked deed) f
+    (subst (λ x. KeepsAway follower.flat spot x deed) b (keeps_away follower spot all deed own away))
