@@ -32,7 +32,7 @@ use Rattle.lrc_explore.specs.declared.task.Task.{Task}
 use Rattle.lrc_explore.specs.Reached.{AreReached}
 use Rattle.lrc_explore.proofs.Reaching.{fine_key, notes_onward}
 use Rattle.lrc_explore_less.specs.declared.less.Less.{Less}
-use Rattle.lrc_explore_less.specs.Passing.{AreLess, Passes, Way, here, on}
+use Rattle.lrc_explore_less.specs.Passing.{AreLess, Passes, Way, stays, passing}
 use Rattle.lrc_explore_less.specs.Enough.{AreDone, HasBegun}
 use Rattle.lrc_explore_less.proofs.Reduced.{AreKept, Onto, advances_on, settles_advances}
 
@@ -106,14 +106,14 @@ module _ (task : Task) (all : Rows) (calm : Bool) (reached : AreReached task all
     pub onto : {from to : ℕ} → Way task all calm from to → (index : ℕ) → slice_get opens index ≡ Some to → (past : List Act) (machine : Plain)
         → IsSettledState task.program.now task.flat.nodes past machine → (calm ≡ true → has_trap past ≡ false) → Stood task all from past machine
         → Onto OpenAt past machine
-    onto (here place) index is_open past machine state trapless s = record {
+    onto (stays place) index is_open past machine state trapless s = record {
       made = [];
       there = machine;
       advances = arrived machine;
       open_there = subst (λ l. OpenAt l machine) (sym (append-nil past))
           (record { state = state; trapless = trapless; index = index; place = place; is_open = is_open; stood = s });
     }
-    onto (on place next to p way) index is_open past machine state trapless s =
+    onto (passing place next to p way) index is_open past machine state trapless s =
         let q = passed place next p past machine state s in
         let rest = onto way index is_open (past ++ q.made) q.there q.state (λ e. no_trap_more past q.made (trapless e) (q.trapless e)) q.stood in
         record {

@@ -40,7 +40,7 @@ use Rattle.lrc_explore.proofs.Reaching.{gets_stuck}
 use Rattle.lrc_explore_less.specs.declared.less.Less.{Less}
 use Rattle.lrc_explore_less.specs.declared.less.Pass.{Pass}
 use Rattle.lrc_explore_less.specs.declared.less.Pass.TheVariants as pass
-use Rattle.lrc_explore_less.specs.Passing.{AreFirst, AreLess, ArePassing, HasNotTaken, HasPassed, HasTaken, IsSound, IsTrap, LeadsOpen, Passes, Reaches, Way, here, on, pass_of, trap_then}
+use Rattle.lrc_explore_less.specs.Passing.{AreFirst, AreLess, ArePassing, HasNotTaken, HasPassed, HasTaken, IsSound, IsTrap, LeadsOpen, Passes, Reaches, Way, stays, pass_of, trap_then}
 use Rattle.lrc_explore_less.proofs.Ways.{leads_grown, reaches_grown, way_grown, way_on, way_open}
 
 -- ---- a step that was taken
@@ -167,7 +167,7 @@ module _ (task : Task) (old new : Less) (first : ℕ) (p : ArePassing task old f
       sound = sound;
       leads = leads_still;
       passed = λ place end le to ends. elim (cases_eq place end) [
-        | inl same ↦ subst (Way task all now_calm place) same (here place)
+        | inl same ↦ subst (Way task all now_calm place) same (stays place)
         | inr apart ↦
             let there : next ≡ end = omega (arith, is, more, ends) in
             subst (Way task all now_calm place) there (way_on task all now_calm (way_still place at le (omega (arith, to, apart, ends, more, last)) last) next step)
@@ -225,9 +225,9 @@ first_passing task less last sound is first = record {
   sound = sound;
   leads = λ place lt.
       let (x, at) = item_at less.opens.items place (omega (arith, lt, first.0)) in
-      record { to = x; way = subst (λ n. Way task all calm n x) (first.1 place x at) (here x); index = place; is_open = at };
+      record { to = x; way = subst (λ n. Way task all calm n x) (first.1 place x at) (stays x); index = place; is_open = at };
   passed = λ place end le to ends.
-      let same : place ≡ end = omega (arith, le, to, ends, is) in subst (Way task all calm place) same (here place);
+      let same : place ≡ end = omega (arith, le, to, ends, is) in subst (Way task all calm place) same (stays place);
   within = λ index place at.
       let lt = slice_get_within less.opens.items index place at in let same = first.1 index place at in omega (arith, lt, same, first.0);
   few = omega (arith, first.0);
@@ -279,7 +279,7 @@ module _ (task : Task) (old new : Less) (is : AreLess task old) (sound : IsSound
     sound = sound;
     leads = λ place lt. leads_on place (omega (arith, lt, ends, more));
     passed = λ place end le to at.
-        let same : place ≡ end = omega (arith, le, to, at, ends) in subst (Way task later (is_none new.trap) place) same (here place);
+        let same : place ≡ end = omega (arith, le, to, at, ends) in subst (Way task later (is_none new.trap) place) same (stays place);
     within = λ index place at. let lt = is.within index place (ap (λ l. slice_get l index) (sym same_list) ∙ at) in omega (arith, lt, ends, more);
     few = let few = is.few in omega (arith, few, ends, more, ap length same_list);
     some = omega (arith, ends);

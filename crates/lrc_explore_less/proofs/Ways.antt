@@ -9,7 +9,7 @@ use Rattle.lrc_orders_table.specs.declared.rows.Rows.{Rows}
 use Rattle.lrc_orders_table.specs.Rows.{WidensRows}
 use Rattle.lrc_orders_table.proofs.RowLaws.{row_grown}
 use Rattle.lrc_explore.specs.declared.task.Task.{Task}
-use Rattle.lrc_explore_less.specs.Passing.{LeadsOpen, Passes, Reaches, Way, here, on}
+use Rattle.lrc_explore_less.specs.Passing.{LeadsOpen, Passes, Reaches, Way, stays, passing}
 
 pub reaches_grown : (task : Task) (old new : Rows) (place : ℕ) (step : Step) (traps : Bool) (next : ℕ) → WidensRows old new
     → Reaches task old place step traps next → Reaches task new place step traps next
@@ -35,8 +35,8 @@ module _ (task : Task) (old new : Rows) (calm calm' : Bool) (w : WidensRows old 
   }
 
   pub way_grown : {from to : ℕ} → Way task old calm from to → Way task new calm' from to
-  way_grown (here place) = here place
-  way_grown (on place next to p way) = on place next to (passes_grown place next p) (way_grown way)
+  way_grown (stays place) = stays place
+  way_grown (passing place next to p way) = passing place next to (passes_grown place next p) (way_grown way)
 
   pub leads_grown : (opens opens' : List ℕ) (place : ℕ) → Grows opens opens' → LeadsOpen task old calm opens place → LeadsOpen task new calm' opens' place
   leads_grown opens opens' place g l =
@@ -44,11 +44,11 @@ module _ (task : Task) (old new : Rows) (calm calm' : Bool) (w : WidensRows old 
 
 module _ (task : Task) (all : Rows) (calm : Bool) where
   pub way_on : {from mid : ℕ} → Way task all calm from mid → (next : ℕ) → Passes task all calm mid next → Way task all calm from next
-  way_on (here place) next p = on place next next p (here next)
-  way_on (on place over mid q way) next p = on place over next q (way_on way next p)
+  way_on (stays place) next p = passing place next next p (stays next)
+  way_on (passing place over mid q way) next p = passing place over next q (way_on way next p)
 
   pub way_open : {from mid : ℕ} → Way task all calm from mid → (opens : List ℕ) → LeadsOpen task all calm opens mid → LeadsOpen task all calm opens from
-  way_open (here place) opens l = l
-  way_open (on place next mid p way) opens l =
+  way_open (stays place) opens l = l
+  way_open (passing place next mid p way) opens l =
       let rest = way_open way opens l in
-      record { to = rest.to; way = on place next rest.to p rest.way; index = rest.index; is_open = rest.is_open }
+      record { to = rest.to; way = passing place next rest.to p rest.way; index = rest.index; is_open = rest.is_open }

@@ -53,8 +53,8 @@ pub record Passes (task : Task) (all : Rows) (calm : Bool) (place next : ℕ) : 
 
 -- by several such steps one after another
 pub data Way (task : Task) (all : Rows) (calm : Bool) : ℕ → ℕ → Type 0 where
-  here : (place : ℕ) → Way task all calm place place
-  on : (place next to : ℕ) → Passes task all calm place next → Way task all calm next to → Way task all calm place to
+  stays : (place : ℕ) → Way task all calm place place
+  passing : (place next to : ℕ) → Passes task all calm place next → Way task all calm next to → Way task all calm place to
 
 -- to a state from which every step is taken
 pub record LeadsOpen (task : Task) (all : Rows) (calm : Bool) (opens : List ℕ) (place : ℕ) : Type 0 where
