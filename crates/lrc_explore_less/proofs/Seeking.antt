@@ -2,6 +2,7 @@
 use Rattle.std.proofs.Common.{◌≡◌, ℕ, ◌+◌, ◌<◌, ◌≤◌, List, Bool, true, false, inl, inr, length, refl, sym, ap, ◌∙◌, subst, arith}
 use Rattle.std.specs.Prelude.{◌↔◌, IsTrue, Option, Some, None, is_none, slice_get}
 use Rattle.std.proofs.lemmas.Bool.{cases_eq, true≢false}
+use Rattle.std.proofs.lemmas.List.{length-append}
 use Rattle.std.proofs.lemmas.Option.{same_Some}
 use Rattle.lrc_trace.proofs.Positions.{slice_get-front}
 use Rattle.lrc_exec.specs.States.{plain_at}
@@ -163,3 +164,6 @@ through task less index races stuck s past = record {
     by_stuck : (o : Option ℕ) → IsStuckOpen task less index o → IsStuckOpen task less (length less.opens.items) o
     by_stuck None h = λ k place key lt at there. h k place key (omega (arith, lt, past)) at there
     by_stuck (Some place) h = h
+
+pub no_shorter : (old new : List ℕ) → Grows old new → length old ≤ length new
+no_shorter old new g = omega (arith, ap length g.is, length-append old g.more)
