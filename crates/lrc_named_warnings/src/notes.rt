@@ -1,6 +1,6 @@
 // The warnings of a named program, in their order.
 
-ghost use Rattle.std.specs.Prelude.{◌≡◌, ◌++◌, IfOk, IsPermutation, IsSortedByKey, OnOk, [], count_by, map, nat_le, slice_index_or};
+ghost use Rattle.std.specs.Prelude.{◌≡◌, ◌++◌, ◌∷◌, IfOk, IsPermutation, IsSortedByKey, OnOk, [], count_by, map, nat_le, slice_index_or};
 ghost use Rattle.std.specs.List.{flat_map};
 ghost use Rattle.lrc_text.specs.Each.{each};
 ghost use Rattle.lrc_named_core.specs.View.{origin_of};
@@ -206,7 +206,14 @@ fn put_unused(
         ≡ notes.old.items ++ each (unused_notes spots.now) (map entry_seen unused.now)) }
 {
     for i in 0..unused.len() {
-        notes.push(note_at(spots, unused[i].name.at, 0, Says::Unused(i)))?;
+        notes.push(unused_note(spots, i, &unused[i]))?;
     }
     Ok(())
+}
+
+// The warning of the unused name of this number.
+fn unused_note(spots: &[Spot], number: usize, entry: &Entry<'_>) -> Note
+    ensures { unused_notes spots.now number (entry_seen entry.now) ≡ result ∷ [] }
+{
+    note_at(spots, entry.name.at, 0, Says::Unused(number))
 }

@@ -137,14 +137,14 @@ fn push_unused_at(
         ++ slice_index_or (map unused_text (map entry_seen unused.now)) number []) }
 {
     if number < unused.len() {
-        push_unused(out, unused[number])
+        push_unused(out, &unused[number])
     } else {
         Ok(())
     }
 }
 
-fn push_unused(out: &mut Vec<u8>, entry: Entry<'_>) -> Result<(), AllocError>
-    ensures { OnOk result (out.new.items ≡ out.old.items ++ unused_text (entry_seen entry.entry)) }
+fn push_unused(out: &mut Vec<u8>, entry: &Entry<'_>) -> Result<(), AllocError>
+    ensures { OnOk result (out.new.items ≡ out.old.items ++ unused_text (entry_seen entry.now)) }
 {
     out.extend_from_slice(sort_words(entry.sort))?;
     out.extend_from_slice(entry.name.bytes)?;

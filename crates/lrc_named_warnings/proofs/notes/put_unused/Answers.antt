@@ -1,4 +1,4 @@
-use Rattle.std.proofs.Common.{sym, append-nil, ap, ◌∙◌, ◌++◌, ◌∷◌, []}
+use Rattle.std.proofs.Common.{sym, append-nil, ap, ◌∙◌, ◌++◌}
 use Rattle.lrc_lint_warned.proofs.Known.{each_all, each_grown}
 use Rattle.lrc_named_entries.specs.View.{entry_seen}
 use Rattle.lrc_named_warnings.specs.Notes.{unused_notes}
@@ -10,7 +10,7 @@ loop-i-init c = sym (append-nil c.args.notes.now.items)
 pub loop-i-preserved : goal.loop-i-preserved
 loop-i-preserved c =
     each_grown (unused_notes c.args.spots.now) entry_seen c.args.unused.now c.loop-i.i c.index-unused-i.result c.args.notes.now.items _ _ c.loop-i-test.true
-    c.index-unused-i.is c.loop-i.invariant (c.in_ok-push.ensures.items ∙ ap (λ n. c.loop-i.notes.items ++ n ∷ []) c.note_at.ensures)
+    c.index-unused-i.is c.loop-i.invariant (c.in_ok-push.ensures.items ∙ ap (λ l. c.loop-i.notes.items ++ l) (sym c.unused_note.ensures))
 
 pub returns : goal.returns
 returns c =
