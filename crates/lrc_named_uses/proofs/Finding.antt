@@ -4,6 +4,10 @@ use Rattle.std.specs.Prelude.{true, false}
 use Rattle.std.specs.List.{enumerate_from, list_any}
 use Rattle.std.proofs.lemmas.List.{drop_all, drop_more}
 
+pub any_seen : {A B : Type 0} (seen : A → B) (test : B → Bool) (items : List A) → list_any (λ item. test (seen item)) items ≡ list_any test (map seen items)
+any_seen seen test [] = refl
+any_seen seen test (item ∷ others) = ap (λ (b : Bool). test (seen item) || b) (any_seen seen test others)
+
 module _ {A S : Type 0} (seen : A → S) (test : S → Bool) (items : List A) where
   from_here : (i : ℕ) (x : A) → i < length items → x ≡ get_or items i x
       → list_any test (map seen (drop i items)) ≡ (test (seen x) || list_any test (map seen (drop (i + 1) items)))

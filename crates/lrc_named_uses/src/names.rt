@@ -1,6 +1,6 @@
 // The names among the tokens of a text.
 
-ghost use Rattle.std.specs.Prelude.{◌≡◌, map};
+ghost use Rattle.std.specs.Prelude.{◌≡◌, drop, map, take};
 ghost use Rattle.lrc_named_tokens.specs.View.{lexeme_of, located_of};
 ghost use Rattle.lrc_named_tree.specs.View.{expression_of};
 ghost use Rattle.lrc_named_uses.specs.Names.{is_name, tokens_between, tokens_in};
@@ -26,19 +26,22 @@ pub(crate) fn tokens_in<'a, 't>(
     ensures { map located_of result.now
         ≡ tokens_in (map located_of tokens.entry.now) (expression_of expression.now) }
 {
-    between(
-        tokens,
-        expression.first() as usize,
-        expression.last() as usize,
-    )
+    between(tokens, expression.first(), expression.last())
 }
 
 // The tokens from the first to the last one.
-fn between<'a, 't>(tokens: &'a [Located<'t>], first: usize, last: usize) -> &'a [Located<'t>]
+fn between<'a, 't>(tokens: &'a [Located<'t>], first: u32, last: u32) -> &'a [Located<'t>]
     ensures { map located_of result.now
         ≡ tokens_between (map located_of tokens.entry.now) first last }
 {
-    let rest = &tokens[first.min(tokens.len())..];
-    let count = last.saturating_add(1).saturating_sub(first);
+    let from = first as usize;
+    part(tokens, from, (last as usize + 1).saturating_sub(from))
+}
+
+// The tokens from a place on, at most so many.
+fn part<'a, 't>(tokens: &'a [Located<'t>], from: usize, count: usize) -> &'a [Located<'t>]
+    ensures { result.now ≡ take count (drop from tokens.entry.now) }
+{
+    let rest = &tokens[from.min(tokens.len())..];
     &rest[..count.min(rest.len())]
 }

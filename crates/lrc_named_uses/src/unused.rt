@@ -56,8 +56,8 @@ fn is_used(tokens: &[Located<'_>], declarations: &[Declaration<'_>], name: Name<
     ensures { result ≡ is_used (map located_of tokens.now) (map declaration_of declarations.now)
         (named_of name.entry) }
 {
-    for i in 0..tokens.len() {
-        if is_use(declarations, name, i, tokens[i].lexeme) {
+    for (i, token) in tokens.iter().enumerate() {
+        if is_use(declarations, name, i, token.lexeme) {
             return true;
         }
     }

@@ -1,9 +1,8 @@
 -- What is warned of in a named program, and where.
-use Rattle.std.specs.Prelude.{ℕ, ◌-◌, ◌==◌, Bool, false, List, [], ◌∷◌, ◌++◌, count_by, if◌then◌else◌, map, nat_le, slice_index_or}
-use Rattle.std.specs.List.{flat_map}
+use Rattle.std.specs.Prelude.{ℕ, ◌-◌, ◌==◌, Bool, false, Option, None, Some, List, [], ◌∷◌, ◌++◌, count_by, if◌then◌else◌, length, map, nat_le, slice_get, slice_index_or}
+use Rattle.std.specs.List.{flat_map, range_with_len}
 use Rattle.std.specs.declared.cmp.Ordering.{Ordering}
 use Rattle.std.specs.Ordering.{nat_cmp, ordering_then}
-use Rattle.lrc_text.specs.Each.{each}
 use Rattle.lrc_lint_warned.specs.declared.found.Kind.{Kind}
 use Rattle.lrc_lint_warned.specs.declared.found.Kind.TheVariants.{LearnsNothing, NeverRead, NeverSet}
 use Rattle.lrc_lint_warnings.specs.declared.warning.Says as core_says
@@ -62,13 +61,21 @@ warned_notes c w = says_notes c w.column w.says
 abbrev pub loop_note : List Spot → ℕ → Note
 loop_note spots token = note_at spots token 0 OfLoop
 
--- a name that nothing uses, where it is declared
-abbrev pub unused_notes : List Spot → ℕ → Entry → List Note
-unused_notes spots number entry = note_at spots entry.name.at 0 (Unused number) ∷ []
+-- where a name is declared
+abbrev pub entry_token : Option Entry → ℕ
+entry_token None = 0
+entry_token (Some entry) = entry.name.at
+
+-- the one of this number of the names that nothing uses, where it is declared, and all of them
+abbrev pub unused_note : List Spot → List Entry → ℕ → Note
+unused_note spots unused number = note_at spots (entry_token (slice_get unused number)) 0 (Unused number)
+
+abbrev pub unused_notes : List Spot → List Entry → List Note
+unused_notes spots unused = map (unused_note spots unused) (range_with_len 0 (length unused))
 
 -- all warnings of a named program, where this is warned of in its core
 abbrev pub notes_of : Context → List Warning → List Note
-notes_of c warned = flat_map (warned_notes c) warned ++ map (loop_note c.spots) c.loops ++ each (unused_notes c.spots) c.unused
+notes_of c warned = flat_map (warned_notes c) warned ++ map (loop_note c.spots) c.loops ++ unused_notes c.spots c.unused
 
 -- ---- their order
 

@@ -1,5 +1,5 @@
 -- The words of warnings.
-use Rattle.std.specs.Prelude.{ℕ, List, [], ◌++◌, codes, map, slice_index_or}
+use Rattle.std.specs.Prelude.{ℕ, Option, None, Some, List, [], ◌++◌, codes, slice_get, slice_index_or}
 use Rattle.lrc_labels.specs.Reading.{Label}
 use Rattle.lrc_lint_warned.specs.declared.found.Kind.{Kind}
 use Rattle.lrc_lint_warned.specs.declared.found.Kind.TheVariants.{DivisionByZero, LearnsNothing, NoSuchLock, NoSuchWord}
@@ -48,7 +48,11 @@ sort_text sorts.Function = codes "function "
 abbrev pub unused_text : Entry → List ℕ
 unused_text entry = sort_text entry.sort ++ entry.name.bytes ++ codes " is never used"
 
+abbrev pub unused_words : Option Entry → List ℕ
+unused_words None = []
+unused_words (Some entry) = unused_text entry
+
 abbrev pub says_text : Context → Says → List ℕ
 says_text c (OfCore kind statement) = core_text (slice_index_or c.origins statement no_origin).trap kind c.names c.labels
 says_text c OfLoop = loop_text
-says_text c (Unused number) = slice_index_or (map unused_text c.unused) number []
+says_text c (Unused number) = unused_words (slice_get c.unused number)

@@ -1,12 +1,11 @@
 // The warnings of a named program, in their order.
 
-ghost use Rattle.std.specs.Prelude.{◌≡◌, ◌++◌, ◌∷◌, IfOk, IsPermutation, IsSortedByKey, OnOk, [], count_by, map, nat_le, slice_index_or};
+ghost use Rattle.std.specs.Prelude.{◌≡◌, ◌++◌, IfOk, IsPermutation, IsSortedByKey, OnOk, [], count_by, map, nat_le, slice_get, slice_index_or};
 ghost use Rattle.std.specs.List.{flat_map};
-ghost use Rattle.lrc_text.specs.Each.{each};
 ghost use Rattle.lrc_named_core.specs.View.{origin_of};
 ghost use Rattle.lrc_named_entries.specs.View.{entry_seen};
 ghost use Rattle.lrc_named_warnings.specs.Context.{context_seen, no_origin, no_spot};
-ghost use Rattle.lrc_named_warnings.specs.Notes.{is_of_own, is_own, key_of, key_order, kind_notes, loop_note, note_at, notes_of, statement_around, unused_notes, warned_notes};
+ghost use Rattle.lrc_named_warnings.specs.Notes.{entry_token, is_of_own, is_own, key_of, key_order, kind_notes, loop_note, note_at, notes_of, statement_around, unused_note, unused_notes, warned_notes};
 
 use crate::context::Context;
 use crate::note::{Note, Says, rank};
@@ -203,17 +202,27 @@ fn put_unused(
     unused: &[Entry<'_>],
 ) -> Result<(), AllocError>
     ensures { OnOk result (notes.new.items
-        ≡ notes.old.items ++ each (unused_notes spots.now) (map entry_seen unused.now)) }
+        ≡ notes.old.items ++ unused_notes spots.now (map entry_seen unused.now)) }
 {
     for i in 0..unused.len() {
-        notes.push(unused_note(spots, i, &unused[i]))?;
+        notes.push(unused_note(spots, unused, i))?;
     }
     Ok(())
 }
 
 // The warning of the unused name of this number.
-fn unused_note(spots: &[Spot], number: usize, entry: &Entry<'_>) -> Note
-    ensures { unused_notes spots.now number (entry_seen entry.now) ≡ result ∷ [] }
+fn unused_note(spots: &[Spot], unused: &[Entry<'_>], number: usize) -> Note
+    ensures { result ≡ unused_note spots.now (map entry_seen unused.now) number }
 {
-    note_at(spots, entry.name.at, 0, Says::Unused(number))
+    note_at(spots, token_at(unused, number), 0, Says::Unused(number))
+}
+
+// Where the name of this number is declared.
+fn token_at(unused: &[Entry<'_>], number: usize) -> u32
+    ensures { result ≡ entry_token (slice_get (map entry_seen unused.now) number) }
+{
+    match unused.get(number) {
+        Some(entry) => entry.name.at,
+        None => 0,
+    }
 }

@@ -1,13 +1,13 @@
 // The words of warnings.
 
-ghost use Rattle.std.specs.Prelude.{◌≡◌, ◌++◌, [], OnOk, map, slice_index_or};
+ghost use Rattle.std.specs.Prelude.{◌≡◌, ◌++◌, OnOk, map, slice_get};
 ghost use Rattle.lrc_labels.specs.Reading.{label_seen};
 ghost use Rattle.lrc_lint_warnings.specs.Words.{kind_text};
 ghost use Rattle.lrc_named_core.specs.View.{trap_of};
 ghost use Rattle.lrc_named_entries.specs.View.{entry_seen};
 ghost use Rattle.lrc_named_warnings.specs.Context.{context_seen};
 ghost use Rattle.lrc_named_warnings.specs.declared.note.Says.TheVariants.{OfCore};
-ghost use Rattle.lrc_named_warnings.specs.Words.{asserted_text, core_text, index_text, indexed_text, loop_text, says_text, sort_text, unused_text};
+ghost use Rattle.lrc_named_warnings.specs.Words.{asserted_text, core_text, index_text, indexed_text, loop_text, says_text, sort_text, unused_text, unused_words};
 
 use crate::context::Context;
 use crate::note::Says;
@@ -134,12 +134,11 @@ fn push_unused_at(
     number: usize,
 ) -> Result<(), AllocError>
     ensures { OnOk result (out.new.items ≡ out.old.items
-        ++ slice_index_or (map unused_text (map entry_seen unused.now)) number []) }
+        ++ unused_words (slice_get (map entry_seen unused.now) number)) }
 {
-    if number < unused.len() {
-        push_unused(out, &unused[number])
-    } else {
-        Ok(())
+    match unused.get(number) {
+        Some(entry) => push_unused(out, entry),
+        None => Ok(()),
     }
 }
 
