@@ -1,11 +1,14 @@
 -- What is told of a text, by what was found in it.
-use Rattle.std.proofs.Common.{◌≡◌, ◌⊎◌, ℕ, List, Some, refl, subst}
+use Rattle.std.proofs.Common.{◌≡◌, ◌⊎◌, ℕ, List, Option, Some, None, MatchOption, Result, Ok, Err, IfOk, refl, subst}
 use Rattle.std.specs.Prelude.{slice_index}
 use Rattle.lrc_lang.specs.declared.fault.FaultKind.{FaultKind}
 use Rattle.lrc_lang.specs.declared.fault.FaultKind.TheVariants as kinds
+use Rattle.lrc_lint_fault.specs.declared.linted.Linted.{Linted}
+use Rattle.lrc_text.specs.Parts.{whole_text}
 use Rattle.lrc_named_tokens.specs.Token.{Located, Place}
 use Rattle.lrc_named_tree.specs.Tree.{NamedTree}
 use Rattle.lrc_named_parse.specs.Faults.{HasFirstFault, IsNamed}
+use Rattle.lrc_named_names.specs.Names.{Declared}
 use Rattle.lrc_named_names.specs.View.{declared_of}
 use Rattle.lrc_named_expression_faults.specs.declared.fault.Fault.{Fault}
 use Rattle.lrc_named_expression_faults.specs.Fault.{IsFirstOf}
@@ -71,3 +74,22 @@ warned file text printed t tree layout core origins owns parsed clean from tells
   core_is = from.is;
   tells = subst (λ o. TellsCore file t tree (declared_of layout.names) core o printed) from.origins_are tells;
 }
+
+-- what is told of a core is told of the same core
+pub told_same : (file : List ℕ) (t : List Located) (tree : NamedTree) (declared : List Declared) (core same : List ℕ) (origins others : List Origin)
+    (printed : List ℕ) → same ≡ core → others ≡ origins → TellsCore file t tree declared same others printed → TellsCore file t tree declared core origins printed
+told_same file t tree declared core same origins others printed one other h =
+    subst (λ x. TellsCore file t tree declared core x printed) other (subst (λ x. TellsCore file t tree declared x others printed) one h)
+
+-- ---- what is answered
+
+-- this is told of a text, or it has a fault
+abbrev pub IsAnswer : List ℕ → List ℕ → Option Linted → Type 0
+IsAnswer file text told = MatchOption told (HasFault text) (λ linted. WarnsNamed file text (whole_text linted.parts.items) × (linted.status ≡ 0))
+
+-- none of a text that has a fault as such
+pub nothing_told : {E : Type 0} (file text : List ℕ) (place : Place) (kind : FaultKind) (r : Result (Option Linted) E)
+    → (kind ≡ kinds.NoMemory) ⊎ HasFirstFault text place kind → IfOk r (λ told. (told ≡ None) × (kind ≡ kinds.NoMemory → ⊥)) → IfOk r (IsAnswer file text)
+nothing_told file text place kind (Ok None) found none = text_faulty text place kind found none.1
+nothing_told file text place kind (Ok (Some linted)) found none = absurd (cc)
+nothing_told file text place kind (Err e) found none = tt

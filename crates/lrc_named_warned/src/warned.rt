@@ -69,7 +69,8 @@ fn lint_parsed(
         (λ linted. WarnsNamed file.now text.now (whole_text linted.parts.items)
         × (linted.status ≡ 0))) }
 {
-    match names_of(alloc, program)? {
+    let found = names_of(alloc, program)?;
+    match found {
         Found::Bad(_) => Ok(None),
         Found::Good(layout) => lint_clean(alloc, file, text, tokens, program, &layout),
     }
@@ -91,12 +92,14 @@ fn lint_clean(
         × (linted.status ≡ 0))) }
 {
     let lines = lines_of(alloc, tokens)?;
-    match core_text(alloc, &layout.names, &lines, program)? {
+    let written = core_text(alloc, &layout.names, &lines, program)?;
+    match written {
         Written::Core(core, origins, _) => {
             let linted = lint_core(alloc, file, tokens, program, &layout.names, &core, &origins)?;
             Ok(Some(linted))
         }
-        Written::Over(_) | Written::TooLong => Ok(None),
+        Written::Over(_) => Ok(None),
+        Written::TooLong => Ok(None),
     }
 }
 
@@ -137,12 +140,31 @@ fn lint_both(
         (whole_text linted.parts.items)) }
     ensures status { IfOk result (λ linted. linted.status ≡ 0) }
 {
-    let side = core_side(alloc, core, parsed)?;
     let mut out = Vec::new(alloc);
-    push_both(&mut out, alloc, file, tokens, program, names, origins, &side)?;
+    push_core(&mut out, alloc, file, tokens, program, names, core, origins, parsed)?;
     let mut parts = Vec::new(alloc);
     parts.push(out)?;
     Ok(Linted { parts, status: 0 })
+}
+
+fn push_core(
+    out: &mut Vec<u8>,
+    alloc: Global,
+    file: &[u8],
+    tokens: &[Located<'_>],
+    program: &NamedProgram<'_>,
+    names: &Names<'_, '_>,
+    core: &[u8],
+    origins: &[Origin<'_>],
+    parsed: &Program,
+) -> Result<(), AllocError>
+    requires program { IsText core.now (core_program_of parsed.now) }
+    requires empty { out.old.items ≡ [] }
+    ensures { OnOk result (TellsCore file.now (map located_of tokens.now) (program_of program.now)
+        (declared_of names.now) core.now (map origin_of origins.now) out.new.items) }
+{
+    let side = core_side(alloc, core, parsed)?;
+    push_both(out, alloc, file, tokens, program, names, origins, &side)
 }
 
 // Adds what is told by what the core has to say, and by the text of the named program.
