@@ -63,10 +63,7 @@ fn put_block<'t>(deeds: &mut Vec<Deed<'t>>, block: &[Statement<'t>]) -> Result<(
 
 // Adds what a statement does, and what those of its blocks do.
 #[cycle(deeds)]
-fn put_statement<'t>(
-    deeds: &mut Vec<Deed<'t>>,
-    statement: &Statement<'t>,
-) -> Result<(), AllocError>
+fn put_statement<'t>(deeds: &mut Vec<Deed<'t>>, statement: &Statement<'t>) -> Result<(), AllocError>
     ensures { OnOk result (map deed_seen deeds.new.items
         ≡ map deed_seen deeds.old.items ++ deeds_of (statement_of statement.now)) }
 {

@@ -42,7 +42,13 @@ fn is_shared(names: &Names<'_, '_>, tokens: &[Located<'_>], depth: usize, name: 
     match names.meaning(names.place(name)) {
         Some(Meaning::Shared(_)) => true,
         Some(Meaning::Function(parameters, body)) => {
-            some_shared(names, tokens, depth - 1, parameters, tokens_in(tokens, body))
+            some_shared(
+                names,
+                tokens,
+                depth - 1,
+                parameters,
+                tokens_in(tokens, body),
+            )
         }
         Some(Meaning::Constant(_)) | Some(Meaning::Lock(_)) | None => false,
     }

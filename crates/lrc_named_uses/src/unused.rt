@@ -65,12 +65,7 @@ fn is_used(tokens: &[Located<'_>], declarations: &[Declaration<'_>], name: Name<
 }
 
 // Whether a token uses a name that is declared here: it is the name, it is not this one, and it is no parameter.
-fn is_use(
-    declarations: &[Declaration<'_>],
-    name: Name<'_>,
-    at: usize,
-    lexeme: Lexeme<'_>,
-) -> bool
+fn is_use(declarations: &[Declaration<'_>], name: Name<'_>, at: usize, lexeme: Lexeme<'_>) -> bool
     ensures { result ≡ is_use (map declaration_of declarations.now) (named_of name.entry) at
         (lexeme_of lexeme.entry) }
 {

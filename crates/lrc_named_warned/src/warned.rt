@@ -141,7 +141,9 @@ fn lint_both(
     ensures status { IfOk result (λ linted. linted.status ≡ 0) }
 {
     let mut out = Vec::new(alloc);
-    push_core(&mut out, alloc, file, tokens, program, names, core, origins, parsed)?;
+    push_core(
+        &mut out, alloc, file, tokens, program, names, core, origins, parsed,
+    )?;
     let mut parts = Vec::new(alloc);
     parts.push(out)?;
     Ok(Linted { parts, status: 0 })

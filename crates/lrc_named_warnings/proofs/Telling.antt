@@ -1,5 +1,5 @@
 -- What is told of a named program, from its warnings.
-use Rattle.std.proofs.Common.{◌≡◌, ◌∙◌, ℕ, List, ◌++◌, ap, sym, length}
+use Rattle.std.proofs.Common.{◌≡◌, ◌∙◌, ℕ, List, ◌++◌, ap, length}
 use Rattle.std.specs.Prelude.{IsPermutation, IsSortedByKey}
 use Rattle.lrc_lint_lines.specs.Head.{count_text}
 use Rattle.lrc_lint_warnings.specs.declared.warning.Warning.{Warning}

@@ -93,11 +93,7 @@ fn put_unless_told<'l>(
 }
 
 /// Adds the text of these lines.
-pub(crate) fn push_lines(
-    out: &mut Vec<u8>,
-    file: &[u8],
-    lines: &[&Line],
-) -> Result<(), AllocError>
+pub(crate) fn push_lines(out: &mut Vec<u8>, file: &[u8], lines: &[&Line]) -> Result<(), AllocError>
     ensures { OnOk result (out.new.items ≡ out.old.items
         ++ flat_map (line_text file.now) (map (λ line. line_seen line.now) lines.now)) }
 {

@@ -40,11 +40,7 @@ fn sort(notes: &mut Vec<Note>) -> Result<(), AllocError>
 }
 
 // All warnings, with their places.
-fn placed(
-    alloc: Global,
-    context: &Context<'_>,
-    warned: &[Warning],
-) -> Result<Vec<Note>, AllocError>
+fn placed(alloc: Global, context: &Context<'_>, warned: &[Warning]) -> Result<Vec<Note>, AllocError>
     ensures { IfOk result (λ notes. notes.items ≡ notes_of (context_seen context.now) warned.now) }
 {
     let mut notes = Vec::new(alloc);
@@ -97,12 +93,7 @@ fn put_kind(
     }
     let statement = statement_around(context.begins, at);
     let token = origin_at(context.origins, statement).statement;
-    notes.push(note_at(
-        context.spots,
-        token,
-        at,
-        Says::OfCore(kind, statement),
-    ))?;
+    notes.push(note_at(context.spots, token, at, Says::OfCore(kind, statement)))?;
     Ok(())
 }
 
@@ -196,11 +187,7 @@ fn put_loops(notes: &mut Vec<Note>, spots: &[Spot], loops: &[u32]) -> Result<(),
     Ok(())
 }
 
-fn put_unused(
-    notes: &mut Vec<Note>,
-    spots: &[Spot],
-    unused: &[Entry<'_>],
-) -> Result<(), AllocError>
+fn put_unused(notes: &mut Vec<Note>, spots: &[Spot], unused: &[Entry<'_>]) -> Result<(), AllocError>
     ensures { OnOk result (notes.new.items
         ≡ notes.old.items ++ unused_notes spots.now (map entry_seen unused.now)) }
 {

@@ -128,11 +128,7 @@ fn push_of_loop(out: &mut Vec<u8>) -> Result<(), AllocError>
     push_core_words(out, CoreSays::OfText(Kind::LearnsNothing), &[], &[])
 }
 
-fn push_unused_at(
-    out: &mut Vec<u8>,
-    unused: &[Entry<'_>],
-    number: usize,
-) -> Result<(), AllocError>
+fn push_unused_at(out: &mut Vec<u8>, unused: &[Entry<'_>], number: usize) -> Result<(), AllocError>
     ensures { OnOk result (out.new.items ≡ out.old.items
         ++ unused_words (slice_get (map entry_seen unused.now) number)) }
 {
