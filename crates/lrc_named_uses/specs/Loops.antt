@@ -48,8 +48,8 @@ abbrev mutual
   loops_of declared tokens (barrier at) = []
   loops_of declared tokens (print at values) = []
   loops_of declared tokens (assert at e) = []
-  loops_of declared tokens (if_else at e then others otherwise) =
-      loops_in declared tokens then ++ (loops_of_arms declared tokens others ++ loops_in declared tokens otherwise)
+  loops_of declared tokens (if_else at e one others otherwise) =
+      loops_in declared tokens one ++ (loops_of_arms declared tokens others ++ loops_in declared tokens otherwise)
   loops_of declared tokens (while_do at e inside) = waits_at declared tokens at e (deeds_in inside) ++ loops_in declared tokens inside
   loops_of declared tokens (for_do at named first end inside) = loops_in declared tokens inside
 
