@@ -5,7 +5,8 @@ ghost use Rattle.std.specs.List.{flat_map};
 ghost use Rattle.lrc_named_core.specs.View.{origin_of};
 ghost use Rattle.lrc_named_entries.specs.View.{entry_seen};
 ghost use Rattle.lrc_named_warnings.specs.Context.{context_seen, no_origin, no_spot};
-ghost use Rattle.lrc_named_warnings.specs.Notes.{entry_token, is_of_own, is_own, key_of, key_order, kind_notes, loop_note, note_at, notes_of, statement_around, unused_note, unused_notes, warned_notes};
+ghost use Rattle.lrc_named_warnings.specs.Notes.{entry_token, is_of_own, is_own, key_of, key_order, kind_notes};
+ghost use Rattle.lrc_named_warnings.specs.Notes.{loop_note, note_at, notes_of, statement_around, unused_note, unused_notes, warned_notes};
 
 use crate::context::Context;
 use crate::note::{Note, Says, rank};
