@@ -1,38 +1,27 @@
 # Jacobi's method on a grid of 6 by 6 words: each round makes a new grid of the means of the old one. A barrier is missing between
 # the rounds, so a node may read a row that its neighbour has not written yet.
-words 72;   #: words 0 35 old
-locks 0;    #: words 36 71 new
-n = 6;
+nodes 4;
+const SIZE = 6;
+shared grid[2][SIZE][SIZE];
+fn first(k) = 1 + k * (SIZE - 2) / nodes;  # the first row of node k
+
 if me == 0 {
-    j = 0;
-    while j < n {                     # the hot row at the top
-        [j] = 1000;
-        [36 + j] = 1000;
-        j = j + 1;
+    for j in 0..SIZE {                     # the hot row at the top
+        grid[0][0][j] = 1000;
+        grid[1][0][j] = 1000;
     }
 }
 barrier;
-low = 1 + me * (n - 2) / nodes;       # the rows of this node
-high = 1 + (me + 1) * (n - 2) / nodes;
-from = 0;
-to = 36;
-round = 0;
-while round < 2 {
-    i = low;
-    while i < high {
-        j = 1;
-        while j < n - 1 {
-            above = [from + (i - 1) * n + j];
-            below = [from + (i + 1) * n + j];
-            left = [from + i * n + j - 1];
-            right = [from + i * n + j + 1];
-            [to + i * n + j] = (above + below + left + right) / 4;
-            j = j + 1;
+old = 0;
+for round in 0..2 {
+    for i in first(me)..first(me + 1) {
+        for j in 1..SIZE - 1 {
+            above = grid[old][i - 1][j];
+            below = grid[old][i + 1][j];
+            left = grid[old][i][j - 1];
+            right = grid[old][i][j + 1];
+            grid[1 - old][i][j] = (above + below + left + right) / 4;
         }
-        i = i + 1;
     }
-    swapped = from;                   # the barrier belongs here
-    from = to;
-    to = swapped;
-    round = round + 1;
+    old = 1 - old;                         # the barrier belongs here
 }

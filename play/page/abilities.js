@@ -4,6 +4,7 @@
 const text = "words 1; locks 0;\n";
 const questions = {
   exact: ["--memory", "exact", "--outcomes"],
+  exactEvents: ["--memory", "exact", "--outcome", "1", "--as", "events"],
   events: ["--as", "events"],
   tell: ["--as", "events", "--tell", "stuck"],
 };

@@ -13,8 +13,8 @@ _treadmarks_options() {
     stats) echo "--nodes --steps --collect --order --page --events --then --seed --threads" ;;
     chart) echo "--nodes --steps --collect --order --page --events --then --seed --threads --acts --text --from --to --hide --source" ;;
     judge) echo "--nodes --pairs --all --memory --page --collect" ;;
-    races) echo "--as --group --locations --sure --json --strict --why --witness" ;;
-    explore) echo "--nodes --most --outcomes --outcome --memory --tries --ignore-races --ends --as --tell" ;;
+    races) echo "--as --group --locations --sure --json --strict --score --why --witness" ;;
+    explore) echo "--nodes --most --outcomes --outcome --memory --tries --ignore-races --ends --as --tell --page --collect" ;;
     esac
 }
 
@@ -30,8 +30,8 @@ _treadmarks_values() {
     *,--page) echo "64 256" ;;
     *,--hide) echo "quiet" ;;
     judge,--memory) echo "exact" ;;
-    *,--memory) echo "flat lazy" ;;
-    *,--events | *,--acts) echo FILE ;;
+    *,--memory) echo "flat lazy exact" ;;
+    *,--events | *,--acts | *,--score) echo FILE ;;
     *,--threads | *,--messages | *,--text | *,--source | *,--pairs | *,--all | *,--group | *,--locations | *,--sure | *,--json | *,--strict | *,--outcomes | *,--ignore-races | *,--ends) ;;
     *,--*) echo NUMBER ;;
     esac

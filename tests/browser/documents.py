@@ -22,6 +22,7 @@ WORDS = {
     "store_buffering": "{E}/litmus/store_buffering.tm --nodes 2",
     "deadlock": "{S}/deadlock.tm --nodes 2",
     "traps": "{E}/traps.tm --nodes 3",
+    "philosophers": "{S}/philosophers.tm --events {S}/philosophers.events",
     "jacobi": "{S}/jacobi.tm --nodes 4",
     "jacobi_eight": "{S}/jacobi.tm --nodes 8",
     "grids_part": "{E}/named/jacobi.tm --from 250 --to 700",

@@ -12,8 +12,8 @@ from shown import SHOWN, Differs, Looks, arrays_of, moments_of
 
 SIZES = [(1280, 800), (1366, 768), (1920, 1080), (1024, 768)]
 SHOT_AT = {"late": 13, "late_part": 12, "front_part": 4, "counter": 33, "sixteen_part": 277, "collecting": 22, "store_buffering": 3, "deadlock": 9,
-           "traps": 5, "jacobi": 239, "jacobi_eight": 239, "grids_part": 310, "grids_eight_part": 298, "tours_part": 300, "sort_part": 300,
-           "product_part": 200, "arrays": 70, "line": 200}
+           "traps": 5, "jacobi": 226, "jacobi_eight": 239, "grids_part": 310, "grids_eight_part": 298, "tours_part": 300, "sort_part": 300,
+           "product_part": 200, "arrays": 70, "line": 200, "philosophers": 20}
 # Ten steps, drawn and laid out.
 TEN_STEPS = "for (let k = 0; k < 10; k++) { go(1000 + k); document.body.getBoundingClientRect(); }"
 TEXTS = "(selector => [...document.querySelectorAll(selector)].map(element => element.textContent))"
@@ -93,7 +93,7 @@ def states(pages, name, document):
         pages.same(f"{name}: wider than {width}", beyond[:1] if width == 390 else beyond, [0] if width == 390 else [0, 0])
         narrow = browser.value("[...document.querySelectorAll('section.node, .word')].filter(e => e.scrollWidth > e.clientWidth).length")
         pages.same(f"{name}: panels wider than their place, {width}", narrow, 0)
-        if pages.shots and width < 3840:
+        if pages.shots:
             browser.shoot(pages.shots / f"{name}-{width}x{height}.png")
 
 
@@ -282,6 +282,7 @@ def ends(pages, made):
     browser = pages.browser
     browser.size(1366, 768)
     for name, counts, link, headline in (("late", ["1 group of races"], "13", None), ("deadlock", ["1 deadlock"], None, "Deadlock: node 0 waits for node 1"),
+                                         ("philosophers", ["1 deadlock"], None, "Deadlock: node 0 waits for node 1 waits for node 2"),
                                          ("traps", ["3 traps"], None, "Node 0 trapped at line 7: word out of range; Node 1 trapped")):
         url = pages.save(name, made[name])
         last = list(moments_of(documents.lines_of(made[name])))[-1]
@@ -302,14 +303,19 @@ def ends(pages, made):
           return [...document.querySelectorAll('.node.now .word.touched')].every(word => { const box = word.getBoundingClientRect();
             return box.top >= nodes.top - 1 && box.bottom <= nodes.bottom + 1 && box.left >= nodes.left - 1 && box.right <= nodes.right + 1; }); })()""")
         pages.same(f"the word of the act is seen at {turn}", seen, True)
-    pages.same("labels above the columns", "old[" in pages.text("#headings") or "new[" in pages.text("#headings"), True)
+    pages.same("labels above the columns", "grid[" in pages.text("#headings"), True)
     pages.is_quiet("ends")
 
 
-# Whether the word that the act touches is seen, in the node's own panel or in the table: marked, and within its region.
-SEEN = """(() => { const region = document.querySelector('#nodes').getBoundingClientRect(), words = [...document.querySelectorAll('.node.now .touched')];
-  return words.length > 0 && words.every(word => { const box = word.getBoundingClientRect();
-    return box.top >= region.top - 1 && box.bottom <= region.bottom + 1 && box.left >= region.left - 1 && box.right <= region.right + 1; }); })()"""
+# Whether the word that the act touches is seen, in the node's own panel or in the table: marked, within its region, between the header and the buttons.
+SEEN = """(() => { const of = selector => document.querySelector(selector).getBoundingClientRect(), region = of('#nodes');
+  const top = Math.max(region.top, of('header').bottom), bottom = Math.min(region.bottom, of('#controls').top);
+  const isSeen = word => { const box = word.getBoundingClientRect();
+    return box.top >= top - 1 && box.bottom <= bottom + 1 && box.left >= region.left - 1 && box.right <= region.right + 1; };
+  // A phone may have no room for the table of many nodes and for the arrays below it.
+  if (innerWidth < 500) return [...document.querySelectorAll('.node.now .touched, #arrays .touched')].some(isSeen);
+  const words = [...document.querySelectorAll('.node.now .touched')];
+  return words.length > 0 && words.every(isSeen); })()"""
 
 
 def grids(pages, made):
@@ -327,13 +333,34 @@ def grids(pages, made):
             for turn in sorted({touching[k * (len(touching) - 1) // 4] for k in range(5)}):
                 pages.at_turn(turn)
                 pages.looks.moment(browser.value(SHOWN), moments[turn], f"{name} at {turn}, {width}", place_of(name, turns))
-                if width > 1000:
-                    pages.same(f"{name} at {turn}, {width}: the word of the act is seen", browser.value(SEEN), True)
+                pages.same(f"{name} at {turn}, {width}: the word of the act is seen", browser.value(SEEN), True)
         before = browser.busy()
         browser.value(TEN_STEPS.replace("1000", "20"))
         pages.same(f"{name}: stepped in time", (browser.busy() - before) / 10 < 0.1, True)
         pages.is_quiet(name)
     sizes_of_grids(pages, made)
+    opened_at_once(pages, made)
+
+
+def opened_at_once(pages, made):
+    """A page that is opened at a turn shows of the nodes what it shows when one comes to that turn, and in a great window each panel whole."""
+    browser = pages.browser
+    panels_shown = "[...document.querySelectorAll('section.node, #arrays')].map(element => element.innerHTML)"
+    beyond = "(nodes => nodes.scrollHeight - nodes.clientHeight)(document.querySelector('#nodes'))"
+    for name, turn in (("grids_part", 310), ("arrays", 70), ("line", 200)):
+        url = pages.save(name, made[name])
+        for width, height in ((1920, 1080), (3840, 2160)):
+            browser.size(width, height)
+            browser.open(url)
+            pages.at_turn(turn)
+            wanted = browser.value(panels_shown)
+            browser.open(f"{url}#turn={turn}")
+            pages.same(f"{name} opened at {turn}, {width}", browser.value(panels_shown), wanted)
+        pages.same(f"{name} at {turn}: panels beyond a great window", max(browser.value(beyond), 12), 12)
+    browser.size(3840, 2160)
+    browser.open(f"{pages.save('grids_part', made['grids_part'])}#turn=310")
+    whole = [[len(grid["rows"]), len(grid["rows"][0])] for grid in browser.value(SHOWN)["nodes"][0]["grids"]]
+    pages.same("10 by 10 words are whole in a great window", whole, [[11, 11], [11, 11]])
 
 
 def sizes_of_grids(pages, made):
@@ -355,6 +382,7 @@ def part(pages, whole, shorter):
     """A part of a run shows what the whole run shows at the same turns, old values by writes before it too."""
     browser, moments = pages.browser, moments_of(documents.lines_of(whole))
     turns = [turn for turn in moments_of(documents.lines_of(shorter)) if turn is not None]
+    knows(pages, whole)
     browser.size(1280, 800)
     panels_shown = "[...document.querySelectorAll('section.node')].map(element => element.outerHTML)"
     panels = {}
@@ -394,7 +422,7 @@ def hostile(pages, document):
     pages.same("the text", pages.texts("#source code"), wanted.removesuffix("\n").split("\n") + ["# end"])
     pages.same("markup of the text", browser.value("document.querySelectorAll('#source b, #source script, #place b').length"), 0)
     browser.key("End")
-    pages.same("64 bits", "18446744073709551615" in pages.texts("section.node .value"), True)
+    pages.same("64 bits", "18446744073709551615" in pages.texts("section.node .value, section.node td"), True)
     pages.is_quiet("hostile")
 
 
@@ -413,6 +441,7 @@ def empty(pages, document):
 
 def past_the_end(pages, document):
     """No turns either, and nothing is said of the start of the run."""
+    knows(pages, document)
     pages.browser.open(pages.save("past_the_end", document))
     pages.looks.moment(pages.browser.value(SHOWN), moments_of(documents.lines_of(document))[None], "past the end", "")
     pages.same("past the end", pages.text("#headline"), "No turn is shown")

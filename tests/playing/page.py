@@ -26,7 +26,7 @@ sys.path.insert(0, os.path.join(here, "../browser"))
 from browser import Browser
 
 PROGRAMS = ["late.tm", "litmus/dekker.tm", "litmus/bank.tm", "traps.tm", "named"]
-# A program with names, for a program that shows them in all views; else another example.
+# A program with names.
 NAMED = """nodes 2;
 const ROUNDS = 2;
 shared sum, seen[2];
@@ -305,13 +305,12 @@ def check_explore(name, machine):
     same(f"{name}: {told}", told_text(".told"), done.stdout)
     same(f"{name}: status", status, str(done.returncode))
     answers = {re.search(r"--memory (\w+)|$", line)[1] or "flat": machine.play(line) for line in lists.split("\n")}
-    flat, lazy = answers["flat"], answers["lazy"]
     for memory, it in answers.items():
         same(f"{name}: {memory}", value(f"document.querySelector('[data-memory={memory}]').textContent"), it.stdout + it.stderr)
-    outcomes = {memory: [line.split(" # ")[0] for line in it.stdout.splitlines()[1:] if line.startswith("node")] for memory, it in (("flat", flat), ("lazy", lazy))}
+    outcomes = {memory: [line.split(" # ")[0] for line in it.stdout.splitlines()[1:] if line.startswith("node")] for memory, it in answers.items()}
     rows = value("[...document.querySelectorAll('.outcomes tr[data-line]')].map(it => [it.dataset.line, it.className])")
-    same(f"{name}: rows", sorted(line for line, _ in rows), sorted({*outcomes["flat"], *outcomes["lazy"]}))
-    for line, kind in rows if len(answers) == 2 else []:
+    same(f"{name}: rows", sorted(line for line, _ in rows), sorted(set().union(*outcomes.values())))
+    for line, kind in rows if not any(it.stderr for it in answers.values()) else []:
         expected = "both" if line in outcomes["flat"] and line in outcomes["lazy"] else "only-flat" if line in outcomes["flat"] else "only-lazy"
         same(f"{name}: {line}", kind, expected)
     check_opened(name, machine, told, lambda: ask("explore"))
@@ -333,7 +332,14 @@ def check_explore(name, machine):
 
 
 TELLINGS = {"some order gets stuck:": "stuck", "some order traps:": "trap", "some order can no longer end:": "end"}
-says_events = subprocess.run([native, "explore", "-", "--as", "events"], input="words 1; locks 0;\n", capture_output=True, text=True).returncode == 0
+
+
+def says(*words):
+    return subprocess.run([native, "explore", "-", *words, "--as", "events"], input="words 1; locks 0;\n", capture_output=True, text=True).returncode == 0
+
+
+# Of the runs on which memory the program says events.
+SAYS_EVENTS = {"lazy": False, "exact": says("--memory", "exact", "--outcome", "1"), "flat": says()}
 
 
 def orders_in(text):
@@ -346,7 +352,7 @@ def check_opened(name, machine, told, again):
     """Each order that is told is opened in Choose, by the events that the program says for it, where it says them; then Explore is asked again."""
     titles = [title for title, _ in orders_in(machine.play(told).stdout)]
     count = value("document.querySelectorAll('.told .opens').length")
-    same(f"{name}: which orders can be opened", count, len(titles) if says_events else 0)
+    same(f"{name}: which orders can be opened", count, len(titles) if SAYS_EVENTS["flat"] else 0)
     nodes = re.search(r" --nodes \d+|$", told)[0]
     for k in range(count):
         events = machine.play(f"{told} --as events" + (f" --tell {TELLINGS[titles[k]]}" if count > 1 else "")).stdout
@@ -396,13 +402,13 @@ def check_orders():
 
 
 def check_opened_outcome(name, machine):
-    """A run of one flat memory with an outcome is opened likewise; of those of the lazy memory the program says no events."""
-    for memory in ("lazy", "flat"):
+    """A run with an outcome is opened likewise, where the program says events of the runs of that memory."""
+    for memory in SAYS_EVENTS:
         cell = f"[title*='on the {memory} memory']"
         if value(f"!!document.querySelector({json.dumps(cell)})"):
             click(cell)
             can_be_opened = value("!!document.querySelector('.outcome-acts .opens')")
-            hold(f"{name}: whether a {memory} run can be opened", can_be_opened == (says_events and memory == "flat"), can_be_opened)
+            hold(f"{name}: whether a {memory} run can be opened", can_be_opened == SAYS_EVENTS[memory], can_be_opened)
     if value("!!document.querySelector('.outcome-acts .opens')"):
         events = machine.play(f"{heading('.outcome-acts')[0][0]} --as events").stdout.splitlines()
         click(".outcome-acts .opens")
@@ -488,12 +494,11 @@ def check_guess(name, machine, options):
 def check_programs():
     for program in PROGRAMS:
         file = os.path.basename(program)
-        if program == "named" and subprocess.run([native, "step", "-"], input=NAMED, text=True, capture_output=True).returncode != 1:
+        if program == "named":
             file, text = "named.tm", NAMED
             drop("named.tm", NAMED)
             set_fields(nodes="")
         else:
-            program, file = ("counter.tm", "counter.tm") if program == "named" else (program, file)
             example(file)
             with open(f"{examples}/{program}") as opened:
                 text = opened.read()
@@ -639,6 +644,17 @@ def lint_shown(file, text):
     return [int(fault[1])] if fault else []
 
 
+def check_turns(name, machine):
+    """The views that go through a run turn by turn."""
+    ask("step")
+    check_step(f"{name} step", machine)
+    ask("why")
+    click(".acts button")
+    check_why(f"{name} why", machine, re.sub(r"^treadmarks \w+ | --as.*", "", heading()[0][0]))
+    ask("guess")
+    check_guess(f"{name} guess", machine, re.sub(r"^treadmarks \w+ ", "", heading()[0][0]))
+
+
 def check_named():
     """Programs with names are chosen, run on as many nodes as they say, and looked at as what a machine runs; what is wrong with one stands under its line."""
     noted = "[...document.getElementById('text').children].flatMap((it, k) => it.dataset.note ? [k + 1] : [])"
@@ -656,16 +672,8 @@ def check_named():
         hold(f"{file}: nodes as the text says", "--nodes" not in line, line)
         check_run(f"{file} named", Native(text, file))
         same(f"{file}: notes", value(noted), lint_shown(file, text))
-        press_text("#result .fields", "Open it")
-        same(f"{file}: its core is opened", editor_text(), Native(text, file).play(f"treadmarks core {file}").stdout)
-        ask("step")
-        (line, status), = heading()
-        core = f"{file[:-3]}_core.tm"
-        asked = f"treadmarks step {core} --nodes {re.search(r'^nodes (.*);', text, re.M)[1]}"
-        same(f"{file}: its core on as many nodes", line[:len(asked)], asked)
-        done = Native(editor_text(), core).play(line)
-        check_errors(f"{file}: its core", done)
-        same(f"{file}: its core turn by turn", document_text() if done.stdout else "", done.stdout)
+        if file in ("bank.tm", "peterson.tm"):
+            check_turns(f"{file} named", Native(text, file))
     for fault, place in (("conut = sum;\nprint conut + cuont;\n", 13), ("sum = ;\n", 12), ("mutex = 1;\n", 12), ("if sum > 1 and { }\n", 12)):
         open_page()
         drop("faulty.tm", NAMED + fault)

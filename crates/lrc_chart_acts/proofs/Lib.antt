@@ -1,2 +1,4 @@
 pub mod Filling
 pub mod Tables
+mod Closing
+mod Marking

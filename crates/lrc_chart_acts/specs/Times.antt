@@ -11,6 +11,10 @@ use Rattle.lrc_text.specs.Each.{each}
 use Rattle.lrc_chart_build.specs.Course.{shown_act}
 use Rattle.lrc_chart_build.specs.declared.part.Place.{Place}
 
+-- the act at k is known at the position or stands there
+abbrev pub is_known : Order → (position k : ℕ) → Bool
+is_known order position k = (k == position) || is_before order k position
+
 -- the act at k closes an interval of the node, and is known at the position or stands there
 abbrev pub is_closed : Order → List Act → (position node k : ℕ) → Bool
 is_closed order acts position node k =
@@ -33,3 +37,17 @@ time_if order acts nodes places position act =
 
 abbrev pub times_known : Order → List Act → (nodes : ℕ) → List Place → List (List ℕ)
 times_known order acts nodes places = each (time_if order acts nodes places) acts
+
+-- ---- the acts that close an interval, by nodes
+
+-- the position of an act of the node that closes an interval
+abbrev pub closing_at : (node k : ℕ) → Act → List ℕ
+closing_at node k act = if (act.node == node) && closes act.deed then k ∷ [] else []
+
+-- the positions of the node's acts that do so, in order
+abbrev pub closings : List Act → (node : ℕ) → List ℕ
+closings acts node = each (closing_at node) acts
+
+-- the same of each of the first nodes
+abbrev pub all_closings : List Act → (nodes : ℕ) → List (List ℕ)
+all_closings acts nodes = flat_map (λ node. closings acts node ∷ []) (range_with_len 0 nodes)

@@ -2,6 +2,7 @@
 //! a row. An arrow shows that a lock passes from one node to another, if nothing else orders the two acts.
 #![tactic(auto)]
 
+mod closings;
 mod direct;
 mod fault;
 pub mod laws;

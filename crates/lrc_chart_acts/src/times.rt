@@ -1,97 +1,90 @@
 // The times of acts, by what happens before what.
 
-ghost use Rattle.std.specs.Prelude.{◌≡◌, ◌<◌, ◌≤◌, ◌+◌, All, IfOk, if◌then◌else◌, is_some};
+ghost use Rattle.std.specs.Prelude.{◌≡◌, ◌<◌, ◌≤◌, ◌||◌, ℕ, All, IfOk, false, if◌then◌else◌, is_some, length, map, slice_index_or};
 ghost use Rattle.lrc_judge.specs.declared.TheConstants.{NODES};
+ghost use Rattle.lrc_judge.specs.Order.{IsOrderOf};
 ghost use Rattle.lrc_time.specs.Time.{zeros};
 ghost use Rattle.lrc_timeline.specs.Timeline.{times_in};
-ghost use Rattle.lrc_trace.specs.Interval.{closes};
 ghost use Rattle.lrc_chart_build.specs.Course.{is_act_at, shown_act};
-ghost use Rattle.lrc_chart_acts.specs.Times.{count_closed, is_closed, time_if, time_known, times_known};
+ghost use Rattle.lrc_chart_acts.specs.Times.{all_closings, time_if, time_known, times_known};
 
+use crate::closings::{all_closings, count_closed};
 use lrc_chart_build::Place;
-use lrc_explain::act_at;
 use lrc_judge::order::Order;
 use lrc_time::Time;
 use lrc_timeline::timeline::Timeline;
-use lrc_trace::act::{Act, Deed};
+use lrc_trace::act::Act;
 use std::alloc::{AllocError, Global};
 
-fn closes(deed: Deed) -> bool
-    ensures { result ≡ closes deed }
-{
-    matches!(deed, Deed::Acquire(_) | Deed::Release(_) | Deed::Arrive)
-}
-
-// Whether the act at k closes an interval of a node, and is known at a position or stands there.
-fn is_closed(order: &Order, acts: &[Act], position: usize, node: u8, k: usize) -> bool
-    ensures { result ≡ is_closed order.now acts.now position node k }
-{
-    let act = act_at(acts, k);
-    act.node == node && closes(act.deed) && (k == position || order.is_before(k, position))
-}
-
-// How many acts do so.
-fn count_closed(order: &Order, acts: &[Act], position: usize, node: u8) -> u32
-    requires { position < 4294967295 }
-    ensures { result ≡ count_closed order.now acts.now position node (position + 1) }
-{
-    let mut count = 0;
-    for k in 0..position + 1 {
-        if is_closed(order, acts, position, node, k) {
-            count += 1;
-        }
-    }
-    count
-}
-
 // The time of the acting node just after the act at a position.
-fn time_known(order: &Order, acts: &[Act], nodes: u8, position: usize) -> Time
+fn time_known(
+    order: &Order,
+    acts: &[Act],
+    closings: &[Vec<usize>],
+    nodes: u8,
+    position: usize,
+) -> Time
     requires some { 1 ≤ nodes }
     requires few { nodes ≤ 16 }
+    requires order { IsOrderOf acts.now order.now }
+    requires closings { map (λ found. found.items) closings.now ≡ all_closings acts.now nodes }
+    requires within { position < length acts.now }
     requires position { position < 4294967295 }
     ensures { result ≡ time_known order.now acts.now nodes position }
 {
     let mut time = Time::new(nodes);
     for node in 0..nodes {
-        time.set(node, count_closed(order, acts, position, node));
+        time.set(node, count_closed(order, acts, closings, position, node));
     }
     time
 }
 
-fn is_act_at(position: usize, act: Option<usize>) -> bool
-    ensures { result ≡ is_act_at position act }
+// Marks the act at a position, if there is one.
+fn mark(marks: &mut Vec<bool>, act: Option<usize>)
+    ensures length { length marks.new.items ≡ length marks.old.items }
+    ensures marks { (k : ℕ) → k < length marks.old.items
+        → slice_index_or marks.new.items k false
+        ≡ (slice_index_or marks.old.items k false || is_act_at k act) }
 {
-    match act {
-        Some(act) => act == position,
-        None => false,
+    if let Some(act) = act {
+        if act < marks.len() {
+            marks[act] = true;
+        }
     }
 }
 
-// The place of the row of the act at a position, if it is shown.
-fn place_of(places: &[Place], position: usize) -> Option<usize>
-    ensures { result ≡ shown_act places.now position }
+// Of each of so many acts whether it is shown.
+fn marks_of(alloc: Global, count: usize, places: &[Place]) -> Result<Vec<bool>, AllocError>
+    ensures length { IfOk result (λ marks. length marks.items ≡ count) }
+    ensures marks { IfOk result (λ marks. (k : ℕ) → k < count
+        → slice_index_or marks.items k false ≡ is_some (shown_act places.now k)) }
 {
-    places
-        .iter()
-        .position(|place| is_act_at(position, place.act))
+    let mut marks = vec![in alloc; false; count]?;
+    for place in places {
+        mark(&mut marks, place.act);
+    }
+    Ok(marks)
 }
 
-// Whether the act at a position is shown.
-fn is_in(places: &[Place], position: usize) -> bool
-    ensures { result ≡ is_some (shown_act places.now position) }
-{
-    place_of(places, position).is_some()
-}
-
-fn time_if(order: &Order, acts: &[Act], nodes: u8, places: &[Place], position: usize) -> Time
+fn time_if(
+    order: &Order,
+    acts: &[Act],
+    closings: &[Vec<usize>],
+    nodes: u8,
+    is_shown: bool,
+    position: usize,
+) -> Time
     requires some { 1 ≤ nodes }
     requires few { nodes ≤ 16 }
+    requires order { IsOrderOf acts.now order.now }
+    requires closings { map (λ found. found.items) closings.now ≡ all_closings acts.now nodes }
+    requires within { position < length acts.now }
     requires position { position < 4294967295 }
-    ensures { result ≡ (if is_some (shown_act places.now position) then time_known order.now
-        acts.now nodes position else zeros nodes) }
+    ensures { result ≡ (if is_shown then time_known order.now acts.now nodes position
+        else zeros nodes) }
 {
-    if is_in(places, position) {
-        time_known(order, acts, nodes, position)
+    if is_shown {
+        time_known(order, acts, closings, nodes, position)
     } else {
         Time::new(nodes)
     }
@@ -109,15 +102,26 @@ pub(crate) fn times_known(
     requires some { 1 ≤ nodes }
     requires few { nodes ≤ 16 }
     requires acts { All (λ act. act.node < NODES) acts.now }
+    requires order { IsOrderOf acts.now order.now }
     ensures { IfOk result
         (λ times. times_in times ≡ times_known order.now acts.now nodes places.now) }
 {
     if acts.len() >= u32::MAX as usize {
         return Err(AllocError);
     }
+    let closings = all_closings(alloc, acts, nodes)?;
+    let marks = marks_of(alloc, acts.len(), places)?;
     let mut times = Timeline::none(alloc);
     for (position, act) in acts.iter().enumerate() {
-        times.push(act.node, &time_if(order, acts, nodes, places, position))?;
+        let time = time_if(
+            order,
+            acts,
+            closings.as_slice(),
+            nodes,
+            marks[position],
+            position,
+        );
+        times.push(act.node, &time)?;
     }
     Ok(times)
 }

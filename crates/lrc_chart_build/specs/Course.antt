@@ -22,9 +22,11 @@ pub record KnownRecord : Type 0 where
   pub pairs : List Pair
   pub labels : List Label
 
--- A run: its turns, in order; its acts, and what is known of them; and for whom each node waits when the run has ended.
+-- A run: its turns, in order; of each turn the pages that become invalid at it; its acts, and what is known of them; and for whom each node
+-- waits when the run has ended.
 pub record CourseRecord : Type 0 where
   pub turns : List Made
+  pub invalid : List (List ℕ)
   pub known : KnownRecord
   pub waits : List (Option ℕ)
 

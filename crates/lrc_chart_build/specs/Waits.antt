@@ -1,9 +1,7 @@
 -- What a turn without an act is for: what its node begins to wait for, and the pages that become invalid at it.
-use Rattle.std.specs.Prelude.{ℕ, ◌==◌, Bool, false, Option, None, Some, List, [], ◌∷◌, ◌++◌, codes, decimal, if◌then◌else◌, take}
+use Rattle.std.specs.Prelude.{ℕ, Bool, false, Option, None, Some, List, [], ◌∷◌, ◌++◌, codes, decimal, if◌then◌else◌, slice_index_or, take}
 use Rattle.std.specs.List.{flat_map, list_any}
 use Rattle.lrc_trace.specs.declared.act.Act.{Act}
-use Rattle.lrc_text.specs.Each.{each}
-use Rattle.lrc_store.specs.Interval.{IntervalRecord}
 use Rattle.lrc_envelope.specs.Envelope.{EnvelopeRecord}
 use Rattle.lrc_envelope.specs.declared.message.Message.{Message}
 use Rattle.lrc_envelope.specs.declared.message.Message.TheVariants as messages
@@ -74,19 +72,6 @@ turn_kind turns position turn = kind_by turns position turn.entry.input turn.ent
 
 -- ---- the pages that become invalid
 
--- the intervals that a grant or a departure tells of
-abbrev pub told_by : Message → List IntervalRecord
-told_by (messages.LockGrant m) = m.intervals
-told_by (messages.Depart m) = m.intervals
-told_by _ = []
-
--- the pages that intervals name, each once, in the order in which they are named first
-abbrev pub named_in : List IntervalRecord → List ℕ
-named_in intervals = flat_map (λ interval. interval.pages) intervals
-
-abbrev pub each_once : List ℕ → List ℕ
-each_once pages = each (λ place page. if list_any (λ other. other == page) (take place pages) then [] else page ∷ []) pages
-
 -- further pages
 abbrev pub listed : List ℕ → List ℕ
 listed pages = flat_map (λ page. codes ", " ++ decimal page) pages
@@ -97,8 +82,6 @@ invalid_words [] = []
 invalid_words (page ∷ []) = codes "page " ++ decimal page ++ codes " invalid"
 invalid_words (page ∷ other ∷ more) = codes "pages " ++ decimal page ++ listed (other ∷ more) ++ codes " invalid"
 
--- the pages that become invalid at a turn at this position: those of which it takes notice, if it takes no repeat
-abbrev pub invalid_text : List Made → (position : ℕ) → Input → List ℕ
-invalid_text turns position run = []
-invalid_text turns position (taken envelope) =
-    if taken_before turns position envelope then [] else invalid_words (each_once (named_in (told_by envelope.message)))
+-- the pages that become invalid at the turn at a position, where these do at each turn
+abbrev pub invalid_text : (invalid : List (List ℕ)) → (position : ℕ) → List ℕ
+invalid_text invalid position = invalid_words (slice_index_or invalid position [])

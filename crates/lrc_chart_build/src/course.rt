@@ -30,19 +30,21 @@ impl<'a> Model for Known<'a> {
     ghost view = { λ k. record { acts = k.acts.now; lines = k.lines.now; times = times_in k.times.now; pairs = k.pairs.now; labels = map label_seen k.labels.now } };
 }
 
-/// A run: its turns in order, its acts with what is known about them, and the node that each node waits for at the end
-/// of the run.
+/// A run: its turns in order, the pages that become invalid at each of them, its acts with what is known about them, and
+/// the node that each node waits for at the end of the run.
 #[derive(Drop)]
 pub struct Course<'a> {
     pub turns: &'a [TurnOf<'a>],
+    pub invalid: &'a [Vec<u16>],
     pub known: Known<'a>,
     pub waits: &'a [Option<usize>],
 }
 
 impl<'a> Model for Course<'a> {
+    ghost use Rattle.std.specs.Prelude.{map};
     ghost use Rattle.lrc_chart_build.specs.Course.{CourseRecord};
 
     ghost Value = { CourseRecord };
 
-    ghost view = { λ c. record { turns = c.turns.now; known = c.known; waits = c.waits.now } };
+    ghost view = { λ c. record { turns = c.turns.now; invalid = map (λ pages. pages.items) c.invalid.now; known = c.known; waits = c.waits.now } };
 }

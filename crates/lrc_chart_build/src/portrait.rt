@@ -94,7 +94,7 @@ fn picture_of(
     Ok(Picture {
         title: Vec::from_slice(alloc, title)?,
         columns: columns_of(alloc, nodes)?,
-        rows: rows_of(alloc, course, &takings, circled.as_slice(), places)?,
+        rows: rows_of(alloc, course, circled.as_slice(), places)?,
         arrows: arrows_of(alloc, course.turns, &takings, places)?,
         lost: lost_of(alloc, course.turns, &takings, places)?,
         bands: bands_of(alloc, known.acts, places)?,

@@ -1,7 +1,6 @@
 // Rows of a picture.
 
 ghost use Rattle.std.specs.Prelude.{◌≡◌, ◌<◌, ◌≤◌, ◌++◌, IfOk, OnOk, length, map, slice_get, take};
-ghost use Rattle.lrc_chart_rows.specs.Takings.{AreTakings};
 ghost use Rattle.lrc_chart_build.specs.Rows.{shown_if, shown_row, shown_rows};
 ghost use Rattle.lrc_chart_build.specs.Seen.{seen_row};
 
@@ -13,22 +12,20 @@ use crate::times::{hint_text, new_time_text};
 use crate::waits::{turn_kind, turn_words};
 use crate::words::{act_closes, act_place_text};
 use lrc_chart_model::Row;
-use lrc_chart_rows::{Takings, TurnOf};
+use lrc_chart_rows::TurnOf;
 use std::alloc::{AllocError, Global};
 
 // The row at a place, which is of this turn.
 fn row_of(
     alloc: Global,
     course: &Course<'_>,
-    takings: &Takings,
     circled: &[usize],
     places: &[Place],
     at: usize,
     place: Place,
     turn: &TurnOf<'_>,
 ) -> Result<Row, AllocError>
-    requires within { at < length places.now }
-    requires takings { AreTakings course.now.turns takings.now }
+    requires { at < length places.now }
     ensures { IfOk result (λ row. seen_row row
         ≡ shown_row course.now circled.now places.now at place turn.now) }
 {
@@ -41,7 +38,7 @@ fn row_of(
         kind: turn_kind(course.turns, place.turn, turn),
         words: turn_words(alloc, course, place, turn)?,
         time: new_time_text(alloc, known, &places[..at], turn.node, place.act)?,
-        invalid: invalid_text(alloc, course.turns, takings, place.turn, &entry.input)?,
+        invalid: invalid_text(alloc, course.invalid, place.turn)?,
         place: act_place_text(alloc, known, turn.node, place.act)?,
         hint: hint_text(alloc, known, place.act)?,
         closes: act_closes(act),
@@ -53,42 +50,35 @@ fn push_row(
     alloc: Global,
     rows: &mut Vec<Row>,
     course: &Course<'_>,
-    takings: &Takings,
     circled: &[usize],
     places: &[Place],
     at: usize,
     place: Place,
 ) -> Result<(), AllocError>
-    requires within { at < length places.now }
-    requires takings { AreTakings course.now.turns takings.now }
+    requires { at < length places.now }
     ensures { OnOk result (map seen_row rows.new.items ≡ map seen_row rows.old.items
         ++ shown_if course.now circled.now places.now at place
         (slice_get course.now.turns place.turn)) }
 {
     if let Some(turn) = turn_at(course.turns, place.turn) {
-        rows.push(row_of(alloc, course, takings, circled, places, at, place, turn)?)?;
+        rows.push(row_of(alloc, course, circled, places, at, place, turn)?)?;
     }
     Ok(())
 }
 
-/// Returns the rows at these places, given from which turn to which each message is taken, and the nodes of the circles
-/// of waiting nodes.
+/// Returns the rows at these places, given the nodes of the circles of waiting nodes.
 pub(crate) fn rows_of(
     alloc: Global,
     course: &Course<'_>,
-    takings: &Takings,
     circled: &[usize],
     places: &[Place],
 ) -> Result<Vec<Row>, AllocError>
-    requires { AreTakings course.now.turns takings.now }
     ensures { IfOk result (λ rows. map seen_row rows.items
         ≡ shown_rows course.now circled.now places.now) }
 {
     let mut rows = Vec::new(alloc);
     for (at, place) in places.iter().enumerate() {
-        push_row(
-            alloc, &mut rows, course, takings, circled, places, at, *place,
-        )?;
+        push_row(alloc, &mut rows, course, circled, places, at, *place)?;
     }
     Ok(rows)
 }

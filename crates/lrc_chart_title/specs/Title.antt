@@ -29,7 +29,7 @@ page_size_text Words256 = codes " --page 256"
 
 -- the options that all runs of the nodes have in common
 abbrev pub options_text : RunOptions → List ℕ
-options_text options = option_text (codes " --nodes ") 1 options.nodes.count
+options_text options = option_text (codes " --nodes ") options.default_nodes.count options.nodes.count
     ++ option_text (codes " --steps ") 1000000 options.steps.count
     ++ option_text (codes " --collect ") 0 options.collect.count
     ++ page_size_text options.size

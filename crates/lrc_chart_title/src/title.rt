@@ -11,8 +11,6 @@ use lrc_page::Size;
 use lrc_text::push_number;
 use std::alloc::{AllocError, Global};
 
-const DEFAULT_NODES: u64 = 1;
-
 const DEFAULT_STEPS: u64 = 1_000_000;
 
 const DEFAULT_COLLECT: u64 = 0;
@@ -94,7 +92,7 @@ fn push_options(text: &mut Vec<u8>, options: &RunOptions<'_>) -> Result<(), Allo
     push_unless(
         text,
         b" --nodes ",
-        DEFAULT_NODES,
+        u64::from(options.default_nodes.count),
         u64::from(options.nodes.count),
     )?;
     push_unless(

@@ -14,8 +14,7 @@ use Rattle.lrc_why_text.specs.declared.fault.WhyFault.TheVariants as why_faults
 use Rattle.lrc_cli.specs.Answer.{Answers, IsActsChartFault, IsFault, IsWhyFault, KeepsRaces, Prints, charted_nodes, foreign_nodes, printed}
 use Rattle.lrc_cli_answer.specs.FaultLine.{fault_of_acts_chart, fault_of_why}
 use Rattle.lrc_cli_runs.specs.Reasoned.{asked_of}
-use Rattle.lrc_cli.specs.Showing.{AnswersAsRead, takes_named}
-use Rattle.lrc_cli.proofs.ShownLemmas.{refused_memory}
+use Rattle.lrc_cli.specs.Showing.{AnswersAsRead}
 use Rattle.lrc_text.specs.Parts.{whole_text}
 use Rattle.lrc_cli_answer.specs.declared.printout.Printout.{Printout}
 use Rattle.lrc_cli.specs.declared.answer.Answered.{Answered}
@@ -50,7 +49,7 @@ pub memory_ran_out : (choice : Choice) (text : List ℕ) (events : Option (List 
 memory_ran_out (Check file) text events = inl tt
 memory_ran_out (Core file) text events = inl tt
 memory_ran_out (Plain run) text events = inl tt
-memory_ran_out (Show run shape) text events = refused_memory (takes_named shape) run shape text events
+memory_ran_out (Show run shape) text events = inl tt
 memory_ran_out (Judge judging) text events = tt
 memory_ran_out (Explore exploring) text events = inl tt
 memory_ran_out (Lint file) text events = refl

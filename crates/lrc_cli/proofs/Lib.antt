@@ -1,3 +1,4 @@
 pub mod AnswerLemmas
+pub mod LintedLemmas
 pub mod ReadingLemmas
 pub mod ShownLemmas

@@ -6,7 +6,7 @@ use Rattle.lrc_exec.specs.Rounds.{AreActsOfRounds}
 use Rattle.lrc_lang.specs.declared.program.Program.{Program}
 use Rattle.lrc_trace.specs.declared.act.Act.{Act}
 use Rattle.lrc_text.specs.Parts.{whole_text}
-use Rattle.lrc_explore.specs.Answers.{FitsSettled, FitsSettledNoted}
+use Rattle.lrc_explore.specs.Answers.{FitsSettled, FitsSettledNoted, MetTooMany}
 use Rattle.lrc_explore_text.specs.Explored.{Explores, MeetsFew, MeetsTooMany}
 use Rattle.lrc_explore_text.specs.Ends.{TellsEnds}
 use Rattle.lrc_explore_text.specs.Orders.{TellsFindings}
@@ -18,6 +18,8 @@ use Rattle.lrc_judge_text.specs.Judgement.{Judges}
 use Rattle.lrc_judge_text.specs.PairsTold.{HasItsRaces, told_text}
 use Rattle.lrc_judge_text.specs.declared.memory.ExactMemory.{ExactMemory}
 use Rattle.lrc_page.specs.Page.{words_of}
+use Rattle.lrc_named.specs.Named.{IsReadAsNamed}
+use Rattle.lrc_named_linted.specs.Linted.{IsUntold, TellsNamed}
 use Rattle.lrc_lint_fault.specs.Told.{TellsNoProgram}
 use Rattle.lrc_lint.specs.Linted.{LintsProgram}
 use Rattle.lrc_why_text.specs.Answers.{AnswersActs, RefusesActs}
@@ -33,7 +35,7 @@ use Rattle.lrc_cli.specs.declared.answer.Answered.TheVariants.{Printed, Judged}
 use Rattle.lrc_cli_args.specs.declared.choice.Choice.{Choice}
 use Rattle.lrc_cli_args.specs.declared.choice.Choice.TheVariants.{Check, Core, Plain, Show, Judge, Explore, Lint, WhyActs, ChartActs}
 use Rattle.lrc_cli.specs.Reading.{HoldsAsRead, IsFaultAsRead, exploring_for, nodes_for}
-use Rattle.lrc_cli.specs.Showing.{RefusesAsRead, ShowsAsRead, takes_named}
+use Rattle.lrc_cli.specs.Showing.{RefusesAsRead, ShowsAsRead}
 use Rattle.lrc_cli_args.specs.declared.choice.Asking.{Asking}
 use Rattle.lrc_cli_args.specs.declared.choice.ChartedActs.{ChartedActs}
 use Rattle.lrc_cli_args.specs.declared.choice.Charting.{Charting}
@@ -43,15 +45,17 @@ use Rattle.lrc_chart_model.specs.declared.picture.Picture.{Picture}
 use Rattle.lrc_cli_runs.specs.Charted.{IsDrawn, part_of}
 use Rattle.lrc_chart_title.specs.Title.{title_text_of_acts}
 use Rattle.lrc_cli_args.specs.declared.choice.ForeignActs.{ForeignActs}
+use Rattle.lrc_cli_args.specs.declared.choice.ExactOptions.{ExactOptions}
 use Rattle.lrc_cli_args.specs.declared.choice.Exploring.{Exploring}
 use Rattle.lrc_cli_args.specs.declared.choice.Memory.{Memory}
-use Rattle.lrc_cli_args.specs.declared.choice.Memory.TheVariants.{Flat, Lazy}
+use Rattle.lrc_cli_args.specs.declared.choice.Memory.TheVariants.{Flat, Lazy, Exact}
 use Rattle.lrc_lazy_text.specs.Listed.{FitLazyRuns, MetTooManyLazily, TellsLazyOutcomes}
 use Rattle.lrc_lazy_text.specs.One.{HasFewerLazyOutcomes, TellsNumberedLazyRun}
 use Rattle.lrc_cli_args.specs.declared.choice.OutcomeNumber.{OutcomeNumber}
 use Rattle.lrc_cli_args.specs.declared.choice.Judging.{Judging}
 use Rattle.lrc_cli_args.specs.declared.choice.Tell.{Tell}
 use Rattle.lrc_cli.specs.Events.{IsEventsAnswer}
+use Rattle.lrc_cli.specs.Exact.{HasExactFault, HasExactRunFault, ShowsExactOutcomes, ShowsExactRun}
 use Rattle.lrc_cli_answer.specs.declared.fault.Fault.{Fault}
 use Rattle.lrc_cli_answer.specs.declared.fault.Fault.TheVariants.{Acts, LongActs, NoAct, NoOutcome, TooManyStates, NoMemory}
 use Rattle.lrc_cli_answer.specs.declared.fault.Fault.TheVariants as printout_faults
@@ -135,12 +139,22 @@ IsLazyAnswer (Some outcome) outcomes exploring wording program places out status
 IsLazyAnswer None true exploring wording program places out status = ShowsLazyOutcomes exploring program out status
 IsLazyAnswer None false exploring wording program places out status = ShowsOrders exploring wording program places out status
 
+-- of the exact memory, likewise
+abbrev pub IsExactAnswer : Option OutcomeNumber → (outcomes : Bool) → ExactOptions → Exploring → Wording → Program → (places : List ℕ) → List ℕ → ℕ
+    → Type 0
+IsExactAnswer (Some outcome) outcomes options exploring wording program places out status =
+    ShowsExactRun options exploring program places outcome.number out status
+IsExactAnswer None true options exploring wording program places out status = ShowsExactOutcomes options exploring program out status
+IsExactAnswer None false options exploring wording program places out status = ShowsOrders exploring wording program places out status
+
 -- of the memory that is asked for
 abbrev pub IsAnswerTo : Memory → Exploring → Wording → Program → (places : List ℕ) → List ℕ → ℕ → Type 0
 IsAnswerTo Flat exploring wording program places out status =
     IsFlatAnswer exploring.outcome exploring.ends exploring.ignores_races exploring wording program places out status
 IsAnswerTo Lazy exploring wording program places out status =
     IsLazyAnswer exploring.outcome exploring.outcomes exploring wording program places out status
+IsAnswerTo (Exact options) exploring wording program places out status =
+    IsExactAnswer exploring.outcome exploring.outcomes options exploring wording program places out status
 
 -- the labels of a text, and what it says of traps
 abbrev pub wording_in : ReadText → Program → Wording
@@ -159,9 +173,23 @@ IsShown None exploring text program out status = IsSaid exploring text program o
 abbrev pub IsExploration : Exploring → ReadText → Program → List ℕ → ℕ → Type 0
 IsExploration exploring text program out status = IsShown exploring.events exploring text program out status
 
--- the text and the status are what `lint` says of the text of this file: that it is no program, or its warnings
+-- the text and the status are what `lint` says of a text of this file that is read as a named program and has a fault: where the first one
+-- is, and how it may be mended
+abbrev pub IsLintedAsNamed : List ℕ → List ℕ → List ℕ → ℕ → Type 0
+IsLintedAsNamed file text out status = IsReadAsNamed text × TellsNamed file text out × (status ≡ 1)
+
+-- the text is of the core, or a named program without a fault or with one of which no hint is told
+abbrev pub IsNotTold : List ℕ → Type 0
+IsNotTold text = (¬ IsReadAsNamed text) ⊎ IsUntold text
+
+-- of a text of the core: that it is no program, or its warnings
+abbrev pub IsLintedAsCore : List ℕ → List ℕ → List ℕ → ℕ → Type 0
+IsLintedAsCore file text out status = (TellsNoProgram file text out × (status ≡ 1)) ⊎ (LintsProgram file text out × (status ≡ 0))
+
+-- of any text
 abbrev pub IsLinted : List ℕ → List ℕ → List ℕ → ℕ → Type 0
-IsLinted file text out status = (TellsNoProgram file text out × (status ≡ 1)) ⊎ (LintsProgram file text out × (status ≡ 0))
+IsLinted file text out status =
+    IsLintedAsNamed file text out status ⊎ (IsNotTold text × IsLintedAsCore file text out status)
 
 -- how many nodes acts from anywhere are of, where that is said
 abbrev pub foreign_nodes : ForeignActs → Option ℕ
@@ -196,7 +224,7 @@ Prints (Check file) text events_text out status = HoldsAsRead text (λ nodes rea
 Prints (Core file) text events_text out status = HoldsAsRead text (λ nodes read. IsCored read.core out status)
 Prints (Plain run) text events_text out status = HoldsAsRead text (λ nodes read. (program : Program) × IsTextOf read.core program
     × IsPrintoutOfRounds program (nodes_for run.nodes_given run.nodes nodes).count run.steps.count out status)
-Prints (Show run shape) text events_text out status = ShowsAsRead (takes_named shape) run shape text events_text out status
+Prints (Show run shape) text events_text out status = ShowsAsRead run shape text events_text out status
 Prints (Judge judging) text events_text out status = IsJudged judging.all judging.pairs judging text out status
 Prints (Explore exploring) text events_text out status = HoldsAsRead text (λ nodes read. (program : Program) × IsTextOf read.core program
     × IsExploration (exploring_for exploring nodes) read program out status)
@@ -255,16 +283,23 @@ HasLazyRunFault exploring program number (TooManyStates most) = (most ≡ explor
 HasLazyRunFault exploring program number NoMemory = Unit {0}
 HasLazyRunFault exploring program number _ = ⊥
 
--- of one that looks for no race, and of one for ends
+-- of one that looks for no race
 abbrev pub HasFindingsFault : Exploring → Program → Fault → Type 0
-HasFindingsFault exploring program (TooManyStates most) = (most ≡ exploring.most.count) × MeetsTooMany program exploring.nodes.count most false
+HasFindingsFault exploring program (TooManyStates most) = (most ≡ exploring.most.count) × MetTooMany program exploring.nodes.count most false false
 HasFindingsFault exploring program NoMemory = Unit {0}
 HasFindingsFault exploring program _ = ⊥
+
+-- of one for ends, and of one for the order of a line, where races are looked for or ignored
+abbrev pub HasLineFault : Exploring → Program → Fault → Type 0
+HasLineFault exploring program (TooManyStates most) =
+    (most ≡ exploring.most.count) × MetTooMany program exploring.nodes.count most false (not exploring.ignores_races)
+HasLineFault exploring program NoMemory = Unit {0}
+HasLineFault exploring program _ = ⊥
 
 -- by what is asked for
 abbrev pub IsFlatFault : Option OutcomeNumber → (ends ignores_races : Bool) → Exploring → Program → Fault → Type 0
 IsFlatFault (Some outcome) ends ignores_races exploring program fault = HasOutcomeFault exploring program outcome.number fault
-IsFlatFault None true ignores_races exploring program fault = HasFindingsFault exploring program fault
+IsFlatFault None true ignores_races exploring program fault = HasLineFault exploring program fault
 IsFlatFault None false true exploring program fault = HasFindingsFault exploring program fault
 IsFlatFault None false false exploring program fault = HasOrdersFault exploring program fault
 
@@ -273,15 +308,21 @@ IsLazyFault (Some outcome) outcomes exploring program fault = HasLazyRunFault ex
 IsLazyFault None true exploring program fault = HasLazyFault exploring program fault
 IsLazyFault None false exploring program fault = HasOrdersFault exploring program fault
 
+abbrev pub IsExactFault : Option OutcomeNumber → (outcomes : Bool) → ExactOptions → Exploring → Program → Fault → Type 0
+IsExactFault (Some outcome) outcomes options exploring program fault = HasExactRunFault options exploring program outcome.number fault
+IsExactFault None true options exploring program fault = HasExactFault options exploring program fault
+IsExactFault None false options exploring program fault = HasOrdersFault exploring program fault
+
 -- the fault of a search through the runs of the memory that is asked for
 abbrev pub IsFaultIn : Memory → Exploring → Program → Fault → Type 0
 IsFaultIn Flat exploring program fault = IsFlatFault exploring.outcome exploring.ends exploring.ignores_races exploring program fault
 IsFaultIn Lazy exploring program fault = IsLazyFault exploring.outcome exploring.outcomes exploring program fault
+IsFaultIn (Exact options) exploring program fault = IsExactFault exploring.outcome exploring.outcomes options exploring program fault
 
 -- the fault of a search for the order whose events are asked for
 abbrev pub IsEventsFault : Option OutcomeNumber → Exploring → Program → Fault → Type 0
 IsEventsFault (Some outcome) exploring program fault = HasOutcomeFault exploring program outcome.number fault
-IsEventsFault None exploring program fault = HasFindingsFault exploring program fault
+IsEventsFault None exploring program fault = HasLineFault exploring program fault
 
 abbrev pub IsFaultOfSearch : Option Tell → Exploring → Program → Fault → Type 0
 IsFaultOfSearch (Some tell) exploring program fault = IsEventsFault exploring.outcome exploring program fault
@@ -295,7 +336,7 @@ abbrev pub IsFault : Choice → List ℕ → Option (List ℕ) → Fault → Typ
 IsFault (Check file) text events_text fault = IsFaultAsRead text fault (λ nodes read. IsTextFault read.core fault)
 IsFault (Core file) text events_text fault = IsFaultAsRead text fault (λ nodes read. IsTextFault read.core fault)
 IsFault (Plain run) text events_text fault = IsFaultAsRead text fault (λ nodes read. IsTextFault read.core fault)
-IsFault (Show run shape) text events_text fault = RefusesAsRead (takes_named shape) run shape text events_text fault
+IsFault (Show run shape) text events_text fault = RefusesAsRead run shape text events_text fault
 IsFault (Judge judging) text events_text fault = IsActsFault (judged_nodes judging) text fault
 IsFault (Explore exploring) text events_text fault = IsFaultAsRead text fault (λ nodes read. IsTextFault read.core fault
     ⊎ ((program : Program) × IsTextOf read.core program × IsSearchFault (exploring_for exploring nodes) program fault))

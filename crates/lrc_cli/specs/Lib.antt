@@ -1,4 +1,5 @@
 pub mod Events
+pub mod Exact
 pub mod Answer
 pub mod Performance
 pub mod Reading

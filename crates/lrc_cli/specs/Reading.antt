@@ -5,16 +5,19 @@ use Rattle.lrc_cli_answer.specs.declared.fault.Fault.TheVariants as faults
 use Rattle.lrc_cli_args.specs.declared.choice.Exploring.{Exploring}
 use Rattle.lrc_cli_args.specs.declared.choice.RunChoice.{RunChoice}
 use Rattle.lrc_named_core.specs.Tree.{Trap}
+use Rattle.lrc_named_held.specs.Held.{Held}
 use Rattle.lrc_named.specs.Named.{IsCoreTextOn, IsNamedFault, IsReadAsNamed}
 use Rattle.lrc_named.specs.declared.fault.NamedFault.{NamedFault}
 use Rattle.lrc_named.specs.declared.fault.NamedFault.TheVariants.{Text, Names, NoMemory}
 use Rattle.lrc_setting.specs.declared.setting.Nodes.{Nodes}
 use Rattle.lrc_source.specs.Telling.{ReadText, as_translated, as_written}
 
--- the named program with this text has this core, asks for so many nodes, and tells the core by its own text, lines and traps
+-- the named program with this text has this core, asks for so many nodes, and tells the core by its own text, lines and traps, and by what
+-- names hold
 abbrev pub IsCoreTold : (text : List ℕ) → Option Nodes → ReadText → Type 0
-IsCoreTold text nodes read = (lines : List ℕ) × (traps : List Trap)
-    × IsCoreTextOn text (option_map (λ (n : Nodes). n.count) nodes) read.core lines traps × (read ≡ as_translated read.core text lines traps)
+IsCoreTold text nodes read = (lines : List ℕ) × (traps : List Trap) × (held : List (List Held))
+    × IsCoreTextOn text (option_map (λ (n : Nodes). n.count) nodes) read.core lines traps held
+    × (read ≡ as_translated read.core text lines traps held)
 
 -- the text is read as this one of the core, and asks for so many nodes
 abbrev pub IsReadAs : (text : List ℕ) → Option Nodes → ReadText → Type 0
@@ -54,6 +57,11 @@ nodes_for false nodes asked = unwrap_or asked nodes
 abbrev pub exploring_for : Exploring → (asked : Option Nodes) → Exploring
 exploring_for exploring asked = record exploring { nodes = nodes_for exploring.nodes_given exploring.nodes asked }
 
--- a run with the nodes that a text asks for
+-- a run with the nodes that a text asks for: unless the words say how many, and by default
 abbrev pub run_for : RunChoice → (asked : Option Nodes) → RunChoice
-run_for run asked = record run { options = record run.options { nodes = nodes_for run.options.nodes_given run.options.nodes asked } }
+run_for run asked = record run {
+  options = record run.options {
+    nodes = nodes_for run.options.nodes_given run.options.nodes asked;
+    default_nodes = unwrap_or asked run.options.default_nodes;
+  };
+}

@@ -2,7 +2,7 @@
 
 ghost use Rattle.std.specs.Prelude.{◌≡◌, ◌≤◌, IfErr, IfOk};
 ghost use Rattle.lrc_text.specs.Parts.{whole_text};
-ghost use Rattle.lrc_cli.specs.Answer.{HasFindingsFault, HasOutcomeFault, IsEventsFault};
+ghost use Rattle.lrc_cli.specs.Answer.{HasLineFault, HasOutcomeFault, IsEventsFault};
 ghost use Rattle.lrc_cli.specs.Events.{IsEventsAnswer, ShowsLineOf, ShowsOutcomeEvents, line_of};
 
 use lrc_cli_answer::fault::Fault;
@@ -40,7 +40,7 @@ fn line_events(
 ) -> Result<Printout, Fault>
     ensures ok { IfOk result (λ printout. ShowsLineOf exploring.now (line_of tell) program.now
         (whole_text printout.parts.items) printout.status) }
-    ensures err { IfErr result (HasFindingsFault exploring.now program.now) }
+    ensures err { IfErr result (HasLineFault exploring.now program.now) }
 {
     let nodes = exploring.nodes.count;
     let most = exploring.most.count;

@@ -1,7 +1,7 @@
 // What the program answers to the command `explore`.
 
 ghost use Rattle.std.specs.Prelude.{◌≡◌, ◌≤◌, ◌⊎◌, IfErr, IfOk, None};
-ghost use Rattle.lrc_cli.specs.Answer.{HasFindingsFault, HasLazyFault, HasLazyRunFault, HasOrdersFault, HasOutcomeFault, IsAnswerTo, IsExploration, IsFault, IsFaultIn, IsFlatAnswer, IsFlatFault};
+ghost use Rattle.lrc_cli.specs.Answer.{HasFindingsFault, HasLazyFault, HasLazyRunFault, HasLineFault, HasOrdersFault, HasOutcomeFault, IsAnswerTo, IsExactAnswer, IsExactFault, IsExploration, IsFault, IsFaultIn, IsFlatAnswer, IsFlatFault};
 ghost use Rattle.lrc_cli.specs.Answer.{IsLazyAnswer, IsLazyFault, IsSaid, IsSearchFault, Prints, ShowsEnds, ShowsFindings, ShowsLazyOutcomes, ShowsLazyRun, ShowsOrders, ShowsOutcome, tries_asked};
 ghost use Rattle.lrc_cli_answer.specs.Texts.{IsTextFault, IsTextOf};
 ghost use Rattle.lrc_explain_waits.specs.Traps.{wording_of};
@@ -10,10 +10,11 @@ ghost use Rattle.lrc_text.specs.Parts.{whole_text};
 ghost use Rattle.lrc_cli_args.specs.declared.choice.Choice.TheVariants.{Explore};
 
 use crate::events::events_of;
+use crate::exact::{all_exact_runs, one_exact_run};
 use crate::reading::{exploring_for, read};
 use lrc_cli_answer::fault::Fault;
 use lrc_cli_answer::printout::{Printout, in_one};
-use lrc_cli_args::choice::{Exploring, Memory};
+use lrc_cli_args::choice::{ExactOptions, Exploring, Memory};
 use lrc_explain_waits::Wording;
 use lrc_explore_text::ends::explored_ends;
 use lrc_explore_text::orders::findings_told;
@@ -115,6 +116,7 @@ fn in_memory(
     match exploring.memory {
         Memory::Flat => of_flat(alloc, exploring, wording, program, lines),
         Memory::Lazy => of_lazy(alloc, exploring, wording, program, lines),
+        Memory::Exact(options) => of_exact(alloc, exploring, options, wording, program, lines),
     }
 }
 
@@ -159,6 +161,29 @@ fn of_lazy(
     match exploring.outcome {
         Some(outcome) => one_lazy_run(alloc, exploring, program, lines, outcome.number),
         None if exploring.outcomes => all_lazy_runs(alloc, exploring, program),
+        None => every_order(alloc, exploring, wording, program, lines),
+    }
+}
+
+// What is said of the runs of the exact memory.
+fn of_exact(
+    alloc: Global,
+    exploring: &Exploring<'_>,
+    options: ExactOptions,
+    wording: &Wording<'_, '_>,
+    program: &Program,
+    lines: &[u32],
+) -> Result<Printout, Fault>
+    ensures ok { IfOk result (λ printout.
+        IsExactAnswer exploring.now.outcome exploring.now.outcomes options exploring.now
+        (wording_of wording.now) program.now lines.now
+        (whole_text printout.parts.items) printout.status) }
+    ensures err { IfErr result (IsExactFault exploring.now.outcome exploring.now.outcomes options
+        exploring.now program.now) }
+{
+    match exploring.outcome {
+        Some(outcome) => one_exact_run(alloc, exploring, options, program, lines, outcome.number),
+        None if exploring.outcomes => all_exact_runs(alloc, exploring, options, program),
         None => every_order(alloc, exploring, wording, program, lines),
     }
 }
@@ -235,7 +260,7 @@ fn ends_asked(
     ensures ok { IfOk result (λ printout.
         ShowsEnds exploring.now (wording_of wording.now) program.now lines.now
         (whole_text printout.parts.items) printout.status) }
-    ensures err { IfErr result (HasFindingsFault exploring.now program.now) }
+    ensures err { IfErr result (HasLineFault exploring.now program.now) }
 {
     let nodes = exploring.nodes.count;
     let most = exploring.most.count;

@@ -5,6 +5,7 @@
 pub mod answer;
 mod cored;
 mod events;
+mod exact;
 mod explored;
 mod judged;
 mod linted;

@@ -1,14 +1,17 @@
 // What the program answers to the command `lint`.
 
-ghost use Rattle.std.specs.Prelude.{◌≡◌, IfErr, IfOk};
-ghost use Rattle.lrc_cli.specs.Answer.{IsLinted};
+ghost use Rattle.std.specs.Prelude.{◌≡◌, IfErr, IfOk, MatchOption};
+ghost use Rattle.lrc_cli.specs.Answer.{IsLinted, IsLintedAsNamed, IsNotTold};
 ghost use Rattle.lrc_cli_answer.specs.declared.fault.Fault.TheVariants.{NoMemory};
 ghost use Rattle.lrc_text.specs.Parts.{whole_text};
 
 use lrc_cli_answer::fault::Fault;
 use lrc_cli_answer::printout::Printout;
 use lrc_lint::lint;
-use std::alloc::Global;
+use lrc_lint_fault::Linted;
+use lrc_named::is_read_as_named;
+use lrc_named_linted::lint_named;
+use std::alloc::{AllocError, Global};
 
 /// Answers the command `lint` for the text of this file. It fails only if memory runs out.
 pub(crate) fn linted(alloc: Global, file: &str, text: &[u8]) -> Result<Printout, Fault>
@@ -16,9 +19,34 @@ pub(crate) fn linted(alloc: Global, file: &str, text: &[u8]) -> Result<Printout,
         (whole_text printout.parts.items) printout.status) }
     ensures err { IfErr result (λ fault. fault ≡ NoMemory) }
 {
-    let linted = lint(alloc, file.as_bytes(), text)?;
+    let linted = linted_as_read(alloc, file.as_bytes(), text)?;
     Ok(Printout {
         parts: linted.parts,
         status: linted.status,
     })
+}
+
+// What is said of a text: its first fault, if it is read as a named program and a hint is told of it, or else what is said
+// of a text of the core.
+fn linted_as_read(alloc: Global, file: &[u8], text: &[u8]) -> Result<Linted, AllocError>
+    ensures { IfOk result (λ linted. IsLinted file.now text.now
+        (whole_text linted.parts.items) linted.status) }
+{
+    match linted_as_named(alloc, file, text)? {
+        Some(linted) => Ok(linted),
+        None => lint(alloc, file, text),
+    }
+}
+
+// What is said of the first fault of a text that is read as a named program.
+fn linted_as_named(alloc: Global, file: &[u8], text: &[u8]) -> Result<Option<Linted>, AllocError>
+    ensures { IfOk result (λ told. MatchOption told (IsNotTold text.now)
+        (λ linted. IsLintedAsNamed file.now text.now
+        (whole_text linted.parts.items) linted.status)) }
+{
+    if is_read_as_named(alloc, text)? {
+        lint_named(alloc, file, text)
+    } else {
+        Ok(None)
+    }
 }

@@ -6,6 +6,7 @@ ghost use Rattle.lrc_cli.specs.Reading.{IsReadAs, IsUnread, exploring_for, fault
 ghost use Rattle.lrc_cli.specs.ReadingSeen.{asked_by, text_read};
 ghost use Rattle.lrc_named.specs.Named.{IsReadAsNamed};
 ghost use Rattle.lrc_named_core.specs.View.{trap_of};
+ghost use Rattle.lrc_named_held.specs.Held.{held_seen};
 ghost use Rattle.lrc_source.specs.Telling.{as_translated, as_written};
 
 use lrc_cli_answer::fault::Fault;
@@ -67,9 +68,10 @@ fn written<'r>(text: &'r &[u8]) -> ReadText<'r>
 // The core of a named program with this text, which tells it.
 fn translated_by<'r>(text: &'r &[u8], core: &'r CoreText<'_>) -> ReadText<'r>
     ensures { result ≡ as_translated core.now.text.items text.now.now core.now.lines.items
-        (map trap_of core.now.traps.items) }
+        (map trap_of core.now.traps.items)
+        (map (λ one. map held_seen one.items) core.now.held.items) }
 {
-    ReadText::translated(&core.text, *text, &core.lines, &core.traps)
+    ReadText::translated(&core.text, *text, &core.lines, &core.traps, &core.held)
 }
 
 // The fault of a named program, as it is told.
@@ -124,14 +126,20 @@ pub fn exploring_for<'w>(exploring: &Exploring<'w>, asked: Option<Nodes>) -> Exp
     Exploring { nodes, ..made }
 }
 
-/// Returns a run with the nodes that a text asks for, unless the words say how many.
+/// Returns a run with the nodes that a text asks for, unless the words say how many. These nodes are the default.
 pub fn run_for<'w>(run: &RunChoice<'w>, asked: Option<Nodes>) -> RunChoice<'w>
     ensures { result ≡ run_for run.now asked }
 {
     let options = run.options;
     let nodes = nodes_for(options.nodes_given, options.nodes, asked);
+    let default_nodes = asked.unwrap_or(options.default_nodes);
+    let options = RunOptions {
+        nodes,
+        default_nodes,
+        ..options
+    };
     RunChoice {
-        options: RunOptions { nodes, ..options },
+        options,
         way: run.way,
     }
 }

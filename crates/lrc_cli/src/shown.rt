@@ -1,7 +1,7 @@
 // What the program answers to a run, where a named program is read as its core.
 
 ghost use Rattle.std.specs.Prelude.{◌≡◌, false, is_some, option_map};
-ghost use Rattle.lrc_cli.specs.Showing.{AnswersAsRead, takes_named};
+ghost use Rattle.lrc_cli.specs.Showing.{AnswersAsRead};
 ghost use Rattle.lrc_cli_args.specs.Files.{events_along, is_on_threads};
 
 use crate::reading::{read, run_for};
@@ -10,20 +10,9 @@ use lrc_cli_answer::printout::Printout;
 use lrc_cli_args::choice::{RunChoice, Shape};
 use lrc_cli_runs::any::show_any;
 use lrc_cli_runs::shown::show;
-use lrc_source::read_text::ReadText;
 use std::alloc::Global;
 use std::sync::Wait;
 use std::thread::Threads;
-
-// Whether a named program is shown so: where names of the translation's own are not told as what they hold.
-fn takes_named(shape: Shape) -> bool
-    ensures { result ≡ takes_named shape }
-{
-    match shape {
-        Shape::Report | Shape::Stats | Shape::Trace(_) | Shape::Chart(_) | Shape::Explain => true,
-        Shape::Step(_) | Shape::Why(_) => false,
-    }
-}
 
 /// Answers a choice of a run without threads, from its texts.
 pub(crate) fn shown(
@@ -37,9 +26,6 @@ pub(crate) fn shown(
     requires events { is_some events ≡ is_some (events_along run.now.way) }
     ensures { AnswersAsRead run.now shape text.now (option_map (λ e. e.now) events.entry) result }
 {
-    if !takes_named(shape) {
-        return show(alloc, run, shape, &ReadText::written(text), events);
-    }
     let reading = read(alloc, text)?;
     let told = reading.told();
     let own = run_for(run, reading.nodes());
@@ -58,9 +44,6 @@ pub(crate) fn shown_any<R: Threads + Wait + Sync>(
     requires { is_some events ≡ is_some (events_along run.now.way) }
     ensures { AnswersAsRead run.now shape text.now (option_map (λ e. e.now) events.entry) result }
 {
-    if !takes_named(shape) {
-        return show_any(rt, alloc, run, shape, &ReadText::written(text), events);
-    }
     let reading = read(alloc, text)?;
     let told = reading.told();
     let own = run_for(run, reading.nodes());

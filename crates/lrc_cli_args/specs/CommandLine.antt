@@ -24,8 +24,9 @@ use Rattle.lrc_cli_args.specs.declared.choice.PlainRun.{PlainRun}
 use Rattle.lrc_cli_args.specs.declared.choice.Racing.{Racing}
 use Rattle.lrc_cli_args.specs.declared.choice.Reasoning.{Reasoning}
 use Rattle.lrc_cli_args.specs.declared.choice.Request.{Request}
-use Rattle.lrc_cli_args.specs.declared.choice.Request.TheVariants.{About, Races, Witness as WitnessOf, Reasons as ReasonsOf, Answer}
+use Rattle.lrc_cli_args.specs.declared.choice.Request.TheVariants.{About, Races, Witness as WitnessOf, Reasons as ReasonsOf, Score as ScoreOf, Answer}
 use Rattle.lrc_cli_args.specs.declared.choice.RunChoice.{RunChoice}
+use Rattle.lrc_cli_args.specs.declared.choice.Scoring.{Scoring}
 use Rattle.lrc_cli_args.specs.declared.choice.Shape.{Shape}
 use Rattle.lrc_cli_args.specs.declared.choice.Shape.TheVariants.{Report, Trace, Step, Explain, Stats, Chart, Why}
 use Rattle.lrc_cli_args.specs.declared.choice.Tell.{Tell as Tells}
@@ -34,11 +35,11 @@ use Rattle.lrc_cli_args.specs.declared.choice.Topic.TheVariants.{Commands, Comma
 use Rattle.lrc_cli_args.specs.declared.choice.Way.{Way}
 use Rattle.lrc_cli_args.specs.declared.choice.Witnessing.{Witnessing}
 use Rattle.lrc_cli_args.specs.declared.misfit.Misfit.{Misfit}
-use Rattle.lrc_cli_args.specs.declared.misfit.Misfit.TheVariants.{Order, RunOrder, Page, Form as FormMisfit, Seed, Then as ThenMisfit, Followed as FollowedMisfit, Threads, Messages, Part as PartMisfit, Memory as MemoryMisfit, ExactMemory, ExactOption, Tries as TriesMisfit, IgnoredRaces, Ends as EndsMisfit, ExploreForm, Events, ToldOrder, Tell, Topic as TopicMisfit, TraceForm, Questions, Reasons, ReasonLines, Witness, WitnessLines, Hide, TextSource, SameAct, Sources, NoSource, RunOption, ChartRunOption, Number}
-use Rattle.lrc_cli_args.specs.declared.races.Question.TheVariants.{Told, Reasoned, Witnessed}
+use Rattle.lrc_cli_args.specs.declared.misfit.Misfit.TheVariants.{Order, RunOrder, Page, Form as FormMisfit, Seed, Then as ThenMisfit, Followed as FollowedMisfit, Threads, Messages, Part as PartMisfit, Memory as MemoryMisfit, ExactMemory, ExactOption, Tries as TriesMisfit, IgnoredRaces, Ends as EndsMisfit, ExploreForm, Events, ToldOrder, Tell, Topic as TopicMisfit, TraceForm, Questions, Score, Reasons, ReasonLines, Witness, WitnessLines, Hide, TextSource, SameAct, Sources, NoSource, RunOption, ChartRunOption, Number}
+use Rattle.lrc_cli_args.specs.declared.races.Question.TheVariants.{Told, Scored, Reasoned, Witnessed}
 use Rattle.lrc_cli_words.specs.Commands.{is_command, treadmarks}
 use Rattle.clap.specs.Takes.{is_given}
-use Rattle.lrc_cli_args.specs.Options.{AreChartedActs, AreEventsChosen, AreForeignActs, AreLines, AreOptions, AreRunOptions, HasBadCount, HasBadExploreNumber, HasChartedActsMisfit, HasEventsMisfit, HasExactMisfit, HasForeignMisfit, HasFormMisfitIn, HasOptionsMisfit, HasRacesMisfit, HasValue, HasWayMisfitIn, IsAsking, IsChartTaken, IsHiding}
+use Rattle.lrc_cli_args.specs.Options.{AreChartedActs, AreEventsChosen, AreForeignActs, AreLines, AreOptions, AreRunOptions, HasBadCount, HasBadExploreNumber, HasChartedActsMisfit, HasEventsMisfit, HasExactMisfit, HasMemoryMisfit, HasForeignMisfit, HasFormMisfitIn, HasOptionsMisfit, HasRacesMisfit, HasValue, HasWayMisfitIn, IsAsking, IsChartTaken, IsHiding}
 use Rattle.lrc_cli_args.specs.Options.{IsExactChosen, IsExploreTaken, IsFlag, IsFormIn, IsJudgeTaken, IsMemory, IsPart, IsPicker, IsPlainTaken, IsQuestion, IsRacesTaken, IsRunTaken, IsShowingTaken, IsStepTaken}
 use Rattle.lrc_cli_args.specs.Options.{asks_outcomes, IsSimTaken, IsThreadsWayIn, IsTraceForm, IsTraceTaken, IsWayIn, IsWhyTaken, most_in, nodes_in, option_number, outcome_in, some_number_in, takes_tries, texts_of, tries_in}
 
@@ -138,7 +139,7 @@ pub record IsExploring (rows : List Row) (exploring : Exploring) : Type 0 where
   pub nodes : nodes_in rows ≡ exploring.nodes.count
   pub given : exploring.nodes_given ≡ is_given (codes "nodes") rows
   pub most : most_in rows ≡ exploring.most.count
-  pub memory : IsMemory (first_of (codes "memory") rows) exploring.memory
+  pub memory : IsMemory rows exploring.memory
   pub outcomes : IsFlag (codes "outcomes") exploring.outcomes rows
   pub outcome : outcome_in rows ≡ option_map (λ outcome. outcome.number) exploring.outcome
   pub tries : tries_in rows ≡ option_map (λ tries. tries.count) exploring.tries
@@ -210,6 +211,16 @@ pub record IsRacing (rows : List Row) (racing : Racing) : Type 0 where
   pub json : IsFlag (codes "json") racing.json rows
   pub strict : IsFlag (codes "strict") racing.strict rows
 
+-- Which report is judged. Its lines are no objects, and of it and the trace at most one is standard input.
+pub record IsScoring (rows : List Row) (scoring : Scoring) : Type 0 where
+  pub file : first_of (codes "FILE") rows ≡ Some scoring.file.now
+  pub form : IsTraceForm (first_of (codes "as") rows) scoring.form
+  pub asked : IsQuestion rows (Scored scoring.report)
+  pub apart : scoring.report.now ≡ codes "-" → scoring.file.now ≢ codes "-"
+  pub sure : IsFlag (codes "sure") scoring.sure rows
+  pub json : IsFlag (codes "json") false rows
+  pub strict : IsFlag (codes "strict") scoring.strict rows
+
 -- Of which two lines it is asked how their events are ordered.
 pub record IsReasoning (rows : List Row) (reasoning : Reasoning) : Type 0 where
   pub file : first_of (codes "FILE") rows ≡ Some reasoning.file.now
@@ -239,6 +250,7 @@ IsRequest found (About topic) = IsTopic found topic
 IsRequest found (Races racing) = (found.0 ≡ codes "races") × IsRacing found.1 racing
 IsRequest found (WitnessOf witnessing) = (found.0 ≡ codes "races") × IsWitnessing found.1 witnessing
 IsRequest found (ReasonsOf reasoning) = (found.0 ≡ codes "races") × IsReasoning found.1 reasoning
+IsRequest found (ScoreOf scoring) = (found.0 ≡ codes "races") × IsScoring found.1 scoring
 IsRequest found (Answer choice) = IsChoice found choice
 
 -- ---- what does not fit
@@ -287,17 +299,17 @@ HasJudgeMisfit rows misfit = HasExactMisfit rows misfit
 
 -- a memory and whether outcomes are asked for are chosen by these matches
 abbrev pub AreSought : List Row → Memory → (outcomes : Bool) → Type 0
-AreSought rows memory outcomes = IsMemory (first_of (codes "memory") rows) memory × IsFlag (codes "outcomes") outcomes rows
+AreSought rows memory outcomes = IsMemory rows memory × IsFlag (codes "outcomes") outcomes rows
 
 -- an option that may not stand beside outcomes or a memory is not given, or these are not
 abbrev pub StandsPlainly : Text → (outcomes : Bool) → List Row → Type 0
 StandsPlainly name outcomes rows =
     (given : Bool) × IsFlag name given rows × (given ≡ true → asks_outcomes outcomes (outcome_in rows) rows ≡ false)
 
--- Of `explore`: the memory; then runs at random that are asked for and may not be; then races that are to be ignored and may not be; then
--- ends that are asked for and may not be; then events; then numbers.
+-- Of `explore`: the memory and its options; then runs at random that are asked for and may not be; then races that are to be ignored and may
+-- not be; then ends that are asked for and may not be; then events; then numbers.
 pub record HasExploreMisfit (rows : List Row) (misfit : Misfit) : Type 0 where
-  pub why : ((misfit ≡ MemoryMisfit) × ((memory : Memory) → ¬ IsMemory (first_of (codes "memory") rows) memory))
+  pub why : HasMemoryMisfit rows misfit
       ⊎ ((misfit ≡ TriesMisfit) × (memory : Memory) × (outcomes : Bool) × AreSought rows memory outcomes × IsSome (tries_in rows)
       × (takes_tries memory outcomes (outcome_in rows) ≡ false))
       ⊎ ((misfit ≡ IgnoredRaces) × (memory : Memory) × (outcomes : Bool) × AreSought rows memory outcomes
@@ -383,6 +395,7 @@ IsUsageKind Tell kind = kind ≡ ArgumentConflict
 IsUsageKind TopicMisfit kind = kind ≡ InvalidSubcommand
 IsUsageKind TraceForm kind = kind ≡ InvalidValue
 IsUsageKind Questions kind = kind ≡ ArgumentConflict
+IsUsageKind Score kind = kind ≡ ArgumentConflict
 IsUsageKind Reasons kind = kind ≡ ArgumentConflict
 IsUsageKind ReasonLines kind = kind ≡ InvalidValue
 IsUsageKind Witness kind = kind ≡ ArgumentConflict

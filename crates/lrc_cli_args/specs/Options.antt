@@ -22,7 +22,7 @@ use Rattle.lrc_cli_args.specs.declared.choice.Grouping.{Grouping}
 use Rattle.lrc_cli_args.specs.declared.choice.Grouping.TheVariants as groupings
 use Rattle.lrc_cli_args.specs.declared.choice.LinePair.{LinePair}
 use Rattle.lrc_cli_args.specs.declared.choice.Memory.{Memory}
-use Rattle.lrc_cli_args.specs.declared.choice.Memory.TheVariants.{Flat, Lazy}
+use Rattle.lrc_cli_args.specs.declared.choice.Memory.TheVariants.{Flat, Lazy, Exact}
 use Rattle.lrc_cli_args.specs.declared.choice.Part.{Part}
 use Rattle.lrc_cli_args.specs.declared.choice.RunOptions.{RunOptions}
 use Rattle.lrc_cli_args.specs.declared.choice.Tell.{Tell}
@@ -77,6 +77,10 @@ tries_in = some_number_in (codes "tries")
 -- the values that an option is given, as texts
 abbrev pub texts_of : Bor (List (Bor Text)) → List Text
 texts_of texts = map (λ text. text.now) texts.now
+
+-- the report that is to be judged, if `--score` is named
+abbrev pub report_in : List Row → Option Text
+report_in = first_of (codes "score")
 
 -- the lines that `--why` is given, if it is named
 abbrev pub reasons_in : List Row → Option (List Text)
@@ -180,6 +184,8 @@ pub record IsExploreTaken (rows : List Row) : Type 0 where
   pub tries : IsBareNumber (codes "tries") rows
   pub races : IsFlagOption (codes "ignore-races") rows
   pub ends : IsFlagOption (codes "ends") rows
+  pub page : HasValue (codes "page") rows
+  pub collect : IsNumberOption (codes "collect") rows
 
 -- of `races`
 pub record IsRacesTaken (rows : List Row) : Type 0 where
@@ -250,14 +256,20 @@ pub record AreLines (texts : List Text) (lines : LinePair) : Type 0 where
   pub first : IsLine one lines.first
   pub second : IsLine other lines.second
 
--- the memory that a word names
-abbrev pub IsMemory : Option Text → Memory → Type 0
-IsMemory word Flat = word ≡ Some (codes "flat")
-IsMemory word Lazy = word ≡ Some (codes "lazy")
+-- the memory without options that a word names
+abbrev pub IsPlainMemory : Text → Memory → Type 0
+IsPlainMemory word Flat = word ≡ codes "flat"
+IsPlainMemory word Lazy = word ≡ codes "lazy"
+IsPlainMemory word (Exact options) = ⊥
+
+-- a word that names no such memory
+abbrev pub IsNoPlainMemory : Text → Type 0
+IsNoPlainMemory word = (word ≢ codes "flat") × (word ≢ codes "lazy")
 
 -- whether runs at random may be asked for: with the list of the lazy outcomes
 abbrev pub takes_tries : Memory → (outcomes : Bool) → (outcome : Option ℕ) → Bool
 takes_tries Flat outcomes outcome = false
+takes_tries (Exact options) outcomes outcome = false
 takes_tries Lazy outcomes outcome = outcomes && is_none outcome
 
 -- whether a word says that rows of quiet acts are left out; without one they are not
@@ -319,6 +331,7 @@ pub record AreOptions (path : Text) (node_count : ℕ) (given : Bool) (step_coun
 -- what all runs of the nodes have in common is chosen by these matches
 pub record AreRunOptions (run : RunOptions) (rows : List Row) : Type 0 where
   pub plain : AreOptions run.file.now run.nodes.count run.nodes_given run.steps.count rows
+  pub default_nodes : run.default_nodes.count ≡ 1
   pub collect : collect_in rows ≡ run.collect.count
   pub size : IsPageSize (first_of (codes "page") rows) run.size
 
@@ -386,19 +399,21 @@ IsGrouping rows groupings.Each = IsFlag (codes "group") false rows × IsFlag (co
 IsGrouping rows groupings.Groups = IsFlag (codes "group") true rows × IsFlag (codes "locations") false rows
 IsGrouping rows groupings.Locations = IsFlag (codes "group") false rows × IsFlag (codes "locations") true rows
 
--- One question among these options: reasons or a witness are asked for alone, and neither beside groups nor beside pairs of locations.
-abbrev pub IsOneOf : Grouping → (reasons witness : Option (List Text)) → Question → Type 0
-IsOneOf grouping reasons witness (questions.Told told) = (grouping ≡ told) × (reasons ≡ None) × (witness ≡ None)
-IsOneOf grouping reasons witness (questions.Reasoned texts) =
-    (grouping ≡ groupings.Each) × (reasons ≡ Some (texts_of texts)) × (witness ≡ None)
-IsOneOf grouping reasons witness (questions.Witnessed texts) =
-    (grouping ≡ groupings.Each) × (reasons ≡ None) × (witness ≡ Some (texts_of texts))
+-- One question among these options: a report, reasons or a witness are asked for alone, and neither beside groups nor beside pairs of locations.
+abbrev pub IsOneOf : Grouping → (report : Option Text) → (reasons witness : Option (List Text)) → Question → Type 0
+IsOneOf grouping report reasons witness (questions.Told told) = (grouping ≡ told) × (report ≡ None) × (reasons ≡ None) × (witness ≡ None)
+IsOneOf grouping report reasons witness (questions.Scored path) =
+    (grouping ≡ groupings.Each) × (report ≡ Some path.now) × (reasons ≡ None) × (witness ≡ None)
+IsOneOf grouping report reasons witness (questions.Reasoned texts) =
+    (grouping ≡ groupings.Each) × (report ≡ None) × (reasons ≡ Some (texts_of texts)) × (witness ≡ None)
+IsOneOf grouping report reasons witness (questions.Witnessed texts) =
+    (grouping ≡ groupings.Each) × (report ≡ None) × (reasons ≡ None) × (witness ≡ Some (texts_of texts))
 
 -- what these matches ask of a trace
 pub record IsQuestion (rows : List Row) (question : Question) : Type 0 where
   pub grouping : Grouping
   pub grouped : IsGrouping rows grouping
-  pub one : IsOneOf grouping (reasons_in rows) (witness_in rows) question
+  pub one : IsOneOf grouping (report_in rows) (reasons_in rows) (witness_in rows) question
 
 -- The order of which events are shown that a word names: the first where there is no word.
 abbrev pub IsTell : Option Text → Tell → Type 0
@@ -411,6 +426,7 @@ IsTell word tells.End = word ≡ Some (codes "end")
 abbrev pub takes_events : Memory → (outcomes : Bool) → (outcome : Option ℕ) → Bool
 takes_events Flat outcomes outcome = not outcomes || is_some outcome
 takes_events Lazy outcomes outcome = false
+takes_events (Exact options) outcomes outcome = false
 
 -- of an outcome there is one order, and an order that can no longer end is looked for only where ends are asked for
 abbrev pub takes_tell : Tell → (outcome : Option ℕ) → (ends : Bool) → Bool
@@ -443,6 +459,12 @@ abbrev pub IsExactChosen : List Row → Option ExactOptions → Type 0
 IsExactChosen rows None = (first_of (codes "memory") rows ≡ None) × (names_exact_option rows ≡ false)
 IsExactChosen rows (Some exact) = (first_of (codes "memory") rows ≡ Some (codes "exact"))
     × IsPageSize (first_of (codes "page") rows) exact.size × (collect_in rows ≡ exact.collect.count)
+
+-- the memory whose runs are searched is chosen by these matches
+abbrev pub IsMemory : List Row → Memory → Type 0
+IsMemory rows Flat = (first_of (codes "memory") rows ≡ Some (codes "flat")) × (names_exact_option rows ≡ false)
+IsMemory rows Lazy = (first_of (codes "memory") rows ≡ Some (codes "lazy")) × (names_exact_option rows ≡ false)
+IsMemory rows (Exact options) = IsExactChosen rows (Some options)
 
 -- acts from anywhere are chosen by these matches
 pub record AreForeignActs (rows : List Row) (acts : ForeignActs) : Type 0 where
@@ -532,10 +554,24 @@ HasExactMisfit rows misfit =
     ⊎ ((misfit ≡ unfit.Number) × (first_of (codes "memory") rows ≡ Some (codes "exact"))
     × ((size : Size) × IsPageSize (first_of (codes "page") rows) size) × IsOutOfRange 0 1000000 (collect_in rows))
 
--- Beside what is asked of a trace: the order of two events and a sure race stand neither with sure races nor with objects, and a trace that
--- may be read twice is not standard input; then what are no two lines.
+-- Of the memory whose runs are searched: the word names none; or an option of the exact one is given to another; then the size of its pages;
+-- then the number.
+abbrev pub HasMemoryMisfit : List Row → Misfit → Type 0
+HasMemoryMisfit rows misfit =
+    ((misfit ≡ unfit.Memory) × IsSomeAnd (first_of (codes "memory") rows) (λ word. IsNoPlainMemory word × (word ≢ codes "exact")))
+    ⊎ ((misfit ≡ unfit.ExactOption) × IsSomeAnd (first_of (codes "memory") rows) (λ word. (memory : Memory) × IsPlainMemory word memory)
+    × (names_exact_option rows ≡ true))
+    ⊎ ((misfit ≡ unfit.Page) × (first_of (codes "memory") rows ≡ Some (codes "exact")) × HasBadPage rows)
+    ⊎ ((misfit ≡ unfit.Number) × (first_of (codes "memory") rows ≡ Some (codes "exact"))
+    × ((size : Size) × IsPageSize (first_of (codes "page") rows) size) × IsOutOfRange 0 1000000 (collect_in rows))
+
+-- Beside what is asked of a trace: a report that is to be judged stands with no objects, and is not standard input where the trace is; the
+-- order of two events and a sure race stand neither with sure races nor with objects, and a trace that may be read twice is not standard
+-- input; then what are no two lines.
 abbrev pub HasMisfitBeside : List Row → Question → Misfit → Type 0
 HasMisfitBeside rows (questions.Told grouping) misfit = ⊥
+HasMisfitBeside rows (questions.Scored report) misfit = (misfit ≡ unfit.Score)
+    × (IsFlag (codes "json") true rows ⊎ ((first_of (codes "FILE") rows ≡ Some (codes "-")) × (report.now ≡ codes "-")))
 HasMisfitBeside rows (questions.Reasoned texts) misfit = ((misfit ≡ unfit.Reasons) × (IsFlag (codes "sure") true rows ⊎ IsFlag (codes "json") true rows))
     ⊎ ((misfit ≡ unfit.ReasonLines) × IsFlag (codes "sure") false rows × IsFlag (codes "json") false rows
     × ((lines : LinePair) → ¬ AreLines (texts_of texts) lines))

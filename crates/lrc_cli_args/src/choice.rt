@@ -1,6 +1,6 @@
 // What the words of the command line ask for.
 
-ghost use Rattle.std.specs.Prelude.{◌≡◌, ◌≢◌, ◌<◌, ◌≤◌, Some, true};
+ghost use Rattle.std.specs.Prelude.{◌≡◌, ◌≢◌, ◌<◌, ◌≤◌, Some, codes, true};
 ghost use Rattle.lrc_cli_words.specs.Commands.{is_command};
 
 use lrc_envelope::Picker;
@@ -57,6 +57,8 @@ pub struct RunOptions<'w> {
     pub nodes: Nodes,
     /// Whether the words give the number of nodes. If not, it is the default.
     pub nodes_given: bool,
+    /// The number of nodes that run if the words do not give it: one, or as many as the text asks for.
+    pub default_nodes: Nodes,
     pub steps: Steps,
     pub collect: Collect,
     /// The size of a page.
@@ -195,6 +197,8 @@ pub enum Memory {
     Flat,
     /// Any memory that keeps lazy reading.
     Lazy,
+    /// The memory of this protocol, without its messages.
+    Exact(ExactOptions),
 }
 
 /// Of which order the events are shown, of the orders that `explore` tells of.
@@ -220,7 +224,7 @@ pub struct Exploring<'w> {
     pub nodes_given: bool,
     /// The most states that the search may meet.
     pub most: Most,
-    /// The memory whose runs have the outcomes. The races are the same for both memories.
+    /// The memory whose runs have the outcomes. The races are the same for all memories.
     pub memory: Memory,
     /// Whether the search is for the outcomes, instead of a race.
     pub outcomes: bool,
@@ -307,6 +311,21 @@ pub struct Reasoning<'w> {
     pub strict: bool,
 }
 
+/// The options of the command `races` if a detector's report is judged.
+#[derive(Clone, Copy)]
+pub struct Scoring<'w> {
+    /// The file of the trace; `-` is standard input.
+    pub file: &'w str,
+    pub form: TraceForm,
+    /// The file of the report; `-` is standard input.
+    pub report: &'w str,
+    /// Whether the races are sure races throughout.
+    pub sure: bool,
+    /// Whether the first event that no program would give is a fault.
+    pub strict: bool,
+    pub ghost apart: { report.now ≡ codes "-" → file.now ≢ codes "-" },
+}
+
 /// A text of acts for the command `why`. The acts may come from any system.
 #[derive(Clone, Copy)]
 pub struct ForeignActs<'w> {
@@ -379,6 +398,8 @@ pub enum Request<'w> {
     Witness(Witnessing<'w>),
     /// How two events of a trace are ordered.
     Reasons(Reasoning<'w>),
+    /// What of a detector's report on a trace is true, and what it missed.
+    Score(Scoring<'w>),
     /// An answer to the texts in files.
     Answer(Choice<'w>),
 }

@@ -3,16 +3,16 @@
 ghost use Rattle.std.specs.Prelude.{◌≡◌, IfErr, IfOk, IsSome, None, Some, codes, false, option_map, true};
 ghost use Rattle.clap.specs.Words.{found_of, rows_of};
 ghost use Rattle.lrc_cli_args.specs.CommandLine.{HasExploreMisfit, IsChoice};
-ghost use Rattle.lrc_cli_args.specs.Options.{AreEventsChosen, HasEventsMisfit, IsExploreTaken, IsFlag, IsFlagOption, IsMemory, IsTell, asks_outcomes, takes_events, takes_tell, takes_tries};
-ghost use Rattle.lrc_cli_args.specs.declared.choice.Memory.{Memory as AnyMemory};
+ghost use Rattle.lrc_cli_args.specs.Options.{AreEventsChosen, HasEventsMisfit, HasMemoryMisfit, IsExploreTaken, IsFlag, IsFlagOption, IsMemory, IsNoPlainMemory, IsPlainMemory, IsTell, asks_outcomes, takes_events, takes_tell, takes_tries};
 ghost use Rattle.lrc_cli_args.specs.declared.choice.Tell.{Tell as AnyTell};
 ghost use Rattle.lrc_cli_args.specs.declared.misfit.Misfit.TheVariants as unfit;
 
-use crate::choice::{Choice, Exploring, Memory, Tell};
+use crate::choice::{Choice, ExactOptions, Exploring, Memory, Tell};
+use crate::judge::names_exact_option;
 use crate::misfit::Misfit;
 use crate::reading::{
-    is_given, is_named, most_of, nodes_of, outcome_of, some_number_of, some_text_of, text_of,
-    tries_of,
+    collect_of, is_given, is_named, most_of, nodes_of, outcome_of, size_of, some_number_of,
+    some_text_of, text_of, tries_of,
 };
 use clap::ArgMatches;
 
@@ -22,7 +22,7 @@ pub(crate) fn explore_choice<'w>(options: &ArgMatches<'w>) -> Result<Choice<'w>,
     ensures ok { IfOk result (IsChoice (codes "explore", rows_of (found_of options.now))) }
     ensures err { IfErr result (HasExploreMisfit (rows_of (found_of options.now))) }
 {
-    let memory = memory_named(text_of(options, "memory"))?;
+    let memory = memory_of(options)?;
     let outcomes = is_named(options, "outcomes");
     let outcome = some_number_of(options, "outcome");
     let tries = some_number_of(options, "tries");
@@ -125,7 +125,7 @@ fn takes_events(memory: Memory, outcomes: bool, outcome: Option<u64>) -> bool
 {
     match memory {
         Memory::Flat => !outcomes || outcome.is_some(),
-        Memory::Lazy => false,
+        Memory::Lazy | Memory::Exact(_) => false,
     }
 }
 
@@ -168,10 +168,29 @@ fn asks_outcomes(options: &ArgMatches<'_>, outcomes: bool, outcome: Option<u64>)
     outcomes || outcome.is_some() || is_given(options, "memory")
 }
 
+// The memory that is named, with its options.
+fn memory_of(options: &ArgMatches<'_>) -> Result<Memory, Misfit>
+    requires { IsExploreTaken (rows_of (found_of options.now)) }
+    ensures ok { IfOk result (IsMemory (rows_of (found_of options.now))) }
+    ensures err { IfErr result (HasMemoryMisfit (rows_of (found_of options.now))) }
+{
+    let word = text_of(options, "memory");
+    if word == "exact" {
+        let size = size_of(options)?;
+        let collect = collect_of(options)?;
+        return Ok(Memory::Exact(ExactOptions { size, collect }));
+    }
+    let memory = memory_named(word)?;
+    if names_exact_option(options) {
+        return Err(Misfit::ExactOption);
+    }
+    Ok(memory)
+}
+
+// The memory of this name that has no options.
 fn memory_named(word: &str) -> Result<Memory, Misfit>
-    ensures ok { IfOk result (IsMemory (Some word.now)) }
-    ensures err { IfErr result (λ misfit. (misfit ≡ unfit.Memory)
-        × ((memory : AnyMemory) → ¬ IsMemory (Some word.now) memory)) }
+    ensures ok { IfOk result (IsPlainMemory word.now) }
+    ensures err { IfErr result (λ misfit. (misfit ≡ unfit.Memory) × IsNoPlainMemory word.now) }
 {
     if word == "flat" {
         Ok(Memory::Flat)
@@ -187,7 +206,7 @@ fn takes_tries(memory: Memory, outcomes: bool, outcome: Option<u64>) -> bool
     ensures { result ≡ takes_tries memory outcomes outcome }
 {
     match memory {
-        Memory::Flat => false,
+        Memory::Flat | Memory::Exact(_) => false,
         Memory::Lazy => outcomes && outcome.is_none(),
     }
 }

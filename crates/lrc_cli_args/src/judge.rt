@@ -71,8 +71,8 @@ fn no_memory(options: &ArgMatches<'_>) -> Result<Option<ExactOptions>, Misfit>
     Ok(None)
 }
 
-// Whether the words give an option that only the exact memory has.
-fn names_exact_option(options: &ArgMatches<'_>) -> bool
+/// Whether the words give an option that only the exact memory has.
+pub(crate) fn names_exact_option(options: &ArgMatches<'_>) -> bool
     ensures { result ≡ names_exact_option (rows_of (found_of options.now)) }
 {
     is_any_given(options, EXACT_OPTIONS.as_slice())

@@ -37,7 +37,7 @@ const BAD_MESSAGES: &str =
 const BAD_PART: &str =
     "the arguments '--from <P>' and '--to <Q>' cannot be used with a form other than '--as bytes' or '--as states'";
 
-const BAD_MEMORY: &str = "invalid value for '--memory <MEMORY>': it is flat or lazy";
+const BAD_MEMORY: &str = "invalid value for '--memory <MEMORY>': it is flat, lazy or exact";
 
 const BAD_EXACT_MEMORY: &str = "invalid value for '--memory <MEMORY>': it is exact";
 
@@ -56,7 +56,7 @@ const BAD_ENDS: &str =
 const BAD_EXPLORE_FORM: &str = "invalid value for '--as <FORM>': it is events";
 
 const BAD_EVENTS: &str =
-    "the argument '--as events' cannot be used with '--outcomes' without '--outcome <K>', or with '--memory lazy'";
+    "the argument '--as events' cannot be used with '--outcomes' without '--outcome <K>', or with '--memory lazy' or '--memory exact'";
 
 const BAD_TOLD_ORDER: &str = "invalid value for '--tell <ORDER>': it is stuck, trap or end";
 
@@ -72,7 +72,10 @@ const BAD_SOURCE: &str = "the argument '--source' cannot be used with '--text'";
 const BAD_TRACE_FORM: &str = "invalid value for '--as <FORM>': it is std or acts";
 
 const BAD_QUESTIONS: &str =
-    "the arguments '--group', '--locations', '--why <I> <J>' and '--witness <I> <J>' cannot be used with one another";
+    "the arguments '--group', '--locations', '--score <REPORT>', '--why <I> <J>' and '--witness <I> <J>' cannot be used with one another";
+
+const BAD_SCORE: &str =
+    "the argument '--score <REPORT>' cannot be used with '--json', or where FILE and REPORT are '-'";
 
 const BAD_REASONS: &str = "the argument '--why <I> <J>' cannot be used with '--sure' or '--json'";
 
@@ -134,7 +137,7 @@ pub(crate) enum Misfit {
     Ends,
     /// The value of `--as` in the command `explore` is not its word.
     ExploreForm,
-    /// Events are asked for together with the list of outcomes or with lazy memory.
+    /// Events are asked for together with the list of outcomes or with another memory than the flat one.
     Events,
     /// The value of `--tell` is not one of its words.
     ToldOrder,
@@ -147,6 +150,8 @@ pub(crate) enum Misfit {
     TraceForm,
     /// More than one thing is asked of a trace.
     Questions,
+    /// A report is to be judged, but objects are asked for, or both the trace and the report are standard input.
+    Score,
     /// It is asked how two events are ordered, but sure races or objects are asked for too.
     Reasons,
     /// The values of `--why` are not the numbers of two lines, the lesser one first.
@@ -218,6 +223,7 @@ fn usage_kind(misfit: Misfit) -> ErrorKind
         | Misfit::Events
         | Misfit::Tell
         | Misfit::Questions
+        | Misfit::Score
         | Misfit::Reasons
         | Misfit::Witness
         | Misfit::TextSource
@@ -256,6 +262,7 @@ fn message_of(misfit: Misfit) -> &'static str {
         Misfit::Topic => BAD_TOPIC,
         Misfit::TraceForm => BAD_TRACE_FORM,
         Misfit::Questions => BAD_QUESTIONS,
+        Misfit::Score => BAD_SCORE,
         Misfit::Reasons => BAD_REASONS,
         Misfit::ReasonLines => BAD_REASON_LINES,
         Misfit::Witness => BAD_WITNESS,

@@ -2,7 +2,7 @@
 
 ghost use Rattle.std.specs.Prelude.{◌≡◌, ◌≢◌, ◌≤◌, ◌∷◌, [], ℕ, IfErr, IfOk, MatchOption, codes, map, option_map};
 ghost use Rattle.clap.specs.Words.{found_of, first_of, rows_of};
-ghost use Rattle.lrc_cli_args.specs.CommandLine.{IsRacing, IsReasoning, IsRequest, IsWitnessing};
+ghost use Rattle.lrc_cli_args.specs.CommandLine.{IsRacing, IsReasoning, IsRequest, IsScoring, IsWitnessing};
 ghost use Rattle.lrc_cli_args.specs.Options.{AreLines, HasMisfitBeside, HasRacesMisfit, IsFlag, IsGrouping, IsLine, IsOneOf, IsQuestion, IsRacesTaken, IsTraceForm, texts_of};
 ghost use Rattle.lrc_cli_args.specs.declared.choice.Grouping.{Grouping as AnyGrouping};
 ghost use Rattle.lrc_cli_args.specs.declared.choice.Grouping.TheVariants as groupings;
@@ -12,9 +12,11 @@ ghost use Rattle.lrc_cli_args.specs.declared.misfit.Misfit.TheVariants as unfit;
 ghost use Rattle.lrc_cli_args.specs.declared.races.Question.{Question as AnyQuestion};
 ghost use Rattle.lrc_cli_args.specs.declared.races.Question.TheVariants as questions;
 
-use crate::choice::{Grouping, LinePair, Racing, Reasoning, Request, TraceForm, Witnessing};
+use crate::choice::{
+    Grouping, LinePair, Racing, Reasoning, Request, Scoring, TraceForm, Witnessing,
+};
 use crate::misfit::Misfit;
-use crate::reading::{is_named, some_texts_of, text_of};
+use crate::reading::{is_named, some_text_of, some_texts_of, text_of};
 use clap::ArgMatches;
 
 /// What the words ask of a trace.
@@ -22,6 +24,8 @@ use clap::ArgMatches;
 pub(crate) enum Question<'q, 'w> {
     /// Its races, put together in this way.
     Told(Grouping),
+    /// What of the report in this file is true, and what it missed.
+    Scored(&'w str),
     /// How the events on these lines are ordered.
     Reasoned(&'q [&'w str]),
     /// Whether the accesses on these lines are a sure race.
@@ -37,6 +41,7 @@ pub(crate) fn races_request<'w>(options: &ArgMatches<'w>) -> Result<Request<'w>,
     let form = trace_form_named(text_of(options, "as"))?;
     match question_of(options)? {
         Question::Told(grouping) => Ok(Request::Races(racing(options, form, grouping))),
+        Question::Scored(report) => Ok(Request::Score(scoring(options, form, report)?)),
         Question::Reasoned(lines) => Ok(Request::Reasons(reasoning(options, form, lines)?)),
         Question::Witnessed(lines) => Ok(Request::Witness(witnessing(options, form, lines)?)),
     }
@@ -50,26 +55,31 @@ fn question_of<'q, 'w>(options: &'q ArgMatches<'w>) -> Result<Question<'q, 'w>, 
         × ((question : AnyQuestion) → ¬ IsQuestion (rows_of (found_of options.now)) question)) }
 {
     let grouping = grouping_of(options)?;
+    let report = some_text_of(options, "score");
     let why = some_texts_of(options, "why");
     let witness = some_texts_of(options, "witness");
-    one_of(grouping, why, witness)
+    one_of(grouping, report, why, witness)
 }
 
 // The one question among these options, if no two of them ask one.
 fn one_of<'q, 'w>(
     grouping: Grouping,
+    report: Option<&'w str>,
     why: Option<&'q [&'w str]>,
     witness: Option<&'q [&'w str]>,
 ) -> Result<Question<'q, 'w>, Misfit>
-    ensures ok { IfOk result (IsOneOf grouping (option_map texts_of why.entry) (option_map texts_of witness.entry)) }
+    ensures ok { IfOk result (IsOneOf grouping (option_map (λ text. text.now) report.entry)
+        (option_map texts_of why.entry) (option_map texts_of witness.entry)) }
     ensures err { IfErr result (λ misfit. (misfit ≡ unfit.Questions) × ((question : AnyQuestion)
-        → ¬ IsOneOf grouping (option_map texts_of why.entry) (option_map texts_of witness.entry) question)) }
+        → ¬ IsOneOf grouping (option_map (λ text. text.now) report.entry)
+        (option_map texts_of why.entry) (option_map texts_of witness.entry) question)) }
 {
-    match (why, witness) {
-        (None, None) => Ok(Question::Told(grouping)),
-        (Some(lines), None) => alone(grouping, Question::Reasoned(lines)),
-        (None, Some(lines)) => alone(grouping, Question::Witnessed(lines)),
-        (Some(_), Some(_)) => Err(Misfit::Questions),
+    match (report, why, witness) {
+        (None, None, None) => Ok(Question::Told(grouping)),
+        (Some(report), None, None) => alone(grouping, Question::Scored(report)),
+        (None, Some(lines), None) => alone(grouping, Question::Reasoned(lines)),
+        (None, None, Some(lines)) => alone(grouping, Question::Witnessed(lines)),
+        _ => Err(Misfit::Questions),
     }
 }
 
@@ -122,6 +132,33 @@ fn racing<'w>(options: &ArgMatches<'w>, form: TraceForm, grouping: Grouping) -> 
         json: is_named(options, "json"),
         strict: is_strict(options),
     }
+}
+
+// What is asked where the report in this file is judged.
+fn scoring<'w>(
+    options: &ArgMatches<'w>,
+    form: TraceForm,
+    report: &'w str,
+) -> Result<Scoring<'w>, Misfit>
+    requires taken { IsRacesTaken (rows_of (found_of options.now)) }
+    requires form { IsTraceForm (first_of (codes "as") (rows_of (found_of options.now))) form }
+    requires asked { IsQuestion (rows_of (found_of options.now)) (questions.Scored report) }
+    ensures ok { IfOk result (IsScoring (rows_of (found_of options.now))) }
+    ensures err { IfErr result (HasMisfitBeside (rows_of (found_of options.now))
+        (questions.Scored report.entry)) }
+{
+    let file = text_of(options, "FILE");
+    if is_named(options, "json") || (file == "-" && report == "-") {
+        return Err(Misfit::Score);
+    }
+    let sure = is_named(options, "sure");
+    Ok(Scoring {
+        file,
+        form,
+        report,
+        sure,
+        strict: is_strict(options),
+    })
 }
 
 // What is asked where the order of the events on these lines is.

@@ -12,7 +12,7 @@ ghost use Rattle.lrc_cli_args.specs.declared.misfit.Misfit.TheVariants as unfit;
 ghost use Rattle.lrc_cli_args.specs.declared.choice.RunChoice.{RunChoice as AnyRun};
 ghost use Rattle.lrc_cli_args.specs.declared.runs.Order.{Order as AnyOrder};
 
-use crate::choice::{Choice, Form, Part, RunChoice, RunOptions, Shape, Then, Way};
+use crate::choice::{Choice, Form, Nodes, Part, RunChoice, RunOptions, Shape, Then, Way};
 use crate::misfit::Misfit;
 use crate::reading::{
     collect_of, is_given, is_named, nodes_of, size_of, some_number_of, steps_of, text_of,
@@ -109,6 +109,7 @@ fn run_options<'w>(options: &ArgMatches<'w>) -> Result<RunOptions<'w>, Misfit>
         file: text_of(options, "FILE"),
         nodes: nodes_of(options)?,
         nodes_given: is_given(options, "nodes"),
+        default_nodes: Nodes { count: 1 },
         steps: steps_of(options)?,
         collect: collect_of(options)?,
         size,

@@ -15,7 +15,7 @@ use Rattle.lrc_cli_args.specs.declared.choice.Charting.{Charting}
 use Rattle.lrc_cli_args.specs.declared.choice.RunChoice.{RunChoice}
 use Rattle.lrc_cli_args.specs.declared.choice.RunOptions.{RunOptions}
 use Rattle.lrc_cli_args.specs.declared.choice.Shape.TheVariants.{Chart}
-use Rattle.lrc_cli_runs.specs.Charted.{AreWaitsIn, IsChartFault, IsCourse}
+use Rattle.lrc_cli_runs.specs.Charted.{AreInvalidIn, AreWaitsIn, IsChartFault, IsCourse}
 use Rattle.lrc_cli_answer.specs.Labels.{labels_in}
 use Rattle.lrc_cli_runs.specs.Lines.{AreLinesIn}
 use Rattle.lrc_cli_runs.specs.Runs.{turns_in}
@@ -25,17 +25,19 @@ use Rattle.lrc_cli_answer.specs.declared.fault.Fault.TheVariants.{LongActs, NoAc
 
 -- what was found of a run's acts is known of the run
 pub course_of_run : (text : ReadText) (program : Program) (options : RunOptions) (run : Run)
-    (turns : List Made) (acts : List Act) (lines : List ℕ) (times : List (List ℕ)) (pairs : List Pair) (labels : List Label) (waits : List (Option ℕ))
-    → turns ≡ turns_told (turns_of_nodes run.report) (map (λ turn. turn.node) (turns_in program options run.events.items)) → acts ≡ run.report.acts.items
-    → AreLinesIn text program options.nodes.count acts lines → KeepsTime options.nodes.count acts times → AreFirstPairs acts pairs
+    (turns : List Made) (invalid : List (List ℕ)) (acts : List Act) (lines : List ℕ) (times : List (List ℕ)) (pairs : List Pair) (labels : List Label) (waits : List (Option ℕ))
+    → turns ≡ turns_told (turns_of_nodes run.report) (map (λ turn. turn.node) (turns_in program options run.events.items))
+    → AreInvalidIn program options run.events.items invalid → acts ≡ run.report.acts.items → AreLinesIn text program options.nodes.count acts lines → KeepsTime options.nodes.count acts times → AreFirstPairs acts pairs
     → labels ≡ labels_in text.core program → AreWaitsIn text program options acts waits
     → IsCourse text program options run (record {
       turns = turns;
+      invalid = invalid;
       known = record { acts = acts; lines = lines; times = times; pairs = pairs; labels = labels };
       waits = waits;
     })
-course_of_run text program options run turns acts lines times pairs labels waits made same lined timed paired named waited = record {
+course_of_run text program options run turns invalid acts lines times pairs labels waits made broken same lined timed paired named waited = record {
   turns = made;
+  invalid = broken;
   acts = same;
   lines = subst (λ (found : List Act). AreLinesIn text program options.nodes.count found lines) same lined;
   times = subst (λ (found : List Act). KeepsTime options.nodes.count found times) same timed;

@@ -13,6 +13,9 @@ use Rattle.lrc_chart_model.specs.declared.picture.Picture.{Picture}
 use Rattle.lrc_chart_build.specs.Course.{CourseRecord, rows_shown}
 use Rattle.lrc_chart_build.specs.Portrait.{IsPortrait, MOST_SHOWN}
 use Rattle.lrc_chart_build.specs.declared.part.Part.{Part}
+use Rattle.lrc_chart_invalid.specs.Invalidated.{invalidated_at}
+use Rattle.lrc_protocol.specs.declared.event.Event.{Event}
+use Rattle.lrc_replay.specs.Turns.{turns_of}
 use Rattle.lrc_run.specs.Run.{turns_of_nodes}
 use Rattle.lrc_world.specs.declared.run.Run.{Run}
 use Rattle.lrc_chart_text.specs.Sketch.{sketch_text}
@@ -26,7 +29,7 @@ use Rattle.lrc_cli_args.specs.declared.choice.RunChoice.{RunChoice}
 use Rattle.lrc_cli_args.specs.declared.choice.RunOptions.{RunOptions}
 use Rattle.lrc_cli_answer.specs.Labels.{labels_in}
 use Rattle.lrc_cli_runs.specs.Lines.{AreLinesIn}
-use Rattle.lrc_cli_runs.specs.Runs.{turns_in}
+use Rattle.lrc_cli_runs.specs.Runs.{options_of, turns_in}
 use Rattle.lrc_cli_answer.specs.declared.fault.Fault.{Fault}
 use Rattle.lrc_cli_answer.specs.declared.fault.Fault.TheVariants.{NoMemory, TooLong}
 
@@ -35,11 +38,18 @@ abbrev pub AreWaitsIn : ReadText → Program → RunOptions → List Act → Lis
 AreWaitsIn text program options acts waits = (places : List ℕ) × AreLines text program places
     × (waits ≡ waits_of (stands_of program options.nodes.count places (Some options.steps.count) acts))
 
--- What is known of a run of the program that this text is of: the turns that its nodes made, one after another, its acts with their lines
--- and their times, the first pairs of its races, the labels of the text, and for whom its nodes wait when it has ended.
+-- of each turn of the run of these events the pages whose copies become invalid at it
+abbrev pub AreInvalidIn : Program → RunOptions → List Event → List (List ℕ) → Type 0
+AreInvalidIn program options events invalid =
+    invalid ≡ map invalidated_at (turns_of program options.nodes.count (options_of options) events)
+
+-- What is known of a run of the program that this text is of: the turns that its nodes made, one after another, and the pages that become
+-- invalid at each; its acts with their lines and their times, the first pairs of its races, the labels of the text, and for whom its nodes
+-- wait when it has ended.
 pub record IsCourse (text : ReadText) (program : Program) (options : RunOptions) (run : Run)
     (course : CourseRecord) : Type 0 where
   pub turns : course.turns ≡ turns_told (turns_of_nodes run.report) (map (λ turn. turn.node) (turns_in program options run.events.items))
+  pub invalid : AreInvalidIn program options run.events.items course.invalid
   pub acts : course.known.acts ≡ run.report.acts.items
   pub lines : AreLinesIn text program options.nodes.count run.report.acts.items course.known.lines
   pub times : KeepsTime options.nodes.count run.report.acts.items course.known.times

@@ -1,7 +1,7 @@
 // A run as a picture.
 
 ghost use Rattle.std.specs.Prelude.{◌≡◌, IfErr, IfOk, Some, map, option_map};
-ghost use Rattle.lrc_cli_runs.specs.Charted.{AreWaitsIn, IsChart, IsCharted, IsChartFault, IsDrawn, part_of, source_of};
+ghost use Rattle.lrc_cli_runs.specs.Charted.{AreInvalidIn, AreWaitsIn, IsChart, IsCharted, IsChartFault, IsDrawn, part_of, source_of};
 ghost use Rattle.lrc_cli_runs.specs.Runs.{IsRunWith, turns_in};
 ghost use Rattle.lrc_cli_runs.specs.Shown.{IsShowFault};
 ghost use Rattle.lrc_lang.specs.declared.program.Program.{Program as AnyProgram};
@@ -12,8 +12,10 @@ ghost use Rattle.lrc_world.specs.declared.keep.Keep.TheVariants.{All as Whole};
 ghost use Rattle.lrc_cli_args.specs.declared.choice.RunOptions.{RunOptions as AnyOptions};
 ghost use Rattle.lrc_cli_args.specs.declared.choice.Shape.TheVariants.{Chart};
 
+use crate::runs::setting_of;
 use crate::trace::lines_kept;
 use lrc_chart_build::{Course, Known, Part, portrait_of};
+use lrc_chart_invalid::turns::invalidated;
 use lrc_chart_model::Picture;
 use lrc_chart_rows::turns_of;
 use lrc_chart_svg::document_of;
@@ -26,6 +28,7 @@ use lrc_explain_waits::{stands_of, waits_of};
 use lrc_judge::first_pairs::first_pairs;
 use lrc_labels::read_labels;
 use lrc_lines::walks::follow_acts;
+use lrc_node::options_of;
 use lrc_source::source::Source;
 use lrc_svg::document_part;
 use lrc_trace::act::Act;
@@ -63,6 +66,8 @@ pub(crate) fn charted(
     let order = order_of(alloc, run)?;
     let made = turns_of(alloc, &run.report.logs, &order)?;
     let turns = made.as_slice();
+    let pages = pages_invalid(alloc, source, &choice.options, run)?;
+    let invalid = pages.as_slice();
     let standing = waits_behind(alloc, source, &choice.options, acts)?;
     let waits = standing.as_slice();
     let known = Known {
@@ -74,6 +79,7 @@ pub(crate) fn charted(
     };
     let course = Course {
         turns,
+        invalid,
         known,
         waits,
     };
@@ -96,6 +102,28 @@ fn waits_behind(
     let followed = follow_acts(alloc, source.code(), source.lines(), nodes, acts)?;
     let stands = stands_of(alloc, &followed, nodes, Some(options.steps.count), acts)?;
     waits_of(alloc, &stands)
+}
+
+// The pages that become invalid at each turn of a run.
+fn pages_invalid(
+    alloc: Global,
+    source: &Source<'_>,
+    options: &RunOptions<'_>,
+    run: &Run,
+) -> Result<Vec<Vec<u16>>, AllocError>
+    requires { IsRunWith source.now.program options.now Whole run.now }
+    ensures { IfOk result (λ found. AreInvalidIn source.now.program options.now
+        run.now.events.items (map (λ pages. pages.items) found.items)) }
+{
+    let setting = setting_of(options);
+    let nodes = options.nodes.count as u8;
+    invalidated(
+        alloc,
+        source.code(),
+        nodes,
+        &options_of(&setting),
+        &run.events,
+    )
 }
 
 // The nodes in the order in which they made the turns of a run.

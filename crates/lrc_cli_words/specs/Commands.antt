@@ -110,9 +110,9 @@ judge_command = with_rule (with_rule (with_rule (with_rule (with_rule (with_rule
     (flag_option (codes "pairs"))) (flag_option (codes "all"))) (option (codes "memory"))) page) collect
 
 abbrev pub explore_command : App
-explore_command = with_rule (with_rule (with_rule (with_rule (with_rule (with_rule (with_rule (with_rule (with_rule (with_rule (with_rule (new_app (codes "explore"))
-    file) nodes) most) memory) (flag_option (codes "outcomes"))) (bare_number (codes "outcome"))) (bare_number (codes "tries")))
-    (flag_option (codes "ignore-races"))) (flag_option (codes "ends"))) (option (codes "as"))) (option (codes "tell"))
+explore_command = with_rule (with_rule (with_rule (with_rule (with_rule (with_rule (with_rule (with_rule (with_rule (with_rule (with_rule (with_rule (with_rule
+    (new_app (codes "explore")) file) nodes) most) memory) (flag_option (codes "outcomes"))) (bare_number (codes "outcome"))) (bare_number (codes "tries")))
+    (flag_option (codes "ignore-races"))) (flag_option (codes "ends"))) (option (codes "as"))) (option (codes "tell"))) page) collect
 
 -- a FILE need not be given where there is a file of acts, and an act has to be
 abbrev pub optional_file : Rule
@@ -141,9 +141,9 @@ abbrev pub line_pair : Text → Rule
 line_pair name = record (new_rule name) { long = Some name; value_names = 2 }
 
 abbrev pub races_command : App
-races_command = with_rule (with_rule (with_rule (with_rule (with_rule (with_rule (with_rule (with_rule (with_rule (new_app (codes "races")) file)
+races_command = with_rule (with_rule (with_rule (with_rule (with_rule (with_rule (with_rule (with_rule (with_rule (with_rule (new_app (codes "races")) file)
     trace_form) (flag_option (codes "group"))) (flag_option (codes "locations"))) (flag_option (codes "sure"))) (flag_option (codes "json")))
-    (flag_option (codes "strict"))) (line_pair (codes "why"))) (line_pair (codes "witness"))
+    (flag_option (codes "strict"))) (option (codes "score"))) (line_pair (codes "why"))) (line_pair (codes "witness"))
 
 -- what help is wanted on need not be given
 abbrev pub help_command : App

@@ -15,7 +15,8 @@ const FILE_HELP: &str = "The program's text; `-` is standard input";
 
 const ACTS_FILE_HELP: &str = "The text of acts; `-` is standard input";
 
-const NODES_HELP: &str = "How many nodes run the program: 1 to 16";
+const NODES_HELP: &str =
+    "How many nodes run the program: 1 to 16. For a named program its `nodes N;` is the default";
 
 const STEPS_HELP: &str = "How many statements each node may begin: 1 to 1000000";
 
@@ -95,7 +96,7 @@ const ENDS_HELP: &str =
     "Tells too whether every order can end, so that no node waits for what can no longer come";
 
 const EXPLORE_FORM_HELP: &str =
-    "events: in place of all lines, prints the events by which `sim --events` makes a run that follows the order told, the first if several are. Not with the list of outcomes, or `--memory lazy`";
+    "events: in place of all lines, prints the events by which `sim --events` makes a run that follows the order told, the first if several are. Not with the list of outcomes, or `--memory lazy` or `exact`";
 
 const TELL_HELP: &str =
     "With `--as events`: which order they are of: stuck, trap, or end, which goes with `--ends`; not with `--outcome`. Left out, the first that is told";
@@ -104,7 +105,7 @@ const OUTCOME_HELP: &str =
     "Shows the acts of a run that has the outcome of this number in the list of `--outcomes`, counted from 1, in place of the list";
 
 const MEMORY_HELP: &str =
-    "Whose runs there are: flat (every order over one flat memory), or lazy (every run of any memory that keeps lazy reading). Races are the same by both";
+    "Whose runs there are: flat (every order over one flat memory), lazy (every run of any memory that keeps lazy reading), or exact (the runs of this memory, with the pages of `--page` and the collections of `--collect`, which go with it alone). Races are the same by all";
 
 const TRIES_HELP: &str =
     "With the outcomes of the lazy memory: plays so many runs at random, of the seeds 0, 1, .., and names the least seed whose run has an outcome: 1 to 1000000";
@@ -138,6 +139,9 @@ const JSON_HELP: &str = "Prints each line as a JSON object";
 
 const STRICT_HELP: &str = "Takes the first event that no program would give for a fault";
 
+const SCORE_HELP: &str =
+    "Says of each claim of a detector's report, a file or `-`, whether it is true, and what the report missed; not with `--json`, or where FILE is `-` too";
+
 const REASONS_HELP: &str =
     "Says step by step how the events at lines I and J are ordered, or that they race. I is less than J; not with `--sure` or `--json`";
 
@@ -158,7 +162,14 @@ What orders, of two events the earlier before the later:
   an arrive and a depart in one cycle of a barrier: the first depart closes the cycle
   and what follows from these step by step
 
-Of `--group`, `--locations`, `--why` and `--witness` one can be given";
+Claims of a report, one on each line; status 3 where one is false, else 4 where something is missed:
+  event J                the access at line J races with an earlier one
+  pair I J               the accesses at lines I and J race
+  locations A|B          some two accesses race, one at the location A and the other at B
+  variable V             some two accesses of V race
+  first V J              line J is the first access of V that races with an earlier one
+
+Of `--group`, `--locations`, `--score`, `--why` and `--witness` one can be given";
 
 const WITNESS_HELP: &str =
     "Shows by which events the accesses at lines I and J were reached, if they are a sure race; else says why, with status 4. I is less than J; not with `--sure` or `--json`, or where FILE is `-`";
@@ -178,9 +189,9 @@ const STATUSES: &str = "Exit status:
   1  a fault of the text, a file, the events, memory or the output (check, core, lint: the text is no program)
   2  a fault of the words, or `--help` or `--version`. `number out of range` says that a number is not in the range that the help of
      its command gives
-  3  a race was found
+  3  a race was found (races --score: a claim is false)
   4  no race, and a node trapped or is unfinished (judge: the acts are of no run; explore: some order gets stuck or traps,
-     or can no longer end; races --witness: it is no sure race)";
+     or can no longer end; races --witness: it is no sure race; races --score: no claim is false, and something is missed)";
 
 // The names of the commands.
 static COMMANDS: [&str; 17] = [
@@ -443,7 +454,9 @@ fn explore_command<'w>(alloc: Global) -> Result<Command<'w>, AllocError>
     );
     let command = taking(command, flag_option(alloc, "ends", ENDS_HELP));
     let command = taking(command, text(alloc, "as", "FORM", EXPLORE_FORM_HELP));
-    taking(command, text(alloc, "tell", "ORDER", TELL_HELP))
+    let command = taking(command, text(alloc, "tell", "ORDER", TELL_HELP));
+    let command = taking(command, page(alloc));
+    taking(command, collect(alloc))
 }
 
 fn why_command<'w>(alloc: Global) -> Result<Command<'w>, AllocError>
@@ -485,6 +498,7 @@ fn races_command<'w>(alloc: Global) -> Result<Command<'w>, AllocError>
     let command = taking(command, flag_option(alloc, "sure", SURE_HELP));
     let command = taking(command, flag_option(alloc, "json", JSON_HELP));
     let command = taking(command, flag_option(alloc, "strict", STRICT_HELP));
+    let command = taking(command, text(alloc, "score", "REPORT", SCORE_HELP));
     let command = taking(command, line_pair(alloc, "why", REASONS_HELP));
     taking(command, line_pair(alloc, "witness", WITNESS_HELP))
 }

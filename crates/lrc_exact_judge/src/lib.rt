@@ -8,4 +8,4 @@ pub mod first;
 mod keepers;
 pub mod layout;
 mod looked_at;
-mod memory;
+pub mod memory;

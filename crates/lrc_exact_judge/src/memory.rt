@@ -19,7 +19,7 @@ const LOCKS: usize = 256;
 
 /// What the acts so far leave.
 #[derive(Drop)]
-pub(crate) struct Memory {
+pub struct Memory {
     layout: Layout,
     /// The copy of each node. At the first depart from a barrier all nodes learn what was known at the arrives, since
     /// none of them acts before its own depart.
@@ -61,7 +61,7 @@ impl Memory {
     ghost use Rattle.lrc_exact_judge.specs.Shape.{shape_of};
 
     /// Returns the memory before any act.
-    pub(crate) fn new(alloc: Global, layout: Layout) -> Result<Memory, AllocError>
+    pub fn new(alloc: Global, layout: Layout) -> Result<Memory, AllocError>
         ensures layout { IfOk result (λ memory. memory.layout ≡ layout) }
         ensures memory { IfOk result (IsMemoryOf []) }
     {
@@ -87,7 +87,7 @@ impl Memory {
     }
 
     /// Returns the value that the memory has of a word for a node that is not at a barrier.
-    pub(crate) fn value(&self, acts: &[Act], node: u8, word: u32) -> u64
+    pub fn value(&self, acts: &[Act], node: u8, word: u32) -> u64
         requires memory { IsMemoryOf acts.now self.now }
         requires node { node < self.now.layout.nodes }
         requires goes_on { arrives_before acts.now node (length acts.now)
@@ -100,7 +100,7 @@ impl Memory {
     }
 
     /// Takes in the next act after these. It fails if memory runs out; what is then kept is unspecified.
-    pub(crate) fn step(&mut self, alloc: Global, acts: &[Act], act: Act) -> Result<(), AllocError>
+    pub fn step(&mut self, alloc: Global, acts: &[Act], act: Act) -> Result<(), AllocError>
         requires memory { IsMemoryOf acts.now self.old }
         requires node { act.node < self.old.layout.nodes }
         requires short { length acts.now < 4294967295 }

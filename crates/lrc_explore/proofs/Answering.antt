@@ -16,7 +16,7 @@ use Rattle.lrc_orders_laws.proofs.Settled.{ends_in_race}
 use Rattle.lrc_explore.specs.declared.task.Task.{Task}
 use Rattle.lrc_explore.specs.declared.task.Found.{Found}
 use Rattle.lrc_explore.specs.declared.task.End.TheVariants.{Meeting}
-use Rattle.lrc_explore.specs.Answers.{IsEnd, IsFault, IsFaultOf, IsStuckFirst, looked_at}
+use Rattle.lrc_explore.specs.Answers.{IsEnd, IsFaultOf, IsSearchFault, IsStuckFirst, looked_at}
 use Rattle.lrc_explore.specs.Reached.{AreFound, IsTask}
 use Rattle.lrc_explore.specs.Traps.{LeadIntoTrap}
 use Rattle.lrc_explore.specs.Told.{LeadTo}
@@ -44,10 +44,10 @@ pub trap_answer : (task : Task) (acts : List Act) (order : List ℕ) → LeadInt
 trap_answer task acts order led is =
     subst (NodeTraps task.program.now task.flat.nodes) (sym (is ∙ append-nil (nodes_of_acts acts))) (node_traps task acts led)
 
-pub fault_of_task : (task : Task) (program : Program) (nodes most : ℕ) (noting : Bool) (fault : ExploreFault) → IsTask task → task.program.now ≡ program
-    → IsFlatOf program nodes task.flat task.start → task.most ≡ most → task.looked ≡ looked_at most → task.noting ≡ noting → IsFault task fault
-    → IsFaultOf program nodes most noting fault
-fault_of_task task program nodes most noting fault is p flat m l n f = record {
+pub fault_of_task : (task : Task) (program : Program) (nodes most : ℕ) (noting races : Bool) (fault : ExploreFault) → IsTask task → task.program.now ≡ program
+    → IsFlatOf program nodes task.flat task.start → task.most ≡ most → task.looked ≡ looked_at most → task.noting ≡ noting → IsSearchFault task races fault
+    → IsFaultOf program nodes most noting races fault
+fault_of_task task program nodes most noting races fault is p flat m l n f = record {
   nodes_in_range = f.nodes;
   many = λ e. record {
     task = task;

@@ -31,7 +31,7 @@ use Rattle.lrc_orders_laws.proofs.Settled.{outcomes}
 use Rattle.lrc_explore.specs.declared.task.Task.{Task}
 use Rattle.lrc_explore.specs.declared.task.Found.{Found}
 use Rattle.lrc_explore.specs.Reached.{AreCalm, AreExpanded, AreFound, AreNowhereStuck, AreReached, HasStart, IsExpanded, IsMore, IsReached, IsTask}
-use Rattle.lrc_explore.specs.Answers.{AddsOnly, AreGathered, AreSound, HasMoreSettled, IsFault, IsLongFault, starts_long, settles_long, has_more, IsGathered, IsGatheredAt, IsSeen, IsStuckFirst, IsThrough, first_stuck}
+use Rattle.lrc_explore.specs.Answers.{AddsOnly, AreGathered, AreSound, HasMoreSettled, IsFault, IsLongFault, IsSearchFault, starts_long, settles_long, is_long, has_more, IsGathered, IsGatheredAt, IsSeen, IsStuckFirst, IsThrough, first_stuck}
 use Rattle.lrc_explore.specs.Traps.{IsStepTrap, IsTrapSoFar, ShowsStartTrap, first_trap, start_trap}
 use Rattle.lrc_explore.specs.declared.task.Trapping.{Trapping}
 use Rattle.lrc_explore.specs.declared.task.Trapping.TheVariants as trapping
@@ -263,8 +263,9 @@ bare_key task found place key f at =
     threads_of_row (λ (spot : Spot). forgot task.live.items spot ≡ spot) keys found.table.rows.nodes at.row.threads key.state.spots.items at.stands.threads
     (f.table (means_of task) (means_are task)).bare
 
-pub has_more_settled : (task : Task) (found : Found) (most : ℕ) → AreFound task found → most < row_count found.table.rows → HasMoreSettled task most
-has_more_settled task found most f many =
+pub has_more_settled : (task : Task) (found : Found) (most : ℕ) (races : Bool) → AreFound task found → most < row_count found.table.rows
+    → (races ≡ true → AreCalm task found.table.rows (row_count found.table.rows)) → HasMoreSettled task most races
+has_more_settled task found most races f many calm =
     let all = found.table.rows in
     let reached = f.reached in
     let items = listed IsRowAt row_count WidensRows IsNotedCopy row_store all reached.full in
@@ -274,13 +275,28 @@ has_more_settled task found most f many =
       distinct = listed_apart IsRowAt row_count WidensRows IsNotedCopy row_store noted_eq.it all (row_apart all reached.distinct) items;
       each = λ k key there. reached.each k key (items.at k key there);
       bare = λ k key there. bare_key task found k key f (items.at k key there);
+      calm = λ looked k key there. let at = items.at k key there in calm looked k key (row_within all k key at) at;
     }
 
-pub too_many_states : (task : Task) (found : Found) → AreFound task found → task.most < row_count found.table.rows → IsFault task TooMany
-too_many_states task found f many = record {
+pub too_many_states : (task : Task) (found : Found) (races : Bool) → AreFound task found → task.most < row_count found.table.rows
+    → (races ≡ true → AreCalm task found.table.rows (row_count found.table.rows)) → IsSearchFault task races TooMany
+too_many_states task found races f many calm = record {
   nodes = λ e. cc;
-  many = λ e. has_more (has_more_settled task found task.most f many);
+  many = λ e. has_more (has_more_settled task found task.most races f many calm);
 }
+
+-- a step's fault is the search's
+pub of_step : (task : Task) (races : Bool) (fault : ExploreFault) → IsFault task fault → IsSearchFault task races fault
+of_step task races fault f = record { nodes = f.nodes; many = λ e. is_long (f.many e) }
+
+-- one more state at which no two nodes meet, where the least two that do are looked for
+pub calm_on : (task : Task) (all : Rows) (place : ℕ) (races : Bool) (key : Noted) → IsRowAt all place key
+    → (races ≡ true → AreCalm task all place) → (races ≡ true → IsCalm (plain_at task.flat key.state)) → races ≡ true → AreCalm task all (place + 1)
+calm_on task all place races key there before here looked k other lt at = elim (cases_eq k place) [
+  | inl same ↦
+      subst IsCalm (sym (same_plain task all place other key (subst (λ n. IsRowAt all n other) same at) there)) (here looked)
+  | inr apart ↦ before looked k other (omega (arith, lt, apart)) at
+]
 
 -- a fault of a step
 pub fault_of : (task : Task) (key : Noted) (fault : ExploreFault) → IsReached task key → IsLongFault task key.state fault → IsFault task fault

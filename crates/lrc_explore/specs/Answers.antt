@@ -57,14 +57,16 @@ pub record SettlesLong (program : Program) (nodes most : ℕ) : Type 0 where
   pub alike : AreLike machine like
   pub long : ComputesLong like most
 
--- more states than a bound, no two of them equal, each of which stands for a settled state of the program. What no longer matters is 0 in
--- them: two that stand for the same state differ in the place of the code where some node is, or in their notes
-pub record HasMoreSettled (task : Task) (most : ℕ) : Type 0 where
+-- More states than a bound, no two of them equal, each of which stands for a settled state of the program. What no longer matters is 0 in
+-- them: two that stand for the same state differ in the place of the code where some node is, or in their notes. Where races are looked
+-- for, no two nodes meet at any of them, so that no race was to be told.
+pub record HasMoreSettled (task : Task) (most : ℕ) (races : Bool) : Type 0 where
   pub keys : List Noted
   pub many : most < length keys
   pub distinct : IsDistinct eq-value.it keys
   pub each : (k : ℕ) (key : Noted) → slice_get keys k ≡ Some key → IsReached task key
   pub bare : (k : ℕ) (key : Noted) → slice_get keys k ≡ Some key → All (λ spot. forgot task.live.items spot ≡ spot) key.state.spots.items
+  pub calm : races ≡ true → (k : ℕ) (key : Noted) → slice_get keys k ≡ Some key → IsCalm (plain_at task.flat key.state)
 
 -- each settled state of the program is one of so many, but for how often nodes have arrived and for private values that nothing depends
 -- on any more
@@ -81,23 +83,32 @@ pub record FitsSettledNoted (program : Program) (nodes most : ℕ) : Type 0 wher
   pub all : (acts : List Act) (machine : Plain) → IsSettledState program nodes acts machine
       → (like : Plain) × Contains states (like, notes_of nodes acts) × AreLike machine like
 
--- why a search gives up: some node makes as many free acts as it may look at, or it met too many states; or it had no memory
-pub data IsTooMany (task : Task) : Type 0 where
-  starts_long : ComputesLong (plain_start task.program.now task.flat.nodes) task.looked → IsTooMany task
-  settles_long : SettlesLong task.program.now task.flat.nodes task.looked → IsTooMany task
-  has_more : HasMoreSettled task task.most → IsTooMany task
+-- some node makes as many free acts as a search may look at, from the start or from a settled state
+pub data IsLong (task : Task) : Type 0 where
+  starts_long : ComputesLong (plain_start task.program.now task.flat.nodes) task.looked → IsLong task
+  settles_long : SettlesLong task.program.now task.flat.nodes task.looked → IsLong task
 
+-- why a step of a search fails: such a node, or it had no memory
 pub record IsFault (task : Task) (fault : ExploreFault) : Type 0 where
   pub nodes : fault ≢ BadNodes
-  pub many : fault ≡ TooMany → IsTooMany task
+  pub many : fault ≡ TooMany → IsLong task
+
+-- why a search gives up, which looks for races or does not: such a node, or it met too many states; or it had no memory
+pub data IsTooMany (task : Task) (races : Bool) : Type 0 where
+  is_long : IsLong task → IsTooMany task races
+  has_more : HasMoreSettled task task.most races → IsTooMany task races
+
+pub record IsSearchFault (task : Task) (races : Bool) (fault : ExploreFault) : Type 0 where
+  pub nodes : fault ≢ BadNodes
+  pub many : fault ≡ TooMany → IsTooMany task races
 
 -- so it is where a step is taken from a state
 pub record IsLongFault (task : Task) (state : State) (fault : ExploreFault) : Type 0 where
   pub nodes : fault ≢ BadNodes
   pub many : fault ≡ TooMany → ComputesLong (plain_at task.flat state) task.looked
 
--- so it is of a program's code, where notes are kept or not
-pub record MetTooMany (program : Program) (nodes most : ℕ) (noting : Bool) : Type 0 where
+-- so it is of a program's code, where notes are kept or not, and races are looked for or not
+pub record MetTooMany (program : Program) (nodes most : ℕ) (noting races : Bool) : Type 0 where
   pub task : Task
   pub is : IsTask task
   pub program_is : task.program.now ≡ program
@@ -108,11 +119,11 @@ pub record MetTooMany (program : Program) (nodes most : ℕ) (noting : Bool) : T
   pub most_is : task.most ≡ most
   pub looked_is : task.looked ≡ looked_at most
   pub noting_is : task.noting ≡ noting
-  pub many : IsTooMany task
+  pub many : IsTooMany task races
 
-pub record IsFaultOf (program : Program) (nodes most : ℕ) (noting : Bool) (fault : ExploreFault) : Type 0 where
+pub record IsFaultOf (program : Program) (nodes most : ℕ) (noting races : Bool) (fault : ExploreFault) : Type 0 where
   pub nodes_in_range : fault ≢ BadNodes
-  pub many : fault ≡ TooMany → MetTooMany program nodes most noting
+  pub many : fault ≡ TooMany → MetTooMany program nodes most noting races
 
 -- what was seen at the state at a place, where races may be looked for: whether the program is stuck there, and in which step from it a
 -- node traps first

@@ -23,8 +23,8 @@ use std::alloc::{AllocError, Global};
 
 /// Searches the settled states of a program on this many nodes. It tells whether an order races, and if none does,
 /// whether one gets stuck and whether a node traps in one. It fails with `BadNodes` exactly if the number of nodes is not
-/// 1 to 16. It gives up with `TooMany` only if there are more states to tell apart than `most`, or if a thread makes
-/// 1,000,000 + 20 * `most` free acts one after another. It fails if memory runs out.
+/// 1 to 16. It gives up with `TooMany` only if there are more states to tell apart than `most`, at none of which two nodes
+/// meet, or if a thread makes 1,000,000 + 20 * `most` free acts one after another. It fails if memory runs out.
 pub fn explore(
     alloc: Global,
     program: &Program,
@@ -36,7 +36,7 @@ pub fn explore(
         → FitsSettled program.now nodes most) }
     ensures bad_nodes { (result ≡ Err ExploreFault.BadNodes) ↔ (¬ AreNodes nodes) }
     ensures too_many { IfErr result (λ fault. fault ≡ ExploreFault.TooMany
-        → MetTooMany program.now nodes most false) }
+        → MetTooMany program.now nodes most false true) }
 {
     let count = count_of(nodes)?;
     let code = Code::new(alloc, program)?;
@@ -52,7 +52,7 @@ fn explore_code(
 ) -> Result<Verdict, ExploreFault>
     ensures answer { IfOk result (IsAnswer code.now nodes) }
     ensures fits { IfOk result (λ verdict. FindsNoRace verdict → FitsSettled code.now nodes most) }
-    ensures faults { IfErr result (IsFaultOf code.now nodes most false) }
+    ensures faults { IfErr result (IsFaultOf code.now nodes most false true) }
 {
     let task = task_of(alloc, code, nodes, most, false)?;
     let mut found = Found::none(alloc, nodes as usize);
@@ -60,7 +60,7 @@ fn explore_code(
 }
 
 /// Searches the settled states of a program on this many nodes, whether or not an order races. It tells whether one gets
-/// stuck and whether a node traps in one. It fails as `explore` does.
+/// stuck and whether a node traps in one. It fails as `explore` does, but that two nodes may meet at these states.
 pub fn findings(
     alloc: Global,
     program: &Program,
@@ -71,7 +71,7 @@ pub fn findings(
     ensures fits { IfOk result (λ _. FitsSettled program.now nodes most) }
     ensures bad_nodes { (result ≡ Err ExploreFault.BadNodes) ↔ (¬ AreNodes nodes) }
     ensures too_many { IfErr result (λ fault. fault ≡ ExploreFault.TooMany
-        → MetTooMany program.now nodes most false) }
+        → MetTooMany program.now nodes most false false) }
 {
     let count = count_of(nodes)?;
     let code = Code::new(alloc, program)?;
@@ -87,7 +87,7 @@ fn findings_of(
 ) -> Result<Findings, ExploreFault>
     ensures findings { IfOk result (AreFindings code.now nodes) }
     ensures fits { IfOk result (λ _. FitsSettled code.now nodes most) }
-    ensures faults { IfErr result (IsFaultOf code.now nodes most false) }
+    ensures faults { IfErr result (IsFaultOf code.now nodes most false false) }
 {
     let task = task_of(alloc, code, nodes, most, false)?;
     let mut found = Found::none(alloc, nodes as usize);
@@ -107,7 +107,7 @@ pub fn outcomes(
     ensures fits { IfOk result (λ _. FitsSettledNoted program.now nodes most) }
     ensures bad_nodes { (result ≡ Err ExploreFault.BadNodes) ↔ (¬ AreNodes nodes) }
     ensures too_many { IfErr result (λ fault. fault ≡ ExploreFault.TooMany
-        → MetTooMany program.now nodes most true) }
+        → MetTooMany program.now nodes most true false) }
 {
     let count = count_of(nodes)?;
     let code = Code::new(alloc, program)?;
@@ -124,7 +124,7 @@ fn outcomes_of(
     ensures exact { IfOk result (λ found. (notes : List ActType)
         → (HasOutcome found.keys notes ↔ IsOutcome code.now nodes notes)) }
     ensures fits { IfOk result (λ _. FitsSettledNoted code.now nodes most) }
-    ensures faults { IfErr result (IsFaultOf code.now nodes most true) }
+    ensures faults { IfErr result (IsFaultOf code.now nodes most true false) }
 {
     let task = task_of(alloc, code, nodes, most, true)?;
     let mut found = Found::none(alloc, nodes as usize);
@@ -200,11 +200,11 @@ fn order_of(alloc: Global, acts: &[Act], more: &[usize]) -> Result<Vec<usize>, A
 }
 
 impl Found {
-    ghost use Rattle.std.specs.Prelude.{◌≡◌, IfOk, IfErr, OnOk, [], true, Some, option_map};
+    ghost use Rattle.std.specs.Prelude.{◌≡◌, IfOk, IfErr, OnOk, [], true, false, Some, option_map};
     ghost use Rattle.lrc_orders_table.specs.Rows.{row_count};
     ghost use Rattle.lrc_explore.specs.Reached.{AreFound, HasStart, IsTask};
     ghost use Rattle.lrc_explore.specs.Ended.{AreAllFound};
-    ghost use Rattle.lrc_explore.specs.Answers.{AreAllExpanded, FitsEnd, FitsSettled, FitsSettledNoted, IsAnswer, IsEnd, IsFault, IsStuckFirst};
+    ghost use Rattle.lrc_explore.specs.Answers.{AreAllExpanded, FitsEnd, FitsSettled, FitsSettledNoted, IsAnswer, IsEnd, IsFault, IsSearchFault, IsStuckFirst};
     ghost use Rattle.lrc_explore.specs.Traps.{IsTrapSoFar};
     ghost use Rattle.lrc_orders.specs.Verdict.{AreFindings, FindsNoRace, TellsStuck, TellsTrap};
     ghost use Rattle.lrc_explore.specs.declared.task.End.TheVariants.{Meeting};
@@ -217,7 +217,7 @@ impl Found {
         ensures answer { IfOk result (IsAnswer task.now.program.now task.now.flat.nodes) }
         ensures fits { IfOk result (λ verdict. FindsNoRace verdict
             → FitsSettled task.now.program.now task.now.flat.nodes task.now.most) }
-        ensures faults { IfErr result (IsFault task.now) }
+        ensures faults { IfErr result (IsSearchFault task.now true) }
     {
         let traps = self.begin(alloc, task)?;
         let end = self.seek(alloc, task, true, traps)?;
@@ -232,7 +232,7 @@ impl Found {
         ensures findings { IfOk result (AreFindings task.now.program.now task.now.flat.nodes) }
         ensures fits { IfOk result (λ _. FitsSettled task.now.program.now task.now.flat.nodes
             task.now.most) }
-        ensures faults { IfErr result (IsFault task.now) }
+        ensures faults { IfErr result (IsSearchFault task.now false) }
     {
         let traps = self.begin(alloc, task)?;
         let end = self.seek(alloc, task, false, traps)?;
@@ -372,7 +372,7 @@ impl Found {
             ↔ IsOutcome task.now.program.now task.now.flat.nodes notes)) }
         ensures fits { OnOk result (FitsSettledNoted task.now.program.now task.now.flat.nodes
             task.now.most) }
-        ensures faults { IfErr result (IsFault task.now) }
+        ensures faults { IfErr result (IsSearchFault task.now false) }
     {
         let _traps = self.begin(alloc, task)?;
         self.gather(alloc, task, outcomes)

@@ -1,7 +1,7 @@
 // The runs of a program that end, and their outcomes.
 
-ghost use Rattle.std.specs.Prelude.{◌≡◌, ◌↔◌, IfOk, IfErr, IsTrue, true};
-ghost use Rattle.lrc_explore.specs.Answers.{FitsSettledNoted, IsFault};
+ghost use Rattle.std.specs.Prelude.{◌≡◌, ◌↔◌, IfOk, IfErr, IsTrue, true, false};
+ghost use Rattle.lrc_explore.specs.Answers.{FitsSettledNoted, IsSearchFault};
 ghost use Rattle.lrc_explore.specs.Ended.{AreEnded};
 ghost use Rattle.lrc_explore.specs.Reached.{IsTask};
 
@@ -29,7 +29,7 @@ pub fn all_ended(alloc: Global, task: &Task<'_>) -> Result<Ended, ExploreFault>
     ensures ended { IfOk result (AreEnded task.now) }
     ensures fits { IfOk result (λ _. FitsSettledNoted task.now.program.now task.now.flat.nodes
         task.now.most) }
-    ensures faults { IfErr result (IsFault task.now) }
+    ensures faults { IfErr result (IsSearchFault task.now false) }
 {
     let mut found = Found::none(alloc, task.flat.nodes as usize);
     let mut outcomes = IndexSet::new(alloc);

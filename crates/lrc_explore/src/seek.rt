@@ -59,11 +59,11 @@ fn keep(outcomes: &mut IndexSet<Outcome>, notes: Vec<Act>) -> Result<(), AllocEr
 }
 
 impl Found {
-    ghost use Rattle.std.specs.Prelude.{◌≡◌, ◌<◌, ◌≤◌, IfOk, IfErr, OnOk, MatchOption, [], true};
+    ghost use Rattle.std.specs.Prelude.{◌≡◌, ◌<◌, ◌≤◌, IfOk, IfErr, OnOk, MatchOption, [], true, false};
     ghost use Rattle.lrc_orders_table.specs.Rows.{row_count, WidensRows};
     ghost use Rattle.lrc_orders.specs.Kept.{Grows};
-    ghost use Rattle.lrc_explore.specs.Reached.{AreExpanded, AreFound, IsExpandedAt, IsMore, IsTask};
-    ghost use Rattle.lrc_explore.specs.Answers.{AreGathered, AreSound, FitsEnd, IsEnd, IsFault, IsGatheredAt, IsVisit};
+    ghost use Rattle.lrc_explore.specs.Reached.{AreCalm, AreExpanded, AreFound, IsExpandedAt, IsMore, IsTask};
+    ghost use Rattle.lrc_explore.specs.Answers.{AreGathered, AreSound, FitsEnd, IsEnd, IsFault, IsGatheredAt, IsSearchFault, IsVisit};
     ghost use Rattle.lrc_explore.specs.Traps.{ShowsStartTrap};
     ghost use Rattle.lrc_exec.specs.States.{plain_at};
     ghost use Rattle.lrc_orders.specs.declared.noted.Noted.{Noted as Key};
@@ -73,7 +73,8 @@ impl Found {
 
     /// Looks for a state where two nodes meet, if `races` is true. If there is none, all states are found, and the answer
     /// tells the first of them at which the program is stuck, if any, and where a node traps first, if one does. `start`
-    /// says whether one traps as the start settles.
+    /// says whether one traps as the start settles. Where it gives up for too many states, no two nodes meet at any of those
+    /// that were found, if `races` is true.
     pub fn seek(
         &mut self,
         alloc: Global,
@@ -88,14 +89,14 @@ impl Found {
         ensures more { OnOk result (IsMore self.old self.new) }
         ensures end { IfOk result (IsEnd task.now self.new races) }
         ensures fits { IfOk result (FitsEnd task.now self.new) }
-        ensures faults { IfErr result (IsFault task.now) }
+        ensures faults { IfErr result (IsSearchFault task.now races) }
     {
         let mut stuck = None;
         let mut trap = start_trap(start);
         let mut place = 0;
         while place < self.table.rows.len() {
             if self.table.rows.len() > task.most {
-                return Err(ExploreFault::TooMany);
+                return self.meeting_from(task, place, races);
             }
             match self.visit(alloc, task, place, races)? {
                 Visit::Meeting(p, q) => return Ok(End::Meeting { place, p, q }),
@@ -110,6 +111,27 @@ impl Found {
             place += 1;
         }
         Ok(End::Through { stuck, trap })
+    }
+
+    // The first state from this place on where two nodes meet, if that is looked for, where there are more states than may
+    // be. If there is none, there are too many.
+    fn meeting_from(&self, task: &Task<'_>, first: usize, races: bool) -> Result<End, ExploreFault>
+        requires found { AreFound task.now self.now }
+        requires calm { races ≡ true → AreCalm task.now self.now.table.rows first }
+        requires within { first < row_count self.now.table.rows }
+        requires many { task.now.most < row_count self.now.table.rows }
+        ensures end { IfOk result (IsEnd task.now self.now races) }
+        ensures fits { IfOk result (FitsEnd task.now self.now) }
+        ensures faults { IfErr result (IsSearchFault task.now races) }
+    {
+        let _most = task.most;
+        for place in first..self.table.rows.len() {
+            let row = self.table.rows.row(place);
+            if let Some((p, q)) = self.meeting(&row, races) {
+                return Ok(End::Meeting { place, p, q });
+            }
+        }
+        Err(ExploreFault::TooMany)
     }
 
     // Looks at a state, and finds the states after it, but where two nodes meet there and that is looked for.
@@ -164,7 +186,7 @@ impl Found {
         ensures done { OnOk result (AreGathered task.now self.new.table.rows outcomes.new.keys
             (row_count self.new.table.rows)) }
         ensures fits { OnOk result (row_count self.new.table.rows ≤ task.now.most) }
-        ensures faults { IfErr result (IsFault task.now) }
+        ensures faults { IfErr result (IsSearchFault task.now false) }
     {
         let mut place = 0;
         while place < self.table.rows.len() {

@@ -3,7 +3,7 @@
 ghost use Rattle.std.specs.Prelude.{◌≡◌, ◌≢◌, ◌<◌, ◌≤◌, ◌↔◌, IfErr, IfOk, Err, true, false};
 ghost use Rattle.lrc_exec.specs.Nodes.{AreNodes};
 ghost use Rattle.lrc_orders_table.specs.Rows.{row_count};
-ghost use Rattle.lrc_explore.specs.Answers.{AreAllExpanded, FitsSettled, IsEnd, IsFault, IsFaultOf, IsThrough, MetTooMany};
+ghost use Rattle.lrc_explore.specs.Answers.{AreAllExpanded, FitsSettled, IsEnd, IsFault, IsFaultOf, IsSearchFault, IsThrough, MetTooMany};
 ghost use Rattle.lrc_explore.specs.Reached.{AreFound, IsTask};
 ghost use Rattle.lrc_explore.specs.declared.task.End.TheVariants.{Meeting};
 ghost use Rattle.lrc_explore_ends.specs.Answers.{GoesThrough, IsEndAnswer};
@@ -36,7 +36,7 @@ pub enum EndVerdict {
 
 /// Searches the settled states of a program on this many nodes. It tells whether an order races, if `races` is true, and
 /// if none does, whether one gets stuck, whether a node traps in one, and whether every order can end. It fails as
-/// `explore` does.
+/// `explore` does, but that two nodes may meet at the states that were found where `races` is false.
 pub fn explore_ends(
     alloc: Global,
     program: &Program,
@@ -49,7 +49,7 @@ pub fn explore_ends(
         → FitsSettled program.now nodes most) }
     ensures bad_nodes { (result ≡ Err ExploreFault.BadNodes) ↔ (¬ AreNodes nodes) }
     ensures too_many { IfErr result (λ fault. fault ≡ ExploreFault.TooMany
-        → MetTooMany program.now nodes most false) }
+        → MetTooMany program.now nodes most false races) }
 {
     let count = count_of(nodes)?;
     let code = Code::new(alloc, program)?;
@@ -67,7 +67,7 @@ fn ends_of_code(
     ensures answer { IfOk result (IsEndAnswer code.now nodes races) }
     ensures fits { IfOk result (λ verdict. GoesThrough verdict
         → FitsSettled code.now nodes most) }
-    ensures faults { IfErr result (IsFaultOf code.now nodes most false) }
+    ensures faults { IfErr result (IsFaultOf code.now nodes most false races) }
 {
     let task = task_of(alloc, code, nodes, most, false)?;
     search(alloc, &task, races)
@@ -79,7 +79,7 @@ fn search(alloc: Global, task: &Task<'_>, races: bool) -> Result<EndVerdict, Exp
     ensures answer { IfOk result (IsEndAnswer task.now.program.now task.now.flat.nodes races) }
     ensures fits { IfOk result (λ verdict. GoesThrough verdict
         → FitsSettled task.now.program.now task.now.flat.nodes task.now.most) }
-    ensures faults { IfErr result (IsFault task.now) }
+    ensures faults { IfErr result (IsSearchFault task.now races) }
 {
     let mut found = Found::none(alloc, task.flat.nodes as usize);
     let traps = found.begin(alloc, task)?;

@@ -1,6 +1,6 @@
 // Events along a run that has one of the outcomes of a program.
 
-ghost use Rattle.std.specs.Prelude.{◌≡◌, ◌≢◌, ◌≤◌, IfErr, IfOk, option_map, true};
+ghost use Rattle.std.specs.Prelude.{◌≡◌, ◌≢◌, ◌≤◌, IfErr, IfOk, false, option_map, true};
 ghost use Rattle.lrc_exec.specs.Nodes.{AreNodes};
 ghost use Rattle.lrc_explore.specs.Answers.{FitsSettledNoted, MetTooMany};
 ghost use Rattle.lrc_explore_events_text.specs.Shows.{ShowsRunOfNumber};
@@ -29,7 +29,7 @@ pub fn outcome_shown(
     ensures fits { IfOk result (λ _. FitsSettledNoted program.now nodes most) }
     ensures nodes { IfErr result (λ fault. fault ≢ ExploreFault.BadNodes) }
     ensures too_many { IfErr result (λ fault. fault ≡ ExploreFault.TooMany
-        → MetTooMany program.now nodes most true) }
+        → MetTooMany program.now nodes most true false) }
 {
     let count = nodes as u8;
     match outcome_run(alloc, program, count, most, number)? {

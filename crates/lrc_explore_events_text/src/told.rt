@@ -59,7 +59,7 @@ pub fn line_shown(
     ensures fits { IfOk result (λ shown. shown.status ≢ 3 → FitsSettled program.now nodes most) }
     ensures nodes { IfErr result (λ fault. fault ≢ ExploreFault.BadNodes) }
     ensures too_many { IfErr result (λ fault. fault ≡ ExploreFault.TooMany
-        → MetTooMany program.now nodes most false) }
+        → MetTooMany program.now nodes most false races) }
 {
     if ends {
         return ends_shown(alloc, program, nodes, most, races, line);
@@ -87,7 +87,7 @@ fn ends_shown(
     ensures fits { IfOk result (λ shown. shown.status ≢ 3 → FitsSettled program.now nodes most) }
     ensures nodes { IfErr result (λ fault. fault ≢ ExploreFault.BadNodes) }
     ensures too_many { IfErr result (λ fault. fault ≡ ExploreFault.TooMany
-        → MetTooMany program.now nodes most false) }
+        → MetTooMany program.now nodes most false races) }
 {
     let verdict = explore_ends(alloc, program, nodes, most, races)?;
     let shown = end_verdict_shown(alloc, program, nodes as u8, races, &verdict, line)?;
@@ -130,7 +130,7 @@ fn verdict_shown(
     ensures fits { IfOk result (λ shown. shown.status ≢ 3 → FitsSettled program.now nodes most) }
     ensures nodes { IfErr result (λ fault. fault ≢ ExploreFault.BadNodes) }
     ensures too_many { IfErr result (λ fault. fault ≡ ExploreFault.TooMany
-        → MetTooMany program.now nodes most false) }
+        → MetTooMany program.now nodes most false true) }
 {
     let verdict = explore(alloc, program, nodes, most)?;
     let shown = of_verdict(alloc, program, nodes as u8, &verdict, line)?;

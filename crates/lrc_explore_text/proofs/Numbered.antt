@@ -1,5 +1,5 @@
 -- The outcome of a number, and a run that has it.
-use Rattle.std.proofs.Common.{◌≡◌, ℕ, zero, suc, ◌+◌, ◌<◌, ◌≤◌, List, [], ◌∷◌, inl, inr, length, map, sym, subst, ◌∙◌, ap, arith}
+use Rattle.std.proofs.Common.{◌≡◌, false, ℕ, zero, suc, ◌+◌, ◌<◌, ◌≤◌, List, [], ◌∷◌, inl, inr, length, map, sym, subst, ◌∙◌, ap, arith}
 use Rattle.std.specs.Prelude.{Contains, Some, None, slice_get}
 use Rattle.std.specs.List.{IsDistinct}
 use Rattle.std.specs.List.Sorted.{IsPermutation}
@@ -12,7 +12,7 @@ use Rattle.lrc_orders.specs.declared.outcomes.Outcome.{Outcome}
 use Rattle.lrc_orders.specs.contracts.outcomes.OutcomePartialEq.TheImpl.{eq-value}
 use Rattle.lrc_orders.proofs.Keeping.{item_at}
 use Rattle.lrc_orders.specs.declared.search.ExploreFault.TheVariants.{NoMemory, TooMany}
-use Rattle.lrc_explore.specs.Answers.{IsFault}
+use Rattle.lrc_explore.specs.Answers.{IsSearchFault}
 use Rattle.lrc_explore.specs.declared.task.Task.{Task}
 use Rattle.lrc_explore.specs.declared.ended.Ended.{Ended}
 use Rattle.lrc_explore.specs.Ended.{AreEnded, IsRunFor, IsRunWith}
@@ -95,5 +95,5 @@ text_at (first ∷ parts) zero part e = ap (λ (p : Part). Some p.items) (same_S
 text_at (first ∷ parts) (suc k) part e = text_at parts k part e
 
 -- that memory ran out is a fault of every search
-pub no_memory : (task : Task) → IsFault task NoMemory
+pub no_memory : (task : Task) → IsSearchFault task false NoMemory
 no_memory task = record { nodes = λ e. cc; many = λ e. let x : NoMemory ≡ TooMany = e in cc }

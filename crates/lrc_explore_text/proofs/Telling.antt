@@ -1,6 +1,6 @@
 -- What is told of a program.
 use Rattle.std.proofs.Common.{◌≡◌, ℕ, ◌+◌, ◌-◌, List, [], ◌++◌, Bool, true, false, Result, Ok, Err, IfOk, length, length-append, sym, subst, ◌∙◌, ap, arith}
-use Rattle.std.specs.Prelude.{◌≢◌, IfErr, Some, codes}
+use Rattle.std.specs.Prelude.{◌≢◌, IfErr, Some, codes, not}
 use Rattle.std.proofs.lemmas.Option.{same_Some}
 use Rattle.lrc_lang.specs.declared.program.Program.{Program}
 use Rattle.lrc_explain_waits.specs.Traps.{Wording}
@@ -48,9 +48,9 @@ module _ (program : Program) (nodes most : ℕ) (outcomes : Bool) (r : Result Pr
   fits_in is h = subst (λ b. IfOk r (λ p. MeetsFew program nodes most b p.status)) (sym is) h
 
   -- why it gives up
-  pub gives_up : (b : Bool) → outcomes ≡ b → IfErr r (λ fault. fault ≡ TooMany → MetTooMany program nodes most b)
+  pub gives_up : (b : Bool) → outcomes ≡ b → IfErr r (λ fault. fault ≡ TooMany → MetTooMany program nodes most b (not b))
       → IfErr r (λ fault. fault ≡ TooMany → MeetsTooMany program nodes most outcomes)
-  gives_up b is h = subst (λ o. IfErr r (λ fault. fault ≡ TooMany → MetTooMany program nodes most o)) (sym is) h
+  gives_up b is h = subst (λ o. IfErr r (λ fault. fault ≡ TooMany → MetTooMany program nodes most o (not o))) (sym is) h
 
 -- ---- one order
 

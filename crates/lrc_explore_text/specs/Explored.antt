@@ -1,5 +1,5 @@
 -- What is printed of every order of a program, and the status after it.
-use Rattle.std.specs.Prelude.{◌≢◌, ℕ, Bool, true, false, List}
+use Rattle.std.specs.Prelude.{◌≢◌, ℕ, Bool, true, false, List, not}
 use Rattle.lrc_lang.specs.declared.program.Program.{Program}
 use Rattle.lrc_explain_waits.specs.Traps.{Wording}
 use Rattle.lrc_explore.specs.Answers.{FitsSettled, FitsSettledNoted, MetTooMany}
@@ -13,7 +13,7 @@ pub data Explores (wording : Wording) (program : Program) (nodes : ℕ) (lines :
 
 -- the search met more states than it may, or looked at more acts; where outcomes are asked for, its states are told apart by their notes too
 abbrev pub MeetsTooMany : Program → (nodes most : ℕ) → (outcomes : Bool) → Type 0
-MeetsTooMany program nodes most outcomes = MetTooMany program nodes most outcomes
+MeetsTooMany program nodes most outcomes = MetTooMany program nodes most outcomes (not outcomes)
 
 -- all settled states are among as many as the search may meet, but for how often nodes have arrived, unless it ends at a race, whose status
 -- is 3; where outcomes are asked for, so they are with what was printed

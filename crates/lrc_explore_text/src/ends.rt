@@ -39,7 +39,7 @@ pub fn explored_ends(
         → FitsSettled program.now nodes most) }
     ensures nodes { IfErr result (λ fault. fault ≢ ExploreFault.BadNodes) }
     ensures too_many { IfErr result (λ fault. fault ≡ ExploreFault.TooMany
-        → MetTooMany program.now nodes most false) }
+        → MetTooMany program.now nodes most false races) }
 {
     let verdict = explore_ends(alloc, program, nodes, most, races)?;
     let printout = answer_told(alloc, wording, program, lines, nodes as u8, races, &verdict)?;

@@ -1,6 +1,6 @@
 // Whether an order races or gets stuck, and whether a node traps in one, as it is printed.
 
-ghost use Rattle.std.specs.Prelude.{◌≡◌, ◌≢◌, ◌<◌, ◌-◌, ◌++◌, ℕ, List, IfErr, IfOk, IsSome, Some, All, false, length, map, option_map};
+ghost use Rattle.std.specs.Prelude.{◌≡◌, ◌≢◌, ◌<◌, ◌-◌, ◌++◌, ℕ, List, IfErr, IfOk, IsSome, Some, All, false, true, length, map, option_map};
 ghost use Rattle.lrc_judge.specs.declared.TheConstants.{NODES};
 ghost use Rattle.lrc_explain_waits.specs.Traps.{wording_of};
 ghost use Rattle.lrc_text.specs.Parts.{whole_text};
@@ -48,7 +48,7 @@ pub(crate) fn orders_told(
         → FitsSettled program.now nodes most) }
     ensures nodes { IfErr result (λ fault. fault ≢ ExploreFault.BadNodes) }
     ensures too_many { IfErr result (λ fault. fault ≡ ExploreFault.TooMany
-        → MetTooMany program.now nodes most false) }
+        → MetTooMany program.now nodes most false true) }
 {
     let verdict = explore(alloc, program, nodes, most)?;
     let printout = verdict_told(alloc, wording, program, lines, nodes as u8, &verdict)?;
@@ -72,7 +72,7 @@ pub fn findings_told(
     ensures fits { IfOk result (λ _. FitsSettled program.now nodes most) }
     ensures nodes { IfErr result (λ fault. fault ≢ ExploreFault.BadNodes) }
     ensures too_many { IfErr result (λ fault. fault ≡ ExploreFault.TooMany
-        → MetTooMany program.now nodes most false) }
+        → MetTooMany program.now nodes most false false) }
 {
     let found = findings(alloc, program, nodes, most)?;
     let printout = found_told(alloc, b"", wording, program, lines, nodes as u8, &found)?;

@@ -1,8 +1,8 @@
 // A run that has one of the outcomes of a program, as it is printed.
 
-ghost use Rattle.std.specs.Prelude.{◌≡◌, ◌≢◌, ◌<◌, ◌≤◌, ◌↔◌, Contains, IfErr, IfOk, IsTrue, length, map, option_map, true};
+ghost use Rattle.std.specs.Prelude.{◌≡◌, ◌≢◌, ◌<◌, ◌≤◌, ◌↔◌, Contains, IfErr, IfOk, IsTrue, length, map, option_map, false, true};
 ghost use Rattle.lrc_exec.specs.Nodes.{AreNodes};
-ghost use Rattle.lrc_explore.specs.Answers.{FitsSettledNoted, IsFault, IsFaultOf, MetTooMany};
+ghost use Rattle.lrc_explore.specs.Answers.{FitsSettledNoted, IsFault, IsFaultOf, IsSearchFault, MetTooMany};
 ghost use Rattle.lrc_explore.specs.Ended.{AreEnded};
 ghost use Rattle.lrc_explore.specs.Reached.{IsTask};
 ghost use Rattle.lrc_explore_text.specs.OutcomeRun.{IsLineAt, IsPlaceOfNumber, IsRunAt, IsRunOfNumber, TellsRunOfNumber};
@@ -40,7 +40,7 @@ pub fn outcome_run_told(
     ensures fits { IfOk result (λ _. FitsSettledNoted program.now nodes most) }
     ensures nodes { IfErr result (λ fault. fault ≢ ExploreFault.BadNodes) }
     ensures too_many { IfErr result (λ fault. fault ≡ ExploreFault.TooMany
-        → MetTooMany program.now nodes most true) }
+        → MetTooMany program.now nodes most true false) }
 {
     let count = nodes as u8;
     let run = outcome_run(alloc, program, count, most, number)?;
@@ -66,7 +66,7 @@ pub fn outcome_run(
     ensures run { IfOk result (λ run. IsRunOfNumber program.now nodes number
         (option_map (λ acts. acts.items) run)) }
     ensures fits { IfOk result (λ _. FitsSettledNoted program.now nodes most) }
-    ensures faults { IfErr result (IsFaultOf program.now nodes most true) }
+    ensures faults { IfErr result (IsFaultOf program.now nodes most true false) }
 {
     let code = Code::new(alloc, program)?;
     run_in(alloc, &code, nodes, most, number)
@@ -84,7 +84,7 @@ fn run_in(
     ensures run { IfOk result (λ run. IsRunOfNumber code.now nodes number
         (option_map (λ acts. acts.items) run)) }
     ensures fits { IfOk result (λ _. FitsSettledNoted code.now nodes most) }
-    ensures faults { IfErr result (IsFaultOf code.now nodes most true) }
+    ensures faults { IfErr result (IsFaultOf code.now nodes most true false) }
 {
     let task = task_of(alloc, code, nodes, most, true)?;
     run_of(alloc, &task, number)
@@ -99,7 +99,7 @@ fn run_of(alloc: Global, task: &Task<'_>, number: u64) -> Result<Option<Vec<Act>
         (option_map (λ acts. acts.items) run)) }
     ensures fits { IfOk result (λ _. FitsSettledNoted task.now.program.now task.now.flat.nodes
         task.now.most) }
-    ensures faults { IfErr result (IsFault task.now) }
+    ensures faults { IfErr result (IsSearchFault task.now false) }
 {
     let ended = all_ended(alloc, task)?;
     let place = place_of(alloc, task.flat.nodes, ended.outcomes.as_slice(), number)?;

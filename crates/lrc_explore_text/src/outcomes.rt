@@ -1,6 +1,6 @@
 // Every outcome of a program, as it is printed.
 
-ghost use Rattle.std.specs.Prelude.{◌≡◌, ◌≢◌, ◌++◌, IfErr, IfOk, OnOk, codes, decimal, map, true};
+ghost use Rattle.std.specs.Prelude.{◌≡◌, ◌≢◌, ◌++◌, IfErr, IfOk, OnOk, codes, decimal, false, map, true};
 ghost use Rattle.std.specs.List.{IsDistinct};
 ghost use Rattle.lrc_exec.specs.Nodes.{AreNodes};
 ghost use Rattle.lrc_orders.specs.contracts.outcomes.OutcomePartialEq.TheImpl.{eq-value};
@@ -34,7 +34,7 @@ pub(crate) fn outcomes_told(
     ensures fits { IfOk result (λ _. FitsSettledNoted program.now nodes most) }
     ensures nodes { IfErr result (λ fault. fault ≢ ExploreFault.BadNodes) }
     ensures too_many { IfErr result (λ fault. fault ≡ ExploreFault.TooMany
-        → MetTooMany program.now nodes most true) }
+        → MetTooMany program.now nodes most true false) }
 {
     let found = outcomes(alloc, program, nodes, most)?;
     let parts = outcomes_listed(alloc, nodes as u8, &found)?;

@@ -87,7 +87,7 @@ one_more nodes outcomes seeds told k outcome seed one at marked line is so_far =
 
 -- ---- the text
 
-marked_text : (told : List ToldOutcome) → marked_lines told ≡ flat_map marked_line (map told_pair told)
+pub marked_text : (told : List ToldOutcome) → marked_lines told ≡ flat_map marked_line (map told_pair told)
 marked_text [] = refl
 marked_text (one ∷ told) = ap (λ l. marked_line (told_pair one) ++ l) (marked_text told)
 

@@ -17,9 +17,9 @@ use std::alloc::{AllocError, Global};
 
 /// An outcome as it is printed: its line, and the least of the tried seeds whose run has it, if one has.
 #[derive(PartialEq, Eq, PartialOrd, Ord, Drop)]
-struct ToldOutcome {
-    line: Vec<u8>,
-    seed: Option<u64>,
+pub struct ToldOutcome {
+    pub line: Vec<u8>,
+    pub seed: Option<u64>,
 }
 
 /// Returns what is printed of the outcomes of the lazy runs of a program, in parts. If `tries` is given, it plays a run
@@ -91,8 +91,8 @@ fn head_of(alloc: Global, count: usize) -> Result<Vec<u8>, AllocError>
     Ok(head)
 }
 
-// Says that no run ends, where there are no outcomes.
-fn push_none_ends(text: &mut Vec<u8>, count: usize) -> Result<(), AllocError>
+/// Says that no run ends, where there are no outcomes.
+pub fn push_none_ends(text: &mut Vec<u8>, count: usize) -> Result<(), AllocError>
     ensures { OnOk result (text.new.items ≡ text.old.items ++ none_ends count) }
 {
     if count == 0 {
@@ -102,8 +102,8 @@ fn push_none_ends(text: &mut Vec<u8>, count: usize) -> Result<(), AllocError>
     }
 }
 
-// The lines of outcomes with their seeds, ascending by the lines.
-fn sorted_lines(
+/// Returns the lines of outcomes with their seeds, ascending by the lines.
+pub fn sorted_lines(
     alloc: Global,
     nodes: u8,
     outcomes: &[Outcome],
@@ -122,8 +122,12 @@ fn sorted_lines(
     Ok(told)
 }
 
-// The lines, each with its seed, behind a first line.
-fn all_lines(alloc: Global, head: Vec<u8>, told: &[ToldOutcome]) -> Result<Vec<Vec<u8>>, AllocError>
+/// Returns the lines, each with its seed, behind a first line.
+pub fn all_lines(
+    alloc: Global,
+    head: Vec<u8>,
+    told: &[ToldOutcome],
+) -> Result<Vec<Vec<u8>>, AllocError>
     ensures { IfOk result (λ parts. whole_text parts.items ≡ head.items ++ marked_lines told.now) }
 {
     let mut parts = Vec::new(alloc);

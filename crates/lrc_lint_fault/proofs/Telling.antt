@@ -43,7 +43,7 @@ within_all xs i kind some first =
     let long = simp (length-map, length-append) at (ap length h.split) in
     omega (arith, long, h.place)
 
-item_behind : {A : Type 0} (front : List A) (found d : A) (others : List A) → get_or (front ++ found ∷ others) (length front) d ≡ found
+pub item_behind : {A : Type 0} (front : List A) (found d : A) (others : List A) → get_or (front ++ found ∷ others) (length front) d ≡ found
 item_behind [] found d others = refl
 item_behind (x ∷ front) found d others = item_behind front found d others
 

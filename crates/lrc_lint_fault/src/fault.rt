@@ -259,8 +259,8 @@ pub fn spelling<'t>(text: &'t [u8], located: Located<'t>) -> &'t [u8]
     }
 }
 
-// The digits of a text from this byte on.
-fn digits_from(text: &[u8], offset: usize) -> &[u8]
+/// Returns the digits of a text from this byte on.
+pub fn digits_from(text: &[u8], offset: usize) -> &[u8]
     ensures { result.now ≡ digits_of (drop offset text.now) }
 {
     if offset < text.len() {

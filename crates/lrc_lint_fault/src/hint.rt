@@ -89,7 +89,8 @@ pub fn push_hint(out: &mut Vec<u8>, hint: Hint<'_>) -> Result<(), AllocError>
     out.extend_from_slice(b"\n")
 }
 
-fn push_words(out: &mut Vec<u8>, hint: Hint<'_>) -> Result<(), AllocError>
+/// Adds the words of a hint.
+pub fn push_words(out: &mut Vec<u8>, hint: Hint<'_>) -> Result<(), AllocError>
     ensures { OnOk result (out.new.items ≡ out.old.items ++ hint_words hint.entry) }
 {
     match hint {

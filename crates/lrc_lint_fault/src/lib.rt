@@ -2,12 +2,12 @@
 //! that may stand there, and a hint on how to mend it.
 #![tactic(auto)]
 
-mod bad_byte;
-mod brackets;
-mod fault;
-mod hint;
+pub mod bad_byte;
+pub mod brackets;
+pub mod fault;
+pub mod hint;
 mod hints;
 mod linted;
-mod unexpected;
+pub mod unexpected;
 
-pub use linted::{Linted, lint_fault};
+pub use linted::{Linted, lint_fault, no_program, too_long};

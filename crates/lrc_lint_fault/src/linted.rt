@@ -50,8 +50,8 @@ pub fn lint_fault(alloc: Global, file: &[u8], text: &[u8]) -> Result<Option<Lint
     }
 }
 
-// What is told of a text that is no program.
-fn no_program(alloc: Global, part: Vec<u8>) -> Result<Linted, AllocError>
+/// Returns the answer to a text that is not a program, from the text to print.
+pub fn no_program(alloc: Global, part: Vec<u8>) -> Result<Linted, AllocError>
     ensures parts { IfOk result (λ linted. whole_text linted.parts.items ≡ part.items) }
     ensures status { IfOk result (λ linted. linted.status ≡ 1) }
 {
@@ -60,7 +60,8 @@ fn no_program(alloc: Global, part: Vec<u8>) -> Result<Linted, AllocError>
     Ok(Linted { parts, status: 1 })
 }
 
-fn too_long(alloc: Global, file: &[u8]) -> Result<Linted, AllocError>
+/// Returns the answer to a text that is too long.
+pub fn too_long(alloc: Global, file: &[u8]) -> Result<Linted, AllocError>
     ensures parts { IfOk result (λ linted. whole_text linted.parts.items
         ≡ too_long_lines file.now) }
     ensures status { IfOk result (λ linted. linted.status ≡ 1) }

@@ -46,7 +46,8 @@ fn begins_comment(fault: &Fault<'_>) -> bool
     fault.is(Sign::Slash) && is_comment_byte(byte_at(fault.text, fault.found.offset as usize + 1))
 }
 
-fn is_comment_byte(byte: Option<u8>) -> bool
+/// Returns whether a comment is begun or ended elsewhere by `/` and this byte.
+pub fn is_comment_byte(byte: Option<u8>) -> bool
     ensures { result ≡ is_comment_byte byte }
 {
     match byte {

@@ -158,7 +158,8 @@ fn says(kinds: &[Kind], members: &[Kind], kind: Kind) -> bool
     has_all(kinds, members) && has(members, kind)
 }
 
-fn push_joined(out: &mut Vec<u8>, phrases: &[&[u8]]) -> Result<(), AllocError>
+/// Adds phrases with a comma and a blank between them.
+pub fn push_joined(out: &mut Vec<u8>, phrases: &[&[u8]]) -> Result<(), AllocError>
     ensures { OnOk result (out.new.items
         ≡ out.old.items ++ joined (map (λ phrase. phrase.now) phrases.now)) }
 {

@@ -9,6 +9,6 @@ pub mod kind;
 
 pub use excerpt::push_excerpt;
 pub use expected::{
-    comparison_kinds, operand_kinds, operator_kinds, push_expected, statement_kinds,
+    comparison_kinds, operand_kinds, operator_kinds, push_expected, push_joined, statement_kinds,
 };
 pub use head::{push_count, push_fault, push_place, push_unexpected, push_unexpected_end};

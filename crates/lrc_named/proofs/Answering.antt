@@ -16,12 +16,14 @@ use Rattle.lrc_named_faults.specs.Program.{IsFaultOf}
 use Rattle.lrc_named_core.specs.Tree.{Origin, Trap}
 use Rattle.lrc_named_limits.specs.declared.excess.Excess.{Excess}
 use Rattle.lrc_named_origins.specs.Origins.{lines_told, traps_told}
+use Rattle.lrc_named_held.specs.declared.owns.Own.{Own}
+use Rattle.lrc_named_held.specs.Held.{Held, held_of}
 use Rattle.lrc_named_check.specs.Program.{IsClean}
 use Rattle.lrc_named_written.specs.Written.{IsCoreLong, IsCoreOver}
 use Rattle.lrc_named_written.specs.Written as written
 use Rattle.lrc_named.specs.declared.fault.NamedFault.TheVariants.{Names, Text}
 use Rattle.lrc_named.specs.Faults.{fault_of_kind}
-use Rattle.lrc_named.specs.Lines.{last_of, lines_of}
+use Rattle.lrc_named.specs.Lines.{last_of, lines_of, offsets_of}
 use Rattle.lrc_named.specs.Named.{IsCoreTextOn, IsFaultless, IsNamedFault}
 
 -- ---- the faults of the text as such, and of its names
@@ -60,13 +62,14 @@ faultless : (text : List ℕ) (t : List Located) (tree : NamedTree) (layout : co
     → IsFaultless text t tree (declared_of layout.names)
 faultless text t tree layout parsed clean = record { parsed = parsed; faultless = clean.no_fault; are_declared = clean.declared }
 
-pub core_found : (text : List ℕ) (t : List Located) (tree : NamedTree) (layout : code_layout.Layout) (lines : List ℕ) (nodes : Option ℕ) (core : List ℕ)
-    (origins : List Origin) (told : List ℕ) (traps : List Trap) → IsNamed text t tree → IsClean tree layout → lines ≡ lines_of t → nodes ≡ layout.nodes
-    → written.IsCoreTextFrom (declared_of layout.names) lines tree core origins → told ≡ lines_told lines origins ++ last_of lines ∷ []
-    → traps ≡ traps_told origins → IsCoreTextOn text nodes core told traps
-core_found text t tree layout lines nodes core origins told traps parsed clean are asked found lie said =
-    let so : written.IsCoreTextFrom (declared_of layout.names) (lines_of t) tree core origins =
-    subst (λ l. written.IsCoreTextFrom (declared_of layout.names) l tree core origins) are found in
+pub core_found : (text : List ℕ) (t : List Located) (tree : NamedTree) (layout : code_layout.Layout) (lines offsets : List ℕ) (nodes : Option ℕ) (core : List ℕ)
+    (origins : List Origin) (owns : List (List Own)) (told : List ℕ) (traps : List Trap) (held : List (List Held))
+    → IsNamed text t tree → IsClean tree layout → lines ≡ lines_of t → offsets ≡ offsets_of t → nodes ≡ layout.nodes
+    → written.IsCoreTextFrom (declared_of layout.names) lines tree core origins owns → told ≡ lines_told lines origins ++ last_of lines ∷ []
+    → traps ≡ traps_told origins → held ≡ held_of text offsets owns → IsCoreTextOn text nodes core told traps held
+core_found text t tree layout lines offsets nodes core origins owns told traps held parsed clean are stand asked found lie said hold =
+    let so : written.IsCoreTextFrom (declared_of layout.names) (lines_of t) tree core origins owns =
+    subst (λ l. written.IsCoreTextFrom (declared_of layout.names) l tree core origins owns) are found in
     record {
       is = record {
         tokens = t;
@@ -79,6 +82,7 @@ core_found text t tree layout lines nodes core origins told traps parsed clean a
       traps_are = said ∙ ap traps_told so.origins_are;
       told_are = lie ∙ ap (λ l. lines_told l origins ++ last_of l ∷ []) are
           ∙ ap (λ o. lines_told (lines_of t) o ++ last_of (lines_of t) ∷ []) so.origins_are;
+      held_are = hold ∙ ap (λ s. held_of text s owns) stand ∙ ap (held_of text (offsets_of t)) so.owns_are;
     }
 
 pub over_found : (text : List ℕ) (t : List Located) (tree : NamedTree) (layout : code_layout.Layout) (lines : List ℕ) (line : ℕ) (x : Excess)

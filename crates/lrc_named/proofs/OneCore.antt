@@ -22,12 +22,14 @@ use Rattle.lrc_named_program.specs.Program.{IsCoreOf}
 use Rattle.lrc_named_statements_laws.proofs.Unique.{cores_unique}
 use Rattle.lrc_named_text.specs.Statements.{core_text}
 use Rattle.lrc_named_origins.specs.Origins.{lines_told, origins_of, traps_told}
+use Rattle.lrc_named_held.specs.Held.{Held, held_of}
+use Rattle.lrc_named_held.specs.Owns.{owns_among}
 use Rattle.lrc_named_written.specs.Privates.{privates}
 use Rattle.lrc_named_written.specs.Written.{AreOver, IsCoreLong, IsCoreOver}
 use Rattle.lrc_named_written.specs.Written as written
 use Rattle.lrc_named.specs.declared.fault.NamedFault.{NamedFault}
 use Rattle.lrc_named.specs.declared.fault.NamedFault.TheVariants.{Text, Names, NoMemory}
-use Rattle.lrc_named.specs.Lines.{last_of, line_at, lines_of}
+use Rattle.lrc_named.specs.Lines.{last_of, line_at, lines_of, offsets_of}
 use Rattle.lrc_named.specs.Faults.{AreToldAlike}
 use Rattle.lrc_named.specs.Named.{IsCoreFault, IsCoreFaultOf, IsCoreText, IsCoreTextOn, IsFaultless, IsNameFault, IsNamedFault}
 
@@ -116,14 +118,14 @@ one_block text nodes other core own a b =
     b.core_is.translated in
     cores_unique a.core_is.translated.translated theirs.translated
 
-pub one_trapping : (text : List ℕ) (nodes other : Option ℕ) (core own told said : List ℕ) (traps more : List Trap)
-    → IsCoreTextOn text nodes core told traps → IsCoreTextOn text other own said more → traps ≡ more
-one_trapping text nodes other core own told said traps more one two =
+pub one_trapping : (text : List ℕ) (nodes other : Option ℕ) (core own told said : List ℕ) (traps more : List Trap) (held others : List (List Held))
+    → IsCoreTextOn text nodes core told traps held → IsCoreTextOn text other own said more others → traps ≡ more
+one_trapping text nodes other core own told said traps more held others one two =
     one.traps_are ∙ ap (λ (s : Block). traps_told (origins_of s)) (one_block text nodes other core own one.is two.is) ∙ sym two.traps_are
 
-pub one_telling : (text : List ℕ) (nodes other : Option ℕ) (core own told said : List ℕ) (traps more : List Trap)
-    → IsCoreTextOn text nodes core told traps → IsCoreTextOn text other own said more → told ≡ said
-one_telling text nodes other core own told said traps more one two =
+pub one_telling : (text : List ℕ) (nodes other : Option ℕ) (core own told said : List ℕ) (traps more : List Trap) (held others : List (List Held))
+    → IsCoreTextOn text nodes core told traps held → IsCoreTextOn text other own said more others → told ≡ said
+one_telling text nodes other core own told said traps more held others one two =
     let a = one.is in
     let b = two.is in
     let same = same_program text a.tokens b.tokens a.tree b.tree a.declared b.declared a.is b.is in
@@ -132,6 +134,17 @@ one_telling text nodes other core own told said traps more one two =
     ∙ ap (λ (t : List Located). lines_told (lines_of t) (origins_of a.core_is.statements) ++ last_of (lines_of t) ∷ []) same.tokens
     ∙ ap (λ (s : Block). lines_told (lines_of b.tokens) (origins_of s) ++ last_of (lines_of b.tokens) ∷ []) statements
     ∙ sym two.told_are
+
+pub one_holding : (text : List ℕ) (nodes other : Option ℕ) (core own told said : List ℕ) (traps more : List Trap) (held others : List (List Held))
+    → IsCoreTextOn text nodes core told traps held → IsCoreTextOn text other own said more others → held ≡ others
+one_holding text nodes other core own told said traps more held others one two =
+    let a = one.is in
+    let b = two.is in
+    let same = same_program text a.tokens b.tokens a.tree b.tree a.declared b.declared a.is b.is in
+    one.held_are
+    ∙ ap (λ (t : List Located). held_of text (offsets_of t) (owns_among a.core_is.statements)) same.tokens
+    ∙ ap (λ (s : Block). held_of text (offsets_of b.tokens) (owns_among s)) (one_block text nodes other core own a b)
+    ∙ sym two.held_are
 
 -- ---- no fault where there is a core
 

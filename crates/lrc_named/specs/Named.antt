@@ -14,10 +14,12 @@ use Rattle.lrc_named_faults.specs.Program.{IsFaultOf}
 use Rattle.lrc_named_core.specs.Tree.{Trap}
 use Rattle.lrc_named_limits.specs.declared.excess.Excess.{Excess}
 use Rattle.lrc_named_origins.specs.Origins.{lines_told, origins_of, traps_told}
+use Rattle.lrc_named_held.specs.Held.{Held, held_of}
+use Rattle.lrc_named_held.specs.Owns.{owns_among}
 use Rattle.lrc_named_written.specs.Written as written
 use Rattle.lrc_named.specs.declared.fault.NamedFault.{NamedFault}
 use Rattle.lrc_named.specs.declared.fault.NamedFault.TheVariants.{Text, Names, NoMemory}
-use Rattle.lrc_named.specs.Lines.{last_of, line_at, lines_of}
+use Rattle.lrc_named.specs.Lines.{last_of, line_at, lines_of, offsets_of}
 
 -- the text is read as a named program. One that is too long is told as such, whatever it begins with.
 abbrev pub IsReadAsNamed : List ℕ → Type 0
@@ -39,11 +41,12 @@ pub record IsCoreText (text : List ℕ) (nodes : Option ℕ) (core : List ℕ) :
   pub core_is : written.IsCoreText declared (lines_of tokens) tree core
 
 -- The same, and the core's statements, in the order of its text, lie on these lines of the named text, behind which comes the line of its end,
--- and this is said of a trap of each.
-pub record IsCoreTextOn (text : List ℕ) (nodes : Option ℕ) (core told : List ℕ) (traps : List Trap) : Type 0 where
+-- this is said of a trap of each, and its names of the translation's own hold this.
+pub record IsCoreTextOn (text : List ℕ) (nodes : Option ℕ) (core told : List ℕ) (traps : List Trap) (held : List (List Held)) : Type 0 where
   pub is : IsCoreText text nodes core
   pub traps_are : traps ≡ traps_told (origins_of is.core_is.statements)
   pub told_are : told ≡ lines_told (lines_of is.tokens) (origins_of is.core_is.statements) ++ last_of (lines_of is.tokens) ∷ []
+  pub held_are : held ≡ held_of text (offsets_of is.tokens) (owns_among is.core_is.statements)
 
 -- ---- faults
 

@@ -1,8 +1,8 @@
-// The lines of tokens, and what is told of statements.
+// The lines of tokens, where they stand, and what is told of statements.
 
 ghost use Rattle.std.specs.Prelude.{◌≡◌, ◌∷◌, ◌++◌, [], IfOk, map, slice_index};
 ghost use Rattle.lrc_named_tokens.specs.View.{located_of};
-ghost use Rattle.lrc_named.specs.Lines.{last_of, lines_of};
+ghost use Rattle.lrc_named.specs.Lines.{last_of, lines_of, offsets_of};
 ghost use Rattle.lrc_named_core.specs.View.{origin_of, trap_of};
 ghost use Rattle.lrc_named_origins.specs.Origins.{lines_told, traps_told};
 
@@ -19,6 +19,17 @@ pub fn lines_of(alloc: Global, tokens: &[Located<'_>]) -> Result<Vec<u32>, Alloc
         lines.push(token.place.line)?;
     }
     Ok(lines)
+}
+
+/// Returns how many bytes of the text stand before each token.
+pub fn offsets_of(alloc: Global, tokens: &[Located<'_>]) -> Result<Vec<u32>, AllocError>
+    ensures { IfOk result (λ offsets. offsets.items ≡ offsets_of (map located_of tokens.now)) }
+{
+    let mut offsets = Vec::new(alloc);
+    for token in tokens {
+        offsets.push(token.place.offset)?;
+    }
+    Ok(offsets)
 }
 
 /// Returns the line of the token of this number, counted from 0; of no token, 0.

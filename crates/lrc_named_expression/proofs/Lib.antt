@@ -7,5 +7,6 @@ pub mod Options
 pub mod Runs
 pub mod Stops
 pub mod Taken
+pub mod Takes
 pub mod Trees
 pub mod Turns

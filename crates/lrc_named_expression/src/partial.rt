@@ -1,13 +1,17 @@
 // An expression of which some tokens have come.
 
-ghost use Rattle.std.specs.Prelude.{◌≡◌, Some, is_some, option_map, IsOk};
+ghost use Rattle.std.specs.Prelude.{◌≡◌, ◌↔◌, ℕ, List, Some, is_some, option_map, IsOk, IsTrue};
 ghost use Rattle.lrc_lang.specs.Parser.Seen.{Gives, GivesNew};
-ghost use Rattle.lrc_named_expression.specs.Partial.{nothing, partial_with, value_of, linked, close, closed_by, go_on};
+ghost use Rattle.lrc_named_expression.specs.Partial.{Around as AroundSeen, Level as LevelSeen, Tests as TestsSeen};
+ghost use Rattle.lrc_named_expression.specs.Partial.{nothing, partial_with, value_of, linked, close, closed, closed_by, go_on};
 ghost use Rattle.lrc_named_expression.specs.Link.{sums, all_hold, one_holds};
 ghost use Rattle.lrc_named_expression.specs.declared.partial.Place.TheVariants.{Factor};
 ghost use Rattle.lrc_named_expression.specs.Partial.{opened, whole_of, bare, no_tests, begin, begin_test, behind_index, behind_name, behind_call, operand_at};
 ghost use Rattle.lrc_named_expression.specs.Seen.{link_seen, level_seen, opening_seen, place_seen, partial_seen};
+ghost use Rattle.lrc_named_tokens.specs.declared.token.Sign.TheVariants.{OpenBracket, OpenParenthesis};
+ghost use Rattle.lrc_named_tokens.specs.Token.{sign};
 ghost use Rattle.lrc_named_tokens.specs.View.{token_of};
+ghost use Rattle.lrc_named_tree.specs.Tree.{Expression as ExpressionSeen, Expressions, Named};
 ghost use Rattle.lrc_named_tree.specs.View.{named_of, expression_of, expressions_of};
 
 use crate::level::{Level, waiting};
@@ -77,6 +81,88 @@ fn operand_of<'t>(alloc: Global, place: Place<'t>) -> Option<Expression<'t>>
     }
 }
 
+// Whether an operand may begin with this token.
+fn begins_operand(token: Token<'_>) -> bool
+    ensures { (outer : List AroundSeen) (level : LevelSeen) (at : ℕ) → result
+        ≡ is_some (begin outer level at (token_of token.entry)) }
+{
+    matches!(
+        token,
+        Token::Number(_)
+            | Token::Name(_)
+            | Token::Keyword(Keyword::Me | Keyword::Nodes)
+            | Token::Sign(Sign::OpenParenthesis)
+    )
+}
+
+// Whether an operand may begin with this token, or a `not` be this.
+fn begins_test(token: Token<'_>) -> bool
+    ensures { (outer : List AroundSeen) (tests : TestsSeen) (at : ℕ) → result
+        ≡ is_some (begin_test outer tests at (token_of token.entry)) }
+{
+    matches!(
+        token,
+        Token::Number(_)
+            | Token::Name(_)
+            | Token::Keyword(Keyword::Me | Keyword::Nodes | Keyword::Not)
+            | Token::Sign(Sign::OpenParenthesis)
+    )
+}
+
+// Whether this token may stand behind the `(` of a call.
+fn follows_call(token: Token<'_>) -> bool
+    ensures { (outer : List AroundSeen) (level : LevelSeen) (name : Named) (at : ℕ) → result
+        ≡ is_some (behind_call outer level name at (token_of token.entry)) }
+{
+    matches!(
+        token,
+        Token::Number(_)
+            | Token::Name(_)
+            | Token::Keyword(Keyword::Me | Keyword::Nodes | Keyword::Not)
+            | Token::Sign(Sign::OpenParenthesis | Sign::CloseParenthesis)
+    )
+}
+
+// Whether this is `[`.
+fn is_bracket(token: Token<'_>) -> bool
+    ensures { IsTrue result ↔ (token_of token.entry ≡ sign OpenBracket) }
+{
+    matches!(token, Token::Sign(Sign::OpenBracket))
+}
+
+// Whether this is `(`.
+fn is_parenthesis(token: Token<'_>) -> bool
+    ensures { IsTrue result ↔ (token_of token.entry ≡ sign OpenParenthesis) }
+{
+    matches!(token, Token::Sign(Sign::OpenParenthesis))
+}
+
+impl<'t> Opening<'t> {
+    // Whether this token closes the bracket, or begins the next argument in it.
+    fn is_closed(&self, token: Token<'_>) -> bool
+        ensures { (outer : List AroundSeen) (level : LevelSeen) (inside : ExpressionSeen) (at : ℕ) →
+            result ≡ is_some (closed outer level (opening_seen self.now) inside at
+            (token_of token.entry)) }
+    {
+        match token {
+            Token::Sign(sign) => self.is_closed_by(sign),
+            _ => false,
+        }
+    }
+
+    // Whether this sign closes the bracket, or begins the next argument in it.
+    fn is_closed_by(&self, sign: Sign) -> bool
+        ensures { (outer : List AroundSeen) (level : LevelSeen) (inside : ExpressionSeen) (at : ℕ) →
+            result ≡ is_some (closed_by sign outer level (opening_seen self.now) inside at) }
+    {
+        match self {
+            Opening::Group(_) => matches!(sign, Sign::CloseParenthesis),
+            Opening::Argument(_, _) => matches!(sign, Sign::CloseParenthesis | Sign::Comma),
+            Opening::Index(_, _) => matches!(sign, Sign::CloseBracket),
+        }
+    }
+}
+
 impl<'t> Partial<'t> {
     /// Returns an expression before its first token.
     pub fn empty(alloc: Global) -> Self
@@ -106,6 +192,73 @@ impl<'t> Partial<'t> {
                 self.place,
                 Place::AfterName(_) | Place::AfterIndex(_, _, _) | Place::AfterOperand(_)
             )
+    }
+
+    /// Returns whether `take` accepts this token.
+    pub fn takes(&self, token: Token<'_>) -> bool
+        ensures { (at : ℕ) → result
+            ≡ is_some (partial_with (partial_seen self.now) at (token_of token.entry)) }
+    {
+        match &self.place {
+            Place::Test => begins_test(token),
+            Place::Factor => begins_operand(token),
+            Place::AfterName(_) => self.follows_name(token),
+            Place::AfterIndex(_, _, _) => self.follows_index(token),
+            Place::AfterCall(_) => follows_call(token),
+            Place::AfterOperand(_) => self.goes_on(token),
+        }
+    }
+
+    // Whether this token may stand behind a name.
+    fn follows_name(&self, token: Token<'_>) -> bool
+        ensures { (name : Named) (at : ℕ) → result
+            ≡ is_some (behind_name (partial_seen self.now).outer (level_seen self.now.level) name at
+            (token_of token.entry)) }
+    {
+        is_parenthesis(token) || self.follows_index(token)
+    }
+
+    // Whether this token may stand behind an index.
+    fn follows_index(&self, token: Token<'_>) -> bool
+        ensures { (name : Named) (others : Expressions) (last at : ℕ) → result
+            ≡ is_some (behind_index (partial_seen self.now).outer (level_seen self.now.level) name others
+            last at (token_of token.entry)) }
+    {
+        is_bracket(token) || self.goes_on(token)
+    }
+
+    // Whether this token may stand behind an operand.
+    fn goes_on(&self, token: Token<'_>) -> bool
+        ensures { (operand : ExpressionSeen) (at : ℕ) → result
+            ≡ is_some (go_on (partial_seen self.now).outer (level_seen self.now.level) operand at
+            (token_of token.entry)) }
+    {
+        match link_of(token) {
+            Some(link) => self.is_linked(link),
+            None => self.is_closed(token),
+        }
+    }
+
+    // Whether this may join an operand to the next.
+    fn is_linked(&self, link: Link) -> bool
+        ensures { (outer : List AroundSeen) (operand : ExpressionSeen) → result
+            ≡ is_some (linked (link_seen link) outer (level_seen self.now.level) operand) }
+    {
+        match link {
+            Link::Sums(_) => self.level.compared.is_none(),
+            _ => true,
+        }
+    }
+
+    // Whether this token closes the innermost bracket, or begins the next argument in it.
+    fn is_closed(&self, token: Token<'_>) -> bool
+        ensures { (inside : ExpressionSeen) (at : ℕ) → result
+            ≡ is_some (close (partial_seen self.now).outer inside at (token_of token.entry)) }
+    {
+        match self.outer.last() {
+            Some(around) => around.opening.is_closed(token),
+            None => false,
+        }
     }
 
     /// Takes one more token, of this index among those of its text. It fails if the token cannot come here, or if memory

@@ -9,6 +9,7 @@ pub mod OneAnswer
 pub mod Reaching
 pub mod Reading
 pub mod Split
+pub mod Takes
 pub mod Taking
 pub mod Texts
 pub mod Turns

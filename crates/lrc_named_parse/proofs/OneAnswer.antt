@@ -70,7 +70,7 @@ same_tokens before (next ∷ lexemes) (t ∷ tokens) (u ∷ others) a b =
     ap₂ ◌∷◌ same (same_tokens (before ++ t ∷ []) lexemes tokens others a.2 rest)
 
 -- and among them is no fault
-no_fault : (before : List Token) (lexemes : List Located) (tokens : List Token) (place : Place) (kind : FaultKind) →
+pub no_fault : (before : List Token) (lexemes : List Located) (tokens : List Token) (place : Place) (kind : FaultKind) →
     AreFaultless before lexemes tokens → IsFirstFault before lexemes place kind → ⊥
 no_fault before [] tokens place kind a f = f
 no_fault before (next ∷ lexemes) [] place kind a f = a

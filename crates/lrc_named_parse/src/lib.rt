@@ -3,10 +3,10 @@
 #![tactic(auto)]
 
 pub mod laws;
-mod limits;
+pub mod limits;
 mod named;
-mod parser;
-mod state;
+pub mod parser;
+pub mod state;
 
 pub use named::is_named;
 pub use parser::{MOST_BYTES, Parsed, TextFault, parse};

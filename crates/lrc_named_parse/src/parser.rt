@@ -124,8 +124,8 @@ fn take_all<'t>(state: &mut State<'t>, all: &[Located<'t>]) -> Result<(), TextFa
     Ok(())
 }
 
-// Takes what stands next.
-fn take<'t>(
+/// Takes what stands next, with so many lexemes before it. It fails with its fault, or if memory runs out.
+pub fn take<'t>(
     state: &mut State<'t>,
     limits: &mut Limits,
     at: u32,

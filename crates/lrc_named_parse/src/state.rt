@@ -1,17 +1,19 @@
 // A named program of which some tokens have come.
 
-ghost use Rattle.std.specs.Prelude.{◌≡◌, map, IfOk};
-ghost use Rattle.lrc_named_expression.specs.Partial.{nothing, partial_with};
+ghost use Rattle.std.specs.Prelude.{◌≡◌, ◌&&◌, ℕ, List, is_some, map, IfOk};
+ghost use Rattle.lrc_named_expression.specs.Partial.{nothing, partial_with, value_of};
 ghost use Rattle.lrc_named_expression.specs.Seen.{partial_seen};
 ghost use Rattle.lrc_named_statement.specs.Body.{start as no_statements, whole_of};
 ghost use Rattle.lrc_named_statement.specs.Seen.{body_seen};
 ghost use Rattle.lrc_lang.specs.Parser.Seen.{GivesNew};
+ghost use Rattle.lrc_named_parse.specs.State.{Items as ItemsSeen};
 ghost use Rattle.lrc_named_parse.specs.State.{start, state_with, moved, in_expression, continued, expressed, finished};
 ghost use Rattle.lrc_named_parse.specs.State.{begin, begin_either, go_on, declared, is_ending, before_item, items_from, items_declared, with_next};
 ghost use Rattle.lrc_named_parse.specs.State.{name_constant, name_item, name_function, name_parameter, behind_count, end_count, behind_constant};
 ghost use Rattle.lrc_named_parse.specs.State.{behind_item, behind_function, behind_opening, behind_parameter, behind_parameters};
 ghost use Rattle.lrc_named_parse.specs.SeenState.{Steps, state_seen, declared_seen, shared_seen, items_seen, purpose_seen};
 ghost use Rattle.lrc_named_tokens.specs.View.{token_of};
+ghost use Rattle.lrc_named_tree.specs.Tree.{Declaration as DeclarationSeen, Expressions, Named};
 ghost use Rattle.lrc_named_tree.specs.View.{named_of, expression_of, expressions_of, block_of, declaration_of};
 
 use lrc_lang::fault::FaultKind;
@@ -88,7 +90,7 @@ pub struct State<'t> {
 
 impl<'t> Purpose<'t> {
     // Whether a token ends an expression that stands for this.
-    fn is_ended_by(&self, token: Token<'t>) -> bool
+    fn is_ended_by(&self, token: Token<'_>) -> bool
         ensures { result ≡ is_ending (purpose_seen self.now) (token_of token.entry) }
     {
         match token {
@@ -101,7 +103,180 @@ impl<'t> Purpose<'t> {
     }
 }
 
+// Whether a declaration may begin with this.
+fn begins_declaration(token: Token<'_>) -> bool
+    ensures { (before : List DeclarationSeen) (at : ℕ) → result
+        ≡ is_some (begin before at (token_of token.entry)) }
+{
+    matches!(
+        token,
+        Token::Keyword(
+            Keyword::Nodes | Keyword::Const | Keyword::Shared | Keyword::Lock | Keyword::Fn
+        )
+    )
+}
+
+// Whether this may stand where a name must.
+fn is_name(token: Token<'_>) -> bool
+    ensures constant { (before : List DeclarationSeen) (first at : ℕ) → result
+        ≡ is_some (name_constant before first at (token_of token.entry)) }
+    ensures item { (before : List DeclarationSeen) (items : ItemsSeen) (at : ℕ) → result
+        ≡ is_some (name_item before items at (token_of token.entry)) }
+    ensures function { (before : List DeclarationSeen) (first at : ℕ) → result
+        ≡ is_some (name_function before first at (token_of token.entry)) }
+    ensures parameter { (before : List DeclarationSeen) (first : ℕ) (name : Named)
+        (parameters : List Named) (at : ℕ) → result
+        ≡ is_some (name_parameter before first name parameters at (token_of token.entry)) }
+{
+    matches!(token, Token::Name(_))
+}
+
+// Whether this is a number.
+fn is_number(token: Token<'_>) -> bool
+    ensures { (before : List DeclarationSeen) (first : ℕ) → result
+        ≡ is_some (behind_count before first (token_of token.entry)) }
+{
+    matches!(token, Token::Number(_))
+}
+
+// Whether this is `;`.
+fn is_semicolon(token: Token<'_>) -> bool
+    ensures { (before : List DeclarationSeen) (first count : ℕ) → result
+        ≡ is_some (end_count before first count (token_of token.entry)) }
+{
+    matches!(token, Token::Sign(Sign::Semicolon))
+}
+
+// Whether this is `=`.
+fn is_assign(token: Token<'_>) -> bool
+    ensures constant { (before : List DeclarationSeen) (first : ℕ) (name : Named) → result
+        ≡ is_some (behind_constant before first name (token_of token.entry)) }
+    ensures function { (before : List DeclarationSeen) (first : ℕ) (name : Named)
+        (parameters : List Named) → result
+        ≡ is_some (behind_parameters before first name parameters (token_of token.entry)) }
+{
+    matches!(token, Token::Sign(Sign::Assign))
+}
+
+// Whether this may stand behind an item.
+fn follows_item(token: Token<'_>) -> bool
+    ensures { (before : List DeclarationSeen) (items : ItemsSeen) (name : Named)
+        (sizes : Expressions) → result
+        ≡ is_some (behind_item before items name sizes (token_of token.entry)) }
+{
+    matches!(
+        token,
+        Token::Sign(Sign::OpenBracket | Sign::Comma | Sign::Semicolon)
+    )
+}
+
+// Whether this is `(`.
+fn is_opening(token: Token<'_>) -> bool
+    ensures { (before : List DeclarationSeen) (first : ℕ) (name : Named) → result
+        ≡ is_some (behind_function before first name (token_of token.entry)) }
+{
+    matches!(token, Token::Sign(Sign::OpenParenthesis))
+}
+
+// Whether this may stand behind the `(` of a function.
+fn follows_opening(token: Token<'_>) -> bool
+    ensures { (before : List DeclarationSeen) (first : ℕ) (name : Named) (at : ℕ) → result
+        ≡ is_some (behind_opening before first name at (token_of token.entry)) }
+{
+    matches!(token, Token::Name(_) | Token::Sign(Sign::CloseParenthesis))
+}
+
+// Whether this may stand behind a parameter.
+fn follows_parameter(token: Token<'_>) -> bool
+    ensures { (before : List DeclarationSeen) (first : ℕ) (name : Named) (parameters : List Named) →
+        result ≡ is_some (behind_parameter before first name parameters (token_of token.entry)) }
+{
+    matches!(token, Token::Sign(Sign::Comma | Sign::CloseParenthesis))
+}
+
+// Whether this may stand behind a declaration: another one or a statement begins, or the text ends.
+fn follows_declaration(token: Token<'_>) -> bool
+    ensures { (before : List DeclarationSeen) (at : ℕ) → result
+        ≡ is_some (begin_either before at (token_of token.entry)) }
+{
+    matches!(
+        token,
+        Token::End
+            | Token::Name(_)
+            | Token::Keyword(
+                Keyword::Nodes
+                    | Keyword::Const
+                    | Keyword::Shared
+                    | Keyword::Lock
+                    | Keyword::Fn
+                    | Keyword::Acquire
+                    | Keyword::Release
+                    | Keyword::With
+                    | Keyword::Barrier
+                    | Keyword::Print
+                    | Keyword::Assert
+                    | Keyword::If
+                    | Keyword::While
+                    | Keyword::For
+            )
+    )
+}
+
 impl<'t> State<'t> {
+    /// Returns whether `take` accepts this token.
+    pub fn takes(&self, token: Token<'_>) -> bool
+        ensures { (at : ℕ) → result
+            ≡ is_some (state_with (state_seen self.now) at (token_of token.entry)) }
+    {
+        match &self.stage {
+            Stage::First => begins_declaration(token),
+            Stage::AtDeclaration => follows_declaration(token),
+            Stage::BeforeCount(_) => is_number(token),
+            Stage::AfterCount(_, _) => is_semicolon(token),
+            Stage::BeforeConstant(_) => is_name(token),
+            Stage::AfterConstant(_, _) => is_assign(token),
+            Stage::BeforeItem(_) => is_name(token),
+            Stage::AfterItem(_, _, _) => follows_item(token),
+            Stage::BeforeFunction(_) => is_name(token),
+            Stage::AfterFunction(_, _) => is_opening(token),
+            Stage::BeforeFirst(_, _) => follows_opening(token),
+            Stage::BeforeParameter(_, _, _) => is_name(token),
+            Stage::AfterParameter(_, _, _) => follows_parameter(token),
+            Stage::AfterParameters(_, _, _) => is_assign(token),
+            Stage::InExpression(purpose) => self.is_within(purpose, token),
+            Stage::InStatements => self.follows_statements(token),
+            Stage::Ended => false,
+        }
+    }
+
+    // Whether this may stand in an expression, or end it.
+    fn is_within(&self, purpose: &Purpose<'t>, token: Token<'_>) -> bool
+        ensures { (before : List DeclarationSeen) (at : ℕ) → result ≡ is_some (moved before
+            (in_expression (purpose_seen purpose.now) (partial_seen self.now.expression)) at
+            (token_of token.entry)) }
+    {
+        self.ends(purpose, token) || self.expression.takes(token)
+    }
+
+    // Whether this token ends the expression.
+    fn ends(&self, purpose: &Purpose<'t>, token: Token<'_>) -> bool
+        ensures { result ≡ (is_some (value_of (partial_seen self.now.expression))
+            && is_ending (purpose_seen purpose.now) (token_of token.entry)) }
+    {
+        self.expression.is_whole() && purpose.is_ended_by(token)
+    }
+
+    // Whether this may stand in the statements, or end them.
+    fn follows_statements(&self, token: Token<'_>) -> bool
+        ensures { (before : List DeclarationSeen) (at : ℕ) → result
+            ≡ is_some (go_on before (body_seen self.now.body) at (token_of token.entry)) }
+    {
+        match token {
+            Token::End => self.body.is_whole(),
+            _ => self.body.takes(token),
+        }
+    }
+
     /// Returns the state before the first token.
     pub fn start(alloc: Global) -> Self
         ensures { state_seen result ≡ start }

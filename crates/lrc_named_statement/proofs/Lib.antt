@@ -4,5 +4,6 @@ pub mod Continuing
 pub mod Foreign
 pub mod From
 pub mod One
+pub mod Takes
 pub mod Trees
 pub mod Turns

@@ -1,17 +1,20 @@
 // Statements of which some tokens have come.
 
-ghost use Rattle.std.specs.Prelude.{◌≡◌, option_map};
+ghost use Rattle.std.specs.Prelude.{◌≡◌, ◌↔◌, ◌&&◌, ℕ, List, IsTrue, is_some, option_map};
 ghost use Rattle.lrc_lang.specs.Parser.Seen.{GivesNew};
-ghost use Rattle.lrc_named_expression.specs.Partial.{nothing, partial_with, push};
+ghost use Rattle.lrc_named_expression.specs.Partial.{nothing, partial_with, push, value_of};
 ghost use Rattle.lrc_named_expression.specs.Seen.{partial_seen};
+ghost use Rattle.lrc_named_statement.specs.Body.{Around as AroundSeen, Branch as BranchSeen, Target as TargetSeen};
 ghost use Rattle.lrc_named_statement.specs.Body.{start, holding, body_with, whole_of, whole_if, in_expression};
 ghost use Rattle.lrc_named_statement.specs.Body.{begin, behind_word, behind_place, printed_with, end_place_by, is_ending, ended, go_on};
-ghost use Rattle.lrc_named_statement.specs.Body.{done, opened, express, close, close_for, at_end, behind_for, behind_name};
+ghost use Rattle.lrc_named_statement.specs.Body.{end_place, done, opened, express, close, close_for, at_end, behind_for, behind_name};
 ghost use Rattle.lrc_named_statement.specs.Body.{behind_branch, behind_else, continued};
-ghost use Rattle.lrc_named_statement.specs.Seen.{Steps, target_seen, branch_seen, purpose_seen, owner_seen, body_seen};
-ghost use Rattle.lrc_named_tokens.specs.Token.{keyword};
+ghost use Rattle.lrc_named_statement.specs.Seen.{Steps, target_seen, branch_seen, purpose_seen, outer_seen, owner_seen, body_seen};
+ghost use Rattle.lrc_named_tokens.specs.declared.token.Keyword.TheVariants.{Else};
+ghost use Rattle.lrc_named_tokens.specs.declared.token.Sign.TheVariants.{OpenBracket};
+ghost use Rattle.lrc_named_tokens.specs.Token.{keyword, sign};
 ghost use Rattle.lrc_named_tokens.specs.View.{token_of};
-ghost use Rattle.lrc_named_tree.specs.Tree.{Block};
+ghost use Rattle.lrc_named_tree.specs.Tree.{Block, Expressions, Named, Place as PlaceSeen, Statement as StatementSeen};
 ghost use Rattle.lrc_named_tree.specs.View.{named_of, place_of, expression_of, expressions_of, statement_of, block_of};
 
 use lrc_lang::fault::FaultKind;
@@ -127,7 +130,7 @@ pub struct Body<'t> {
 
 impl<'t> Purpose<'t> {
     // Whether a token ends an expression that stands for this.
-    fn is_ended_by(&self, token: Token<'t>) -> bool
+    fn is_ended_by(&self, token: Token<'_>) -> bool
         ensures { result ≡ is_ending (purpose_seen self.now) (token_of token.entry) }
     {
         match token {
@@ -150,6 +153,94 @@ impl<'t> Purpose<'t> {
     }
 }
 
+impl Target {
+    // Whether this token may stand behind a place that is this.
+    fn is_followed_by(self, token: Token<'_>) -> bool
+        ensures { (outer : List AroundSeen) (before : Block) (name : Named) (indices : Expressions) →
+            result ≡ is_some (behind_place outer before (target_seen self) name indices
+            (token_of token.entry)) }
+    {
+        is_bracket(token) || self.is_ended(token)
+    }
+
+    // Whether this token ends a place that is this.
+    fn is_ended(self, token: Token<'_>) -> bool
+        ensures { (outer : List AroundSeen) (before : Block) (place : PlaceSeen) → result
+            ≡ is_some (end_place outer before (target_seen self) place (token_of token.entry)) }
+    {
+        match token {
+            Token::Sign(sign) => self.is_ended_by(sign),
+            _ => false,
+        }
+    }
+
+    // Whether this sign ends a place that is this.
+    fn is_ended_by(self, sign: Sign) -> bool
+        ensures { (outer : List AroundSeen) (before : Block) (place : PlaceSeen) → result
+            ≡ is_some (end_place_by sign outer before (target_seen self) place) }
+    {
+        match self {
+            Target::Assigned => matches!(
+                sign,
+                Sign::Assign | Sign::AddAssign | Sign::SubtractAssign
+            ),
+            Target::Acquired(_) | Target::Released(_) => matches!(sign, Sign::Semicolon),
+            Target::Guarding(_) => matches!(sign, Sign::OpenBrace),
+        }
+    }
+}
+
+// Whether this is a name.
+fn is_name(token: Token<'_>) -> bool
+    ensures place { (outer : List AroundSeen) (before : Block) (target : TargetSeen) (at : ℕ) →
+        result ≡ is_some (behind_word outer before target at (token_of token.entry)) }
+    ensures own { (outer : List AroundSeen) (before : Block) (first at : ℕ) →
+        result ≡ is_some (behind_for outer before first at (token_of token.entry)) }
+{
+    matches!(token, Token::Name(_))
+}
+
+// Whether this is `[`.
+fn is_bracket(token: Token<'_>) -> bool
+    ensures { IsTrue result ↔ (token_of token.entry ≡ sign OpenBracket) }
+{
+    matches!(token, Token::Sign(Sign::OpenBracket))
+}
+
+// Whether this is `else`.
+fn is_else(token: Token<'_>) -> bool
+    ensures { IsTrue result ↔ (token_of token.entry ≡ keyword Else) }
+{
+    matches!(token, Token::Keyword(Keyword::Else))
+}
+
+// Whether this is `;`.
+fn is_end(token: Token<'_>) -> bool
+    ensures { (outer : List AroundSeen) (before : Block) (statement : StatementSeen) → result
+        ≡ is_some (at_end outer before statement (token_of token.entry)) }
+{
+    matches!(token, Token::Sign(Sign::Semicolon))
+}
+
+// Whether this is `in`.
+fn is_in(token: Token<'_>) -> bool
+    ensures { (outer : List AroundSeen) (before : Block) (first : ℕ) (name : Named) → result
+        ≡ is_some (behind_name outer before first name (token_of token.entry)) }
+{
+    matches!(token, Token::Keyword(Keyword::In))
+}
+
+// Whether this token may stand behind `else`.
+fn follows_else(token: Token<'_>) -> bool
+    ensures { (outer : List AroundSeen) (before : Block) (branch : BranchSeen) (at : ℕ) → result
+        ≡ is_some (behind_else outer before branch at (token_of token.entry)) }
+{
+    matches!(
+        token,
+        Token::Sign(Sign::OpenBrace) | Token::Keyword(Keyword::If)
+    )
+}
+
 impl<'t> Body<'t> {
     /// Returns a statement list before its first token.
     pub fn start(alloc: Global) -> Self
@@ -162,6 +253,87 @@ impl<'t> Body<'t> {
             spot: Spot::AtStatement,
             expression: Partial::empty(alloc),
         }
+    }
+
+    /// Returns whether `take` accepts this token.
+    pub fn takes(&self, token: Token<'_>) -> bool
+        ensures { (at : ℕ) → result
+            ≡ is_some (body_with (body_seen self.now) at (token_of token.entry)) }
+    {
+        match &self.spot {
+            Spot::AtStatement => self.begins(token),
+            Spot::BeforePlace(_) => is_name(token),
+            Spot::AfterPlace(target, _, _) => target.is_followed_by(token),
+            Spot::InExpression(purpose) => self.goes_on(purpose, token),
+            Spot::BeforeEnd(_) => is_end(token),
+            Spot::BeforeName(_) => is_name(token),
+            Spot::BeforeIn(_, _) => is_in(token),
+            Spot::AfterBranch(_) => self.follows_branch(token),
+            Spot::AfterElse(_) => follows_else(token),
+        }
+    }
+
+    /// Returns whether the statements may end here, so that `finish` succeeds.
+    pub fn is_whole(&self) -> bool
+        ensures { result ≡ is_some (whole_of (body_seen self.now)) }
+    {
+        self.outer.is_empty() && matches!(self.spot, Spot::AtStatement | Spot::AfterBranch(_))
+    }
+
+    // Whether a statement may begin with this, or the innermost block end with it.
+    fn begins(&self, token: Token<'_>) -> bool
+        ensures { (before : Block) (at : ℕ) → result
+            ≡ is_some (begin (outer_seen self.now) before at (token_of token.entry)) }
+    {
+        match token {
+            Token::Name(_)
+            | Token::Keyword(
+                Keyword::Acquire
+                | Keyword::Release
+                | Keyword::With
+                | Keyword::Barrier
+                | Keyword::Print
+                | Keyword::Assert
+                | Keyword::If
+                | Keyword::While
+                | Keyword::For,
+            ) => true,
+            Token::Sign(Sign::CloseBrace) => self.closes(),
+            _ => false,
+        }
+    }
+
+    // Whether a block may end.
+    fn closes(&self) -> bool
+        ensures { (inside : Block) (at : ℕ) → result
+            ≡ is_some (close (outer_seen self.now) inside at) }
+    {
+        !self.outer.is_empty()
+    }
+
+    // Whether this token may stand behind a block of an `if`.
+    fn follows_branch(&self, token: Token<'_>) -> bool
+        ensures { (before : Block) (branch : BranchSeen) (at : ℕ) → result
+            ≡ is_some (behind_branch (outer_seen self.now) before branch at (token_of token.entry)) }
+    {
+        is_else(token) || self.begins(token)
+    }
+
+    // Whether this token may stand in an expression, or end it.
+    fn goes_on(&self, purpose: &Purpose<'t>, token: Token<'_>) -> bool
+        ensures { (outer : List AroundSeen) (before : Block) (at : ℕ) → result ≡ is_some
+            (go_on outer before (purpose_seen purpose.now) (partial_seen self.now.expression) at
+            (token_of token.entry)) }
+    {
+        self.ends(purpose, token) || self.expression.takes(token)
+    }
+
+    // Whether this token ends the expression.
+    fn ends(&self, purpose: &Purpose<'t>, token: Token<'_>) -> bool
+        ensures { result ≡ (is_some (value_of (partial_seen self.now.expression))
+            && is_ending (purpose_seen purpose.now) (token_of token.entry)) }
+    {
+        self.expression.is_whole() && purpose.is_ended_by(token)
     }
 
     /// Takes one more token, of this index among those of its text. It fails if the token cannot come here, or if memory

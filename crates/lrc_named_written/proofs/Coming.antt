@@ -15,14 +15,14 @@ use Rattle.lrc_named_written.specs.Written.{AreOver, ComesTo, IsTextOf, IsWritte
 -- a text of statements that are not over a limit
 pub with_text : (count words locks : ℕ) (declared : List Declared) (lines : List ℕ) (statements : Block) (w : Written) → IsFirstOf (AreOver count statements) None
     → IsTextOf (core_text words locks declared lines statements) statements w → ComesTo count words locks declared lines statements w
-with_text count words locks declared lines statements (Core text origins) within is = (within, is)
+with_text count words locks declared lines statements (Core text origins owns) within is = (within, is)
 with_text count words locks declared lines statements (Over x) within is = absurd is
 with_text count words locks declared lines statements TooLong within is = (within, is)
 
 pub as_program : (count words locks : ℕ) (declared : List Declared) (lines : List ℕ) (tree : NamedTree) (statements : Block) (w : Written)
     → count ≡ privates declared tree.statements → IsCoreOf declared tree words locks statements
     → ComesTo count words locks declared lines statements w → IsWritten declared lines tree w
-as_program count words locks declared lines tree statements (Core text origins) counted core comes = record {
+as_program count words locks declared lines tree statements (Core text origins owns) counted core comes = record {
   is = record {
     words = words;
     locks = locks;
@@ -33,6 +33,7 @@ as_program count words locks declared lines tree statements (Core text origins) 
     fits = subst (λ l. length l ≤ 65536) (sym comes.1.0) comes.1.1;
   };
   origins_are = comes.1.2;
+  owns_are = comes.1.3;
 }
 as_program count words locks declared lines tree statements (Over x) counted core comes = record {
   words = words;

@@ -12,6 +12,7 @@ ghost use Rattle.lrc_named_written.specs.Written.{ComesTo, IsTextOf, IsWritten};
 
 use crate::privates::privates;
 use lrc_named_core::tree::Origin;
+use lrc_named_held::{Own, owns_among};
 use lrc_named_limits::excess::Excess;
 use lrc_named_limits::first_excess;
 use lrc_named_names::names::Names;
@@ -27,8 +28,9 @@ pub const MOST_BYTES: usize = 65_536;
 /// What the core of a named program comes to.
 #[derive(Drop)]
 pub enum Written<'p> {
-    /// A text, and what each of its statements comes from, in the order of the text.
-    Core(Vec<u8>, Vec<Origin<'p>>),
+    /// A text; what each of its statements comes from, in the order of the text; and the translation's own names in each, in
+    /// the same order.
+    Core(Vec<u8>, Vec<Origin<'p>>, Vec<Vec<Own>>),
     /// The first statement whose core is over a limit.
     Over(Excess),
     /// Nothing is over a limit, but the text would have more than 65,536 bytes.
@@ -36,7 +38,8 @@ pub enum Written<'p> {
 }
 
 /// Returns the text of the core of a named program that declares this, that uses names as what they are, and whose tokens
-/// stand on these lines, with what its statements come from; or why there is none. It fails only if memory runs out.
+/// stand on these lines, with what its statements come from and their names; or why there is none. It fails only if memory
+/// runs out.
 pub fn core_text<'p>(
     alloc: Global,
     names: &Names<'_, 'p>,
@@ -71,7 +74,7 @@ fn of_core<'p>(
     }
 }
 
-// The text of a core, and what its statements come from, unless it is too long.
+// The text of a core, and what its statements come from and have, unless it is too long.
 fn text_of<'p>(
     alloc: Global,
     names: &Names<'_, '_>,
@@ -95,6 +98,7 @@ fn text_of<'p>(
         Ok(Written::TooLong)
     } else {
         let origins = origins_of(alloc, &core.statements)?;
-        Ok(Written::Core(text, origins))
+        let owns = owns_among(alloc, &core.statements)?;
+        Ok(Written::Core(text, origins, owns))
     }
 }

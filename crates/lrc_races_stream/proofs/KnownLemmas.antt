@@ -1,16 +1,21 @@
 -- What is known of what is to be noted, where lines answer.
-use Rattle.std.proofs.Common.{◌≡◌, ℕ, ◌<◌, ◌≤◌, List, length, inl, inr, arith}
+use Rattle.std.proofs.Common.{◌≡◌, ℕ, ◌<◌, List, length, inl, inr, arith}
 use Rattle.lrc_races_trace.specs.declared.event.Event.{Event}
 use Rattle.lrc_races_text.specs.declared.asked.Layout.{Layout}
+use Rattle.lrc_races_text.specs.declared.asked.Sought.{Sought}
 use Rattle.lrc_races_text.specs.declared.form.Form.{Form}
 use Rattle.lrc_races_front.specs.declared.kept.Kept.{Kept}
 use Rattle.lrc_races_locations.specs.declared.located.Located.{Located}
 use Rattle.lrc_races_notes.specs.Noter.{HasNoted}
 use Rattle.lrc_races_notes.specs.declared.noter.Noter.{Noter}
+use Rattle.lrc_races_score.specs.declared.report.LinedClaim.{LinedClaim}
+use Rattle.lrc_races_scored.specs.declared.traced.Traced.{Traced}
 use Rattle.lrc_shell_sources.specs.Known.{Held}
 use Rattle.lrc_races_stream.specs.Locations.{IsReported, most_lines}
 use Rattle.lrc_races_stream.specs.Locations as located
 use Rattle.lrc_races_stream.specs.Noted.{IsKnown, IsKnownAt, IsOf}
+use Rattle.lrc_races_stream.specs.Score.{IsScored}
+use Rattle.lrc_races_stream.specs.Score as scores
 use Rattle.lrc_races_stream.specs.Why.{IsExplained, IsStopAnswered}
 use Rattle.lrc_races_stream.specs.Why as whys
 use Rattle.lrc_races_stream.specs.Witness.{IsAnswered}
@@ -46,3 +51,8 @@ module _ (form : Form) (held : Held) (noter : Noter) where
       → IsKnownAt form held noter (Past count) → IsKnown form held most_lines noter answer
   known_reported (located.reported a) k = record { lines = k.lines; first = k.first; meant = inr k.meant.0; so = k.so }
   known_reported located.lacking k = tt
+
+  pub known_scored : {sought : Sought} {claims : List LinedClaim} {kept : Traced} {count : ℕ} {answer : Answer} → IsScored sought claims kept count answer
+      → IsKnownAt form held noter (Past count) → IsKnown form held most_lines noter answer
+  known_scored (scores.scored a) k = record { lines = k.lines; first = k.first; meant = inr k.meant.0; so = k.so }
+  known_scored scores.lacking k = tt

@@ -8,3 +8,4 @@ mod SeekerLemmas
 mod StrictLemmas
 mod KnownLemmas
 mod NotedLemmas
+mod ScoreLemmas

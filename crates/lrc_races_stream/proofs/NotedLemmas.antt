@@ -1,12 +1,12 @@
 -- What is known of what is to be noted, where a trace is read no further.
-use Rattle.std.proofs.Common.{◌≡◌, ◌∙◌, ℕ, ◌+◌, ◌<◌, ◌≤◌, Bool, false, List, [], ◌∷◌, length, take, inl, refl, subst, sym, ap, arith, append-nil}
+use Rattle.std.proofs.Common.{◌≡◌, ◌∙◌, ℕ, ◌≤◌, Bool, false, List, [], length, take, inl, refl, subst, sym, ap, arith, append-nil}
 use Rattle.std.specs.Prelude.{Option, None, Some}
 use Rattle.std.specs.Io.KnownBytes.{Appends, Keeps}
 use Rattle.lrc_races_text.specs.declared.asked.Sought.{Sought}
 use Rattle.lrc_races_text.specs.declared.fault.Fault.{Fault}
 use Rattle.lrc_races_text.specs.declared.fault.Fault.TheVariants as faults
 use Rattle.lrc_races_text.specs.declared.form.Form.{Form}
-use Rattle.lrc_races_front.specs.Front.{IsBadAt, IsBadIn, IsBadLast, Keeping, bad_line, bad_rest}
+use Rattle.lrc_races_front.specs.Front.{IsBadAt, IsBadIn, Keeping, bad_line, bad_rest}
 use Rattle.lrc_races_front.specs.Steps.{Fails, Stops}
 use Rattle.lrc_races_notes.proofs.NoterLemmas.{notes_are}
 use Rattle.lrc_races_notes.specs.Noter.{HasNoted, NotesUpTo, notes_of}

@@ -1,5 +1,5 @@
 -- The lines that were read and are good, where no more are read.
-use Rattle.std.proofs.Common.{◌≡◌, ℕ, ◌+◌, ◌<◌, ◌≤◌, List, [], ◌∷◌, ◌++◌, length, refl, subst, sym, ap₂, arith, append-nil}
+use Rattle.std.proofs.Common.{◌≡◌, ℕ, ◌+◌, ◌≤◌, List, [], ◌∷◌, ◌++◌, length, refl, subst, sym, ap₂, arith, append-nil}
 use Rattle.lrc_races_text.specs.Session.{Text}
 use Rattle.lrc_races_text.specs.Told.{IsCut}
 use Rattle.lrc_races_text.specs.declared.fault.Fault.{Fault}

@@ -1,5 +1,5 @@
 -- The first event that no program would give, by what is kept of the lines.
-use Rattle.std.proofs.Common.{◌≡◌, ℕ, zero, suc, ◌+◌, ◌<◌, ◌≤◌, Bool, true, false, List, [], ◌∷◌, length, refl, subst, sym, ◌∙◌, ap, arith, append-nil, true≢false}
+use Rattle.std.proofs.Common.{◌≡◌, ℕ, zero, suc, ◌+◌, ◌<◌, ◌≤◌, Bool, true, false, List, [], length, subst, sym, ◌∙◌, ap, arith, append-nil}
 use Rattle.std.specs.Prelude.{Option, None, Some, Result, Ok, Err, IfOk, slice_get}
 use Rattle.std.specs.declared.alloc.AllocError.{AllocError}
 use Rattle.lrc_races_trace.specs.declared.event.Event.{Event}
@@ -18,6 +18,8 @@ use Rattle.lrc_races_front.specs.Front.{Keeping}
 use Rattle.lrc_races_front.specs.Kept.{HasKept}
 use Rattle.lrc_races_front.specs.declared.kept.Kept.{Kept}
 use Rattle.lrc_races_locations.specs.Lines.{IsLocated}
+use Rattle.lrc_races_scored.specs.Traced.{HasTraced}
+use Rattle.lrc_races_scored.specs.declared.traced.Traced.{Traced}
 use Rattle.lrc_races_locations.specs.declared.located.Located.{Located}
 use Rattle.lrc_shell_sources.specs.Known.{Held}
 use Rattle.lrc_races_stream.specs.Reach.{AreFirst, HasCome, HasComeWell, IsHalt, IsStop, halted, ill_formed, out_of_memory}
@@ -83,6 +85,13 @@ located_tells located fault (Ok ill) finds any = λ sought form lines h.
     let looked = subst (λ (es : List Event). HasLooked es (length k.events) located.finder) (append-nil k.events) (k.looked []) in
     tells form lines h.said (naming_of located.names) k.events ill h.says (record { names = k.naming; numbered = k.are })
     (fault, finds k.events (length k.events) looked, any)
+
+pub traced_tells : (traced : Traced) (events : List Event) (result : Result (Option Ill) AllocError) → events ≡ traced.events.items
+    → IfOk result (IsFirstIllOf (naming_of traced.names) events) → IfOk result (TellsIll (λ (sought : Sought). HasTraced) traced)
+traced_tells traced events (Err error) same finds = tt
+traced_tells traced events (Ok ill) same finds = λ sought form lines h.
+    tells form lines h.said (naming_of traced.names) traced.events.items ill h.says h.trace
+    (subst (λ (es : List Event). IsFirstIllOf (naming_of traced.names) es ill) same finds)
 
 -- ---- where strictness is asked for, or is not
 

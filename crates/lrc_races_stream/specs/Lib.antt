@@ -5,6 +5,7 @@ pub mod Locations
 pub mod Noted
 pub mod Plays
 pub mod Reach
+pub mod Score
 pub mod Strict
 pub mod Why
 pub mod Witness

@@ -9,7 +9,7 @@ use std::alloc::{AllocError, Global};
 use std::io::Write;
 
 // Says a line, or, where there was no memory for it, that there is none.
-fn tell_made<E: Write>(made: Result<Vec<u8>, AllocError>, err: &mut E) -> u8
+pub(crate) fn tell_made<E: Write>(made: Result<Vec<u8>, AllocError>, err: &mut E) -> u8
     ensures told { (line : List ℕ) → IfOk made (λ text. text.items ≡ line)
         → IsToldOrLacks (E.contents err.old) (E.contents err.new) line }
     ensures status { result ≡ 1 }

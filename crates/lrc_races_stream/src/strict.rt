@@ -16,6 +16,7 @@ use lrc_races_front::keeping::Keep;
 use lrc_races_front::kept::Kept;
 use lrc_races_locations::located::Located;
 use lrc_races_notes::noting::Noting;
+use lrc_races_scored::traced::Traced;
 use lrc_races_text::fault::Fault;
 use lrc_races_text::ill::{Ill, first_ill, ill_if_any};
 use lrc_shell_sources::blocks::Blocks;
@@ -29,6 +30,12 @@ pub(crate) trait Vet: Keep {
 }
 
 impl Vet for Kept {
+    fn ill(&self, alloc: Global) -> Result<Option<Ill>, AllocError> {
+        first_ill(alloc, &self.names, &self.events)
+    }
+}
+
+impl Vet for Traced {
     fn ill(&self, alloc: Global) -> Result<Option<Ill>, AllocError> {
         first_ill(alloc, &self.names, &self.events)
     }

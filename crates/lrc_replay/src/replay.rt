@@ -35,7 +35,11 @@ impl<'c> Replay<'c> {
     {
         let mut made = Vec::with_capacity(alloc, usize::from(nodes))?;
         for me in 0..nodes {
-            made.push(Node::new(alloc, code, me, nodes, options)?)?;
+            // A `?` behind the call would have a copy of the node more on the stack.
+            match Node::new(alloc, code, me, nodes, options) {
+                Ok(node) => made.push(node)?,
+                Err(fault) => return Err(fault),
+            }
         }
         Ok(Replay {
             nodes: made,

@@ -13,7 +13,8 @@ use Rattle.lrc_cli_args.specs.declared.choice.Grouping.{Grouping}
 use Rattle.lrc_cli_args.specs.declared.choice.Grouping.TheVariants.{Each, Groups, Locations}
 use Rattle.lrc_cli_args.specs.declared.choice.Racing.{Racing}
 use Rattle.lrc_cli_args.specs.declared.choice.Reasoning.{Reasoning}
-use Rattle.lrc_cli_args.specs.declared.choice.Request.TheVariants.{About, Races, Reasons, Witness, Answer}
+use Rattle.lrc_cli_args.specs.declared.choice.Request.TheVariants.{About, Races, Reasons, Score, Witness, Answer}
+use Rattle.lrc_cli_args.specs.declared.choice.Scoring.{Scoring}
 use Rattle.lrc_cli_args.specs.declared.choice.Topic.{Topic}
 use Rattle.lrc_cli_args.specs.declared.choice.TraceForm.{TraceForm}
 use Rattle.lrc_cli_args.specs.declared.choice.TraceForm.TheVariants as args
@@ -28,6 +29,7 @@ use Rattle.lrc_races_text.specs.declared.form.Form.{Form}
 use Rattle.lrc_races_text.specs.declared.form.Form.TheVariants as races
 use Rattle.lrc_races_stream.specs.Locations.{IsLocationsPlayed}
 use Rattle.lrc_races_stream.specs.Plays.{IsRacesPlayed}
+use Rattle.lrc_races_stream.specs.Score.{IsScorePlayed}
 use Rattle.lrc_races_stream.specs.Why.{IsWhyPlayed}
 use Rattle.lrc_races_stream.specs.Witness.{IsWitnessPlayed}
 use Rattle.lrc_shell_sources.specs.Known.{IsCause, IsFront, Known}
@@ -145,6 +147,9 @@ pub data Plays (known : Known) (words : List Text) (out out' err err' : Option (
       out out' err err' status → Plays known words out out' err err' status
   reasoned : (reasoning : Reasoning) → Chooses words (Ok (Reasons reasoning))
       → IsWhyPlayed known reasoning.file.now (form_of reasoning.form) reasoning.strict reasoning.lines.first reasoning.lines.second
+      out out' err err' status → Plays known words out out' err err' status
+  scored : (scoring : Scoring) → Chooses words (Ok (Score scoring))
+      → IsScorePlayed known scoring.file.now scoring.report.now (form_of scoring.form) scoring.strict (sought_of scoring.sure)
       out out' err err' status → Plays known words out out' err err' status
   played : (choice : Choice) → Chooses words (Ok (Answer choice)) → IsPlayed known choice out out' err err' status
       → Plays known words out out' err err' status

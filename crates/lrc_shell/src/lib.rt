@@ -7,6 +7,7 @@ mod progress;
 mod races;
 mod reading;
 mod refusal;
+mod scoring;
 mod starting;
 mod topic;
 mod watched;

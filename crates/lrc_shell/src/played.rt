@@ -10,6 +10,7 @@ use crate::progress::Late;
 use crate::races::{tell_racing, tell_reasons, tell_witness};
 use crate::reading::read;
 use crate::refusal::refuse;
+use crate::scoring::tell_score;
 use crate::topic::tell_topic;
 use crate::watched::answer_watched;
 use lrc_cli::{answer_any, tell};
@@ -48,6 +49,7 @@ where
         Ok(Request::Reasons(reasoning)) => {
             tell_reasons(rt.alloc(), &reasoning, sources, out, err)
         }
+        Ok(Request::Score(scoring)) => tell_score(rt.alloc(), &scoring, sources, out, err),
         Ok(Request::About(topic)) => tell_topic(rt.alloc(), &topic, out, err),
         Err(fault) => refuse(&fault, err),
     }

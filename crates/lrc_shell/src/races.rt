@@ -58,6 +58,7 @@ fn tell_races<F: Sources, W: Write, E: Write>(
 }
 
 // Reports the pairs of locations of a trace that race, when it has ended.
+#[inline(never)]
 fn tell_locations<F: Sources, W: Write, E: Write>(
     alloc: Global,
     racing: &Racing<'_>,
@@ -84,6 +85,7 @@ fn tell_locations<F: Sources, W: Write, E: Write>(
 }
 
 /// Says whether the accesses on two lines of a trace are a sure race, and returns the exit status.
+#[inline(never)]
 pub(crate) fn tell_witness<F: Sources, W: Write, E: Write>(
     alloc: Global,
     witnessing: &Witnessing<'_>,
@@ -109,6 +111,7 @@ pub(crate) fn tell_witness<F: Sources, W: Write, E: Write>(
 }
 
 /// Says why the events on two lines of a trace are ordered, or that they race, and returns the exit status.
+#[inline(never)]
 pub(crate) fn tell_reasons<F: Sources, W: Write, E: Write>(
     alloc: Global,
     reasoning: &Reasoning<'_>,

@@ -1,5 +1,6 @@
 -- By what a text of the core is told: by itself, or by the named program whose core it is.
-use Rattle.std.specs.Prelude.{◌≡◌, ◌==◌, ℕ, Bool, false, List, [], ◌∷◌, Option, None, Some, if◌then◌else◌, map, slice_index}
+use Rattle.std.specs.Prelude.{◌≡◌, ◌==◌, ℕ, Bool, false, List, [], ◌∷◌, Option, None, Some, if◌then◌else◌, map, slice_index, slice_index_or}
+use Rattle.std.specs.Str.{bytes_eq}
 use Rattle.lrc_lang.specs.Lines.{HasLines}
 use Rattle.lrc_lang.specs.Symbol.{Names}
 use Rattle.lrc_lang.specs.Tree.{program_of}
@@ -7,15 +8,18 @@ use Rattle.lrc_lang.specs.declared.program.Program.{Program}
 use Rattle.lrc_lines.specs.Statements.{numbers_of}
 use Rattle.lrc_named_core.specs.Tree.{Trap}
 use Rattle.lrc_named_core.specs.View.{trap_of}
+use Rattle.lrc_named_held.specs.Held.{Held, held_seen}
 use Rattle.lrc_source.specs.declared.read_text.Telling as code
 use Rattle.lrc_source.specs.declared.read_text.Telling.TheVariants.{Written, Translated}
 
 -- What a named program tells of its core: its text; the lines of that text on which the core's statements lie, in the order of the core's text,
--- and last that of the named text's end; and what is said of a trap of each statement, in the same order.
+-- and last that of the named text's end; and what is said of a trap of each statement, and what its names of the translation's own hold, in
+-- the same order.
 pub record Translation : Type 0 where
   pub text : List ℕ
   pub lines : List ℕ
   pub traps : List Trap
+  pub held : List (List Held)
 
 pub data Telling : Type 0 where
   -- the text of a core as it was written tells itself
@@ -33,8 +37,9 @@ abbrev pub as_written : List ℕ → ReadText
 as_written text = record { core = text; telling = written }
 
 -- a core, told by the named program with this text
-abbrev pub as_translated : (core text lines : List ℕ) → List Trap → ReadText
-as_translated core text lines traps = record { core = core; telling = translated (record { text = text; lines = lines; traps = traps }) }
+abbrev pub as_translated : (core text lines : List ℕ) → List Trap → List (List Held) → ReadText
+as_translated core text lines traps held =
+    record { core = core; telling = translated (record { text = text; lines = lines; traps = traps; held = held }) }
 
 -- the text that is shown
 abbrev pub shown_by : Telling → (core : List ℕ) → List ℕ
@@ -62,6 +67,16 @@ abbrev pub traps_of : Telling → Option (List Trap)
 traps_of written = None
 traps_of (translated named) = Some named.traps
 
+-- what is told in place of a name: what it holds, or else the name
+abbrev pub name_held : List Held → (name : List ℕ) → List ℕ
+name_held [] name = name
+name_held (first ∷ more) name = if bytes_eq first.name name then first.source else name_held more name
+
+-- the private names of a core as they are told in the statement of this number, each at the place of its number
+abbrev pub names_at : Telling → (statement : ℕ) → Names → Names
+names_at written statement names = names
+names_at (translated named) statement names = map (name_held (slice_index_or named.held statement [])) names
+
 -- a name of the translation's own: no name of a named program begins so
 abbrev pub is_own : (name : List ℕ) → Bool
 is_own [] = false
@@ -80,4 +95,9 @@ names_told (translated named) names = map name_told names
 
 abbrev pub telling_seen : code.Telling → Telling
 telling_seen Written = written
-telling_seen (Translated named) = translated (record { text = named.text.now; lines = named.lines.now; traps = map trap_of named.traps.now })
+telling_seen (Translated named) = translated (record {
+  text = named.text.now;
+  lines = named.lines.now;
+  traps = map trap_of named.traps.now;
+  held = map (λ one. map held_seen one.items) named.held.now;
+})

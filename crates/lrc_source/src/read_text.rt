@@ -1,15 +1,18 @@
 // A text of the core as it is read, and by what it is told.
 
-ghost use Rattle.std.specs.Prelude.{◌≡◌, IfOk, map, option_map, slice_index};
+ghost use Rattle.std.specs.Prelude.{◌≡◌, [], IfOk, map, option_map, slice_index, slice_index_or};
 ghost use Rattle.std.specs.List.{range_with_len};
+ghost use Rattle.std.specs.Str.{bytes_eq};
 ghost use Rattle.lrc_lang.specs.Faults.{IsText};
 ghost use Rattle.lrc_lang.specs.Tree.{program_of};
 ghost use Rattle.lrc_lang.specs.declared.program.Program.{Program};
 ghost use Rattle.lrc_named_core.specs.View.{trap_of};
-ghost use Rattle.lrc_source.specs.Telling.{AreLines, as_translated, as_written, is_own, name_told, names_told, shown_text, traps_of};
+ghost use Rattle.lrc_named_held.specs.Held.{held_seen};
+ghost use Rattle.lrc_source.specs.Telling.{AreLines, as_translated, as_written, is_own, name_held, name_told, names_at, names_told, shown_text, traps_of};
 
 use lrc_lang::lines::lines_of;
 use lrc_named_core::tree::Trap;
+use lrc_named_held::Held;
 use std::alloc::{AllocError, Global};
 use std::marker::Model;
 
@@ -23,6 +26,8 @@ pub struct Translation<'t> {
     pub lines: &'t [u32],
     /// What the named program says of a trap of each statement of the core, in the same order.
     pub traps: &'t [Trap<'t>],
+    /// What the translation's own names hold in each statement of the core, in the same order.
+    pub held: &'t [Vec<Held>],
 }
 
 /// By what a text of the core is told.
@@ -62,19 +67,26 @@ impl<'t> ReadText<'t> {
     }
 
     /// Returns a text of the core that is told by the named program with this text. `lines` has the line in it of each
-    /// statement of the core, and last that of its end; `traps` has what is said of a trap of each statement.
+    /// statement of the core, and last that of its end; `traps` has what is said of a trap of each statement, and `held`
+    /// what its names of the translation's own hold.
     pub fn translated(
         core: &'t [u8],
         text: &'t [u8],
         lines: &'t [u32],
         traps: &'t [Trap<'t>],
+        held: &'t [Vec<Held>],
     ) -> ReadText<'t>
         ensures { result ≡ as_translated core.entry.now text.entry.now lines.entry.now
-            (map trap_of traps.entry.now) }
+            (map trap_of traps.entry.now) (map (λ one. map held_seen one.items) held.entry.now) }
     {
         ReadText {
             core,
-            telling: Telling::Translated(Translation { text, lines, traps }),
+            telling: Telling::Translated(Translation {
+                text,
+                lines,
+                traps,
+                held,
+            }),
         }
     }
 
@@ -105,6 +117,23 @@ impl<'t> ReadText<'t> {
         }
     }
 
+    /// Returns the private names of the core as they are told in the statement of this number, each at its place: what it
+    /// holds in place of a name of the translation's own. It fails only if memory runs out.
+    pub fn names_at(
+        &self,
+        alloc: Global,
+        statement: u32,
+        names: &[&'t [u8]],
+    ) -> Result<Vec<&'t [u8]>, AllocError>
+        ensures { IfOk result (λ told. map (λ name. name.now) told.items
+            ≡ names_at self.now.telling statement (map (λ name. name.now) names.now)) }
+    {
+        match self.telling {
+            Telling::Written => Vec::from_slice(alloc, names),
+            Telling::Translated(named) => with_held(alloc, held_at(named.held, statement), names),
+        }
+    }
+
     /// Returns the private names that are told of those of the core, each at its place: nothing in place of a name of the
     /// translation's own. It fails only if memory runs out.
     pub fn names_told(&self, alloc: Global, names: &[&'t [u8]]) -> Result<Vec<&'t [u8]>, AllocError>
@@ -129,6 +158,52 @@ impl<'t> ReadText<'t> {
             Telling::Translated(named) => lines_to(alloc, named.lines, own.len()),
         }
     }
+}
+
+// What the translation's own names hold in the statement of this number.
+fn held_at(held: &[Vec<Held>], statement: u32) -> &[Held]
+    ensures { map held_seen result.now
+        ≡ slice_index_or (map (λ one. map held_seen one.items) held.now) statement [] }
+{
+    match held.get(statement as usize) {
+        Some(one) => one.as_slice(),
+        None => &[],
+    }
+}
+
+// Whether what is told of a name is of this one.
+fn is_of(held: &Held, name: &[u8]) -> bool
+    ensures { result ≡ bytes_eq (held_seen held.now).name name.now }
+{
+    held.name.as_slice() == name
+}
+
+// What is told in place of a name.
+fn name_held<'t>(held: &'t [Held], name: &'t [u8]) -> &'t [u8]
+    ensures { result.now ≡ name_held (map held_seen held.now) name.now }
+{
+    for one in held {
+        if is_of(one, name) {
+            return one.source.as_slice();
+        }
+    }
+    name
+}
+
+// These names, each as it is told where these are held.
+fn with_held<'t>(
+    alloc: Global,
+    held: &'t [Held],
+    names: &[&'t [u8]],
+) -> Result<Vec<&'t [u8]>, AllocError>
+    ensures { IfOk result (λ told. map (λ name. name.now) told.items
+        ≡ map (name_held (map held_seen held.now)) (map (λ name. name.now) names.now)) }
+{
+    let mut told = Vec::new(alloc);
+    for name in names {
+        told.push(name_held(held, *name))?;
+    }
+    Ok(told)
 }
 
 // Whether a name is one of the translation's own.

@@ -1,6 +1,6 @@
 // The frame of the document: what stands before the run's lines, and behind them.
 
-/// The document before its lines: style and markup, up to the start of the element
+/// The document before its lines: style, markup and the functions that show arrays as grids, up to the start of the element
 /// `<script type="application/json" ..>` that holds the lines. Its head forbids the page to fetch anything.
 pub const OPENING: &[u8] = br##"<!doctype html>
 <html lang="en">
@@ -101,8 +101,8 @@ main > * { min-height: 0; overflow: auto; scrollbar-width: thin; }
 .dense .word .value { font-size: 1em; }
 .dense .word .note, .dense .chips { min-height: 0; }
 .grids { display: flex; flex-wrap: wrap; gap: 0 1em; align-items: start; }
-.grid { font-size: .85em; min-width: 0; }
-.grid h3, .grid .grid-notes { height: 1.5em; line-height: 1.5; overflow: hidden; text-overflow: ellipsis; white-space: nowrap; }
+.grid { font-size: calc(.85em * var(--scale)); min-width: 0; }
+.grid h3, .grid .grid-notes { font-size: calc((.5 + .5 / var(--scale)) * 1em); height: 1.5em; line-height: 1.5; overflow: hidden; text-overflow: ellipsis; white-space: nowrap; }
 .grid table { border-spacing: 0; table-layout: fixed; width: calc((var(--head) + var(--columns) * var(--cell)) * 1em); }
 .grid th { width: calc(var(--cell) * 1em); height: 1.3em; overflow: hidden; color: var(--soft); font-weight: 400; line-height: 1.2; }
 .grid th:first-child { width: calc(var(--head) * 1em); }
@@ -199,10 +199,12 @@ dialog { margin: auto; padding: 1.2rem 1.6rem; border: .1rem solid var(--line); 
   .node { font-size: clamp(.9rem, 6.5cqi / var(--nodes), 1.05rem); }
 }
 @media screen and (max-width: 60em), screen and (max-height: 32em) {
+  html { scroll-padding: 11rem 0 9rem; }
   body { display: block; height: auto; }
+  header { position: sticky; top: 0; z-index: 2; background: var(--paper); }
   .dense #nodes { grid-template-columns: repeat(auto-fit, minmax(min(100%, 18rem), 1fr)); }
   .rows main, main { display: flex; flex-direction: column; }
-  #controls { position: sticky; bottom: 0; padding: .3rem 0; background: var(--paper); }
+  #controls { position: sticky; bottom: 0; z-index: 2; padding: .3rem 0; background: var(--paper); }
 }
 @media print {
   @page { size: landscape; margin: 10mm; }
@@ -275,6 +277,8 @@ dialog { margin: auto; padding: 1.2rem 1.6rem; border: .1rem solid var(--line); 
     <dt class="off">lacks 0.2</dt><dd>it was told of interval 2 of node 0 and has not fetched its changes</dd>
     <dt class="off">not told of 0.3</dt><dd>no notice of interval 3 of node 0 has come</dd>
     <dt>twin 0</dt><dd>the value before the first write in this interval</dd>
+    <dt>grid[0] <span class="caption">2 &times; 8 &times; 8</span></dt><dd>an array and its sizes; a dotted edge is where rows or columns are left out</dd>
+    <dt>now 2 at [1][4]</dt><dd>the word in that row and column, which has a mark in its corner</dd>
     <dt><span class="chip">0.2 p0</span></dt><dd>a notice: interval 2 of node 0 wrote page 0; bold where its changes are here</dd>
     <dt>next 1, last asked: 2</dt><dd>who gets the lock at its release; whom its manager forwards to</dd>
     <dt>r1=0, w1=2</dt><dd>word 1 is read, written; a ring is a turn without an act, a dot a step of the node's own</dd>
@@ -350,8 +354,18 @@ function cellWidth({ array, columns }) { return .62 * Math.max(array.digits, Str
 function headWidth({ rows }) { return .62 * (rows > 1 ? String(rows - 1).length : 0) + .5; }
 function gridWidth(slice) { return headWidth(slice) + slice.columns * cellWidth(slice) + 1.5; }
 
+/** The grids that there is room for; larger ones, and in a great window smaller ones, where all slices are whole by that. */
+function gridsFor({ em, width, height, least }) {
+  const isWhole = ({ slice, rows, columns }) => rows === slice.rows && columns === slice.columns;
+  for (const scale of em > 18 ? [1.7, 1.3, 1, .8] : [1.7, 1.3]) {
+    const grids = partsFor({ width: width / scale, height: height / scale, least });
+    if (grids.length === run.slices.length && grids.every(isWhole)) return grids.map(grid => ({ ...grid, scale }));
+  }
+  return partsFor({ width, height, least }).map(grid => ({ ...grid, scale: 1 }));
+}
+
 /** The slices that there is room for, those touched last before all others, and the part of each that is shown. */
-function gridsFor({ width, height, least }) {
+function partsFor({ width, height, least }) {
   const latest = [...run.slices].sort((one, other) => focusOf(other).moment - focusOf(one).moment || one.first - other.first);
   for (let count = Math.min(latest.length, 24); count > 0; count--) {
     const slices = latest.slice(0, count).sort((one, other) => one.first - other.first);
@@ -386,13 +400,13 @@ function wordsOfGrid(grid) { return counting(grid.top, grid.rows).flatMap(row =>
 
 /** A part of a slice in a node's copy. */
 function gridTable(view, grid) {
-  const { slice, rows, columns, top, left } = grid;
+  const { slice, rows, columns, top, left, scale } = grid;
   const words = new Map(wordsOfGrid(grid).map(word => [word, wordIn(view, word)]));
   const index = (number, shown) => make("th", {}, shown ? number : "");
   const heading = make("tr", {}, make("th", {}), ...counting(left, columns).map(column => index(column, true)));
   const lines = counting(top, rows).map(row => make("tr", {}, index(row, slice.array.sizes.length > 1), ...rowOf(grid, row).map(word => gridCell(word, words.get(word)))));
   const cut = classes({ "cut-left": left > 0, "cut-right": left + columns < slice.columns, "cut-top": top > 0, "cut-bottom": top + rows < slice.rows });
-  return make("div", { class: "grid", style: `--cell: ${cellWidth(slice)}; --head: ${headWidth(slice)}; --columns: ${columns}` },
+  return make("div", { class: "grid", style: `--cell: ${cellWidth(slice)}; --head: ${headWidth(slice)}; --columns: ${columns}; --scale: ${scale}` },
     make("h3", {}, make("b", {}, slice.title), " ", caption(slice.array.sizes.join(" \u00d7 "))),
     make("table", { class: cut }, heading, ...lines),
     make("p", { class: "grid-notes" }, ...gridNotes(slice, words)));
@@ -406,13 +420,13 @@ function gridCell(word, { text, copy, holds, title }) {
 function gridNotes({ first, array }, words) {
   const at = word => bracketed(indicesOf(word - first, array.sizes.slice(-2)));
   const [place, touched] = [...words].find(([, { done }]) => done) ?? [];
-  const old = [...words].filter(([, { newer }]) => newer).map(([word, { newer }]) => `${newer.value} at ${at(word)}`);
+  const old = [...words].filter(([word, { newer }]) => newer && word !== place).map(([word, { newer }]) => `${newer.value} at ${at(word)}`);
   const twins = [...words].filter(([, { twinValue }]) => twinValue !== null).map(([word, { twinValue }]) => `${twinValue} at ${at(word)}`);
   return [
-    touched ? `${at(place)} ${touched.done}${touched.newer ? ", " : " "}` : null,
-    touched?.newer ? marked(`now ${touched.newer.value} `, { off: true }) : null,
-    old.length > (touched?.newer ? 1 : 0) ? marked(`now ${listed(old)} `, { off: true }) : null,
-    twins.length ? caption(`twin ${listed(twins)}`) : null,
+    touched ? `${at(place)} ${touched.done} ` : null,
+    touched?.newer ? marked(`now ${touched.newer.value}`, { off: true }) : null,
+    old.length ? marked(`${touched?.newer ? "; " : ""}now ${listed(old)} `, { off: true }) : null,
+    twins.length ? caption(` twin ${listed(twins)}`) : null,
   ];
 }
 
@@ -448,15 +462,16 @@ function nodesHeight() {
   return Math.max(...parts.map(part => part.getBoundingClientRect().bottom)) - regions.nodes.getBoundingClientRect().top + regions.nodes.scrollTop;
 }
 
+function isInOneColumn() { return getComputedStyle(regions.nodes.parentElement).display === "flex"; }
+
 /** What is left for grids, in their own signs: below a table of many nodes, or in each panel; in one column, half of the window. */
 function roomForGrids() {
   const { nodes } = regions;
   const main = nodes.parentElement;
   const isTable = run.nodes > 4;
-  const inOneColumn = getComputedStyle(main).display === "flex";
   const place = isTable ? nodes : nodes.querySelector("section .pages");
   const em = .85 * parseFloat(getComputedStyle(isTable ? regions.arrays : place.parentElement).fontSize);
-  const most = inOneColumn ? nodesHeight() + innerHeight / 2 : isTable ? nodes.clientHeight : main.clientHeight * .75;
+  const most = isInOneColumn() ? nodesHeight() + innerHeight / 2 : isTable ? nodes.clientHeight : main.clientHeight * .75;
   return { em, most, width: place.clientWidth / em, height: (most - nodesHeight()) / em, least: !isTable };
 }
 </script>

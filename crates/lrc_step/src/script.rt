@@ -7,7 +7,8 @@ pub const CLOSING: &[u8] = br##"</script>
 
 // Data flows one way. `readRun` takes the lines apart, once, and makes a moment of each turn: the states of all nodes just after it. `at` is
 // the moment that is shown. `draw` makes each region of the page anew from that moment: header, source, nodes, story, timeline. A key or a
-// button calls `go`, which sets `at` and draws. Only text nodes are made from data, never markup.
+// button calls `go`, which sets `at` and draws. The functions of arrays stand in the frame, before the data. Only text nodes are made from
+// data, never markup.
 
 // ---- The run, as the lines of the data say it ----
 // A moment is a state of all nodes: moment 0 is the start, moment k stands just after the k-th turn of the data.
@@ -307,8 +308,8 @@ function draw() {
   drawHeader(turn, before);
   drawSource(turn, states);
   drawStory(turn, flight);
-  drawNodes(turn, states, before, scale);
   drawTimeline(turn, states, flight, scale);
+  drawNodes(turn, states, before, scale); // last, in the room that all else has left
   reveal(regions.source.querySelector(".now") ?? regions.source.querySelector(".badge"), regions.source);
   if (turn) reveal(document.getElementById(`node-${turn.node}`), regions.nodes);
   for (const word of regions.nodes.querySelectorAll(".node.now .touched, #arrays .touched")) revealWord(word);
@@ -357,10 +358,11 @@ function drawSource(turn, states) {
   }));
 }
 
-/** Scrolls to a word of the act, below the headings of a table. */
+/** Scrolls to a word of the act, below the headings of a table; in one column the whole page, between the header and the buttons. */
 function revealWord(word) {
   const { nodes, headings } = regions;
-  if (nodes.scrollHeight <= nodes.clientHeight && nodes.scrollWidth <= nodes.clientWidth) return;
+  const scrolls = isInOneColumn() || nodes.scrollHeight > nodes.clientHeight || nodes.scrollWidth > nodes.clientWidth;
+  if (!scrolls) return;
   word.style.scrollMarginTop = `${headings.offsetHeight}px`;
   word.scrollIntoView({ block: "nearest", inline: "nearest" });
 }
@@ -378,7 +380,7 @@ function drawNodes(turn, states, before, scale) {
   const words = run.nodes > 4 ? [...alone, ...touchedLately(alone)].sort((one, other) => one - other) : alone;
   if (words.length > alone.length) drawPanels(views, words, []);
   const room = roomForGrids();
-  for (let tries = 0; tries < 3; tries++) {
+  for (let tries = 0; tries < 5; tries++) {
     drawPanels(views, words, gridsFor(room));
     const over = nodesHeight() - room.most;
     if (over < 1) return;

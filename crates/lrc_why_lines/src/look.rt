@@ -7,7 +7,7 @@ use crate::shown::Shown;
 use lrc_trace::act::{Act, Deed};
 
 /// Returns the act at a position, or an act of node 0 that does nothing if the position is past the last act.
-pub fn act_at(shown: Shown<'_>, position: usize) -> Act
+pub fn act_at(shown: Shown<'_, '_>, position: usize) -> Act
     ensures { result ≡ act_shown shown.entry position }
 {
     if position < shown.acts.len() {
@@ -21,7 +21,7 @@ pub fn act_at(shown: Shown<'_>, position: usize) -> Act
 }
 
 /// Returns the source line of the act at a position, or 0 if the position is past the last act.
-pub(crate) fn line_at(shown: Shown<'_>, position: usize) -> u64
+pub(crate) fn line_at(shown: Shown<'_, '_>, position: usize) -> u64
     ensures { result ≡ line_shown shown.entry position }
 {
     if position < shown.lines.len() {
@@ -32,7 +32,7 @@ pub(crate) fn line_at(shown: Shown<'_>, position: usize) -> u64
 }
 
 /// Returns the interval of the act at a position, or 0 if the position is past the last act.
-pub fn interval_at(shown: Shown<'_>, position: usize) -> u64
+pub fn interval_at(shown: Shown<'_, '_>, position: usize) -> u64
     ensures { result ≡ interval_shown shown.entry position }
 {
     if position < shown.intervals.len() {
@@ -43,7 +43,7 @@ pub fn interval_at(shown: Shown<'_>, position: usize) -> u64
 }
 
 /// Returns the node of the act at a position, or 0 if the position is past the last act.
-pub fn node_at(shown: Shown<'_>, position: usize) -> u64
+pub fn node_at(shown: Shown<'_, '_>, position: usize) -> u64
     ensures { result ≡ (act_shown shown.entry position).node }
 {
     u64::from(act_at(shown, position).node)

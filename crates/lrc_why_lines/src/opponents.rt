@@ -17,7 +17,7 @@ use std::alloc::AllocError;
 #[tactic(auto, unfolding(crate::specs::Racing::known_text))]
 fn push_known(
     text: &mut Vec<u8>,
-    shown: Shown<'_>,
+    shown: Shown<'_, '_>,
     node: u64,
     known: Option<usize>,
 ) -> Result<(), AllocError>
@@ -33,7 +33,7 @@ fn push_known(
 }
 
 #[tactic(auto, unfolding(crate::specs::Racing::place_text))]
-fn push_place(text: &mut Vec<u8>, shown: Shown<'_>, position: usize) -> Result<(), AllocError>
+fn push_place(text: &mut Vec<u8>, shown: Shown<'_, '_>, position: usize) -> Result<(), AllocError>
     ensures { OnOk result (text.new.items ≡ text.old.items ++ place_text shown.entry position) }
 {
     push_number(text, b"    act ", position as u64)?;
@@ -45,7 +45,7 @@ fn push_place(text: &mut Vec<u8>, shown: Shown<'_>, position: usize) -> Result<(
 /// Adds the line that tells what the later of two acts knows of the earlier act's node.
 pub(crate) fn push_parting(
     text: &mut Vec<u8>,
-    shown: Shown<'_>,
+    shown: Shown<'_, '_>,
     parting: &Parting,
 ) -> Result<(), AllocError>
     ensures { OnOk result (text.new.items
@@ -155,7 +155,7 @@ fn push_after(
 /// Adds the line that tells what would order two acts.
 pub(crate) fn push_remedy(
     text: &mut Vec<u8>,
-    shown: Shown<'_>,
+    shown: Shown<'_, '_>,
     parting: &Parting,
 ) -> Result<(), AllocError>
     ensures { OnOk result (text.new.items ≡ text.old.items ++ remedy_line shown.entry parting.now) }
@@ -196,7 +196,7 @@ fn push_more(text: &mut Vec<u8>, node: u64, more: usize) -> Result<(), AllocErro
 #[tactic(auto, unfolding(crate::specs::Racing::least_line))]
 fn push_least(
     text: &mut Vec<u8>,
-    shown: Shown<'_>,
+    shown: Shown<'_, '_>,
     least: usize,
     more: usize,
 ) -> Result<(), AllocError>
@@ -209,7 +209,7 @@ fn push_least(
 }
 
 #[tactic(auto, unfolding(crate::specs::Racing::racing_line))]
-fn push_racing(text: &mut Vec<u8>, shown: Shown<'_>, racing: &[usize]) -> Result<(), AllocError>
+fn push_racing(text: &mut Vec<u8>, shown: Shown<'_, '_>, racing: &[usize]) -> Result<(), AllocError>
     ensures { OnOk result (text.new.items ≡ text.old.items ++ racing_line shown.entry racing.now) }
 {
     match racing {
@@ -221,7 +221,7 @@ fn push_racing(text: &mut Vec<u8>, shown: Shown<'_>, racing: &[usize]) -> Result
 #[tactic(auto, unfolding(crate::specs::Racing::opponent_lines))]
 fn push_opponent(
     text: &mut Vec<u8>,
-    shown: Shown<'_>,
+    shown: Shown<'_, '_>,
     opponent: &Opponent,
 ) -> Result<(), AllocError>
     ensures { OnOk result (text.new.items
@@ -241,7 +241,7 @@ fn push_opponent(
 #[tactic(auto, unfolding(crate::specs::Racing::opponent_text))]
 fn push_opponent_if(
     text: &mut Vec<u8>,
-    shown: Shown<'_>,
+    shown: Shown<'_, '_>,
     opponent: &Option<Opponent>,
 ) -> Result<(), AllocError>
     ensures { OnOk result (text.new.items
@@ -256,7 +256,7 @@ fn push_opponent_if(
 // Adds what would order the first of these and the act that it races with.
 fn push_first_remedy(
     text: &mut Vec<u8>,
-    shown: Shown<'_>,
+    shown: Shown<'_, '_>,
     opponents: &[Option<Opponent>],
 ) -> Result<(), AllocError>
     ensures { OnOk result (text.new.items
@@ -272,7 +272,7 @@ fn push_first_remedy(
 
 fn push_all_opponents(
     text: &mut Vec<u8>,
-    shown: Shown<'_>,
+    shown: Shown<'_, '_>,
     opponents: &[Option<Opponent>],
 ) -> Result<(), AllocError>
     ensures { OnOk result (text.new.items
@@ -289,7 +289,7 @@ fn push_all_opponents(
 /// the act.
 pub fn push_opponents(
     text: &mut Vec<u8>,
-    shown: Shown<'_>,
+    shown: Shown<'_, '_>,
     opponents: &[Option<Opponent>],
 ) -> Result<(), AllocError>
     ensures { OnOk result (text.new.items

@@ -12,7 +12,7 @@ use lrc_why::reasons::Since;
 use std::alloc::AllocError;
 
 #[tactic(auto, unfolding(crate::specs::Places::line_text))]
-fn push_line(text: &mut Vec<u8>, shown: Shown<'_>, position: usize) -> Result<(), AllocError>
+fn push_line(text: &mut Vec<u8>, shown: Shown<'_, '_>, position: usize) -> Result<(), AllocError>
     ensures { OnOk result (text.new.items ≡ text.old.items ++ line_text shown.entry position) }
 {
     push_number(text, b", line ", line_at(shown, position))?;
@@ -22,7 +22,7 @@ fn push_line(text: &mut Vec<u8>, shown: Shown<'_>, position: usize) -> Result<()
 
 #[tactic(auto, unfolding(crate::specs::Places::act_text))]
 /// Adds the act at a position, with its node and source line.
-pub fn push_act(text: &mut Vec<u8>, shown: Shown<'_>, position: usize) -> Result<(), AllocError>
+pub fn push_act(text: &mut Vec<u8>, shown: Shown<'_, '_>, position: usize) -> Result<(), AllocError>
     ensures { OnOk result (text.new.items ≡ text.old.items ++ act_text shown.entry position) }
 {
     push_number(text, b"act ", position as u64)?;
@@ -32,7 +32,11 @@ pub fn push_act(text: &mut Vec<u8>, shown: Shown<'_>, position: usize) -> Result
 
 #[tactic(auto, unfolding(crate::specs::Places::there_text))]
 /// Adds the act at a position with its source line, but without its node, which the context tells.
-pub fn push_there(text: &mut Vec<u8>, shown: Shown<'_>, position: usize) -> Result<(), AllocError>
+pub fn push_there(
+    text: &mut Vec<u8>,
+    shown: Shown<'_, '_>,
+    position: usize,
+) -> Result<(), AllocError>
     ensures { OnOk result (text.new.items ≡ text.old.items ++ there_text shown.entry position) }
 {
     push_number(text, b"act ", position as u64)?;
@@ -50,7 +54,7 @@ pub fn push_chain(text: &mut Vec<u8>, chain: &[usize]) -> Result<(), AllocError>
 
 #[tactic(auto, unfolding(crate::specs::Places::since_text))]
 /// Adds since when a node knows a position: its first act that knows it, and the chain of acts that leads there.
-pub fn push_since(text: &mut Vec<u8>, shown: Shown<'_>, since: &Since) -> Result<(), AllocError>
+pub fn push_since(text: &mut Vec<u8>, shown: Shown<'_, '_>, since: &Since) -> Result<(), AllocError>
     ensures { OnOk result (text.new.items ≡ text.old.items ++ since_text shown.entry since.now) }
 {
     text.extend_from_slice(b"since ")?;

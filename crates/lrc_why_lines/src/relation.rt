@@ -28,7 +28,7 @@ fn push_two(text: &mut Vec<u8>, earlier: usize, does: &[u8], later: usize) -> Re
 #[tactic(auto, unfolding(crate::specs::Ordered::same_line))]
 fn push_same(
     text: &mut Vec<u8>,
-    shown: Shown<'_>,
+    shown: Shown<'_, '_>,
     earlier: usize,
     later: usize,
 ) -> Result<(), AllocError>
@@ -57,7 +57,7 @@ fn push_by(
 }
 
 #[tactic(auto, unfolding(crate::specs::Ordered::across_line))]
-fn push_across(text: &mut Vec<u8>, shown: Shown<'_>, to: usize) -> Result<(), AllocError>
+fn push_across(text: &mut Vec<u8>, shown: Shown<'_, '_>, to: usize) -> Result<(), AllocError>
     ensures { OnOk result (text.new.items ≡ text.old.items ++ across_line shown.entry to) }
 {
     push_by(
@@ -72,7 +72,7 @@ fn push_across(text: &mut Vec<u8>, shown: Shown<'_>, to: usize) -> Result<(), Al
 }
 
 #[tactic(auto, unfolding(crate::specs::Ordered::within_line))]
-fn push_within(text: &mut Vec<u8>, shown: Shown<'_>, to: usize) -> Result<(), AllocError>
+fn push_within(text: &mut Vec<u8>, shown: Shown<'_, '_>, to: usize) -> Result<(), AllocError>
     ensures { OnOk result (text.new.items ≡ text.old.items ++ within_line shown.entry to) }
 {
     push_number(text, b"    in node ", node_at(shown, to))?;
@@ -82,7 +82,12 @@ fn push_within(text: &mut Vec<u8>, shown: Shown<'_>, to: usize) -> Result<(), Al
 }
 
 #[tactic(auto, unfolding(crate::specs::Ordered::step_line))]
-fn push_step(text: &mut Vec<u8>, shown: Shown<'_>, from: usize, to: usize) -> Result<(), AllocError>
+fn push_step(
+    text: &mut Vec<u8>,
+    shown: Shown<'_, '_>,
+    from: usize,
+    to: usize,
+) -> Result<(), AllocError>
     ensures { OnOk result (text.new.items ≡ text.old.items ++ step_line shown.entry from to) }
 {
     if node_at(shown, from) == node_at(shown, to) {
@@ -93,7 +98,7 @@ fn push_step(text: &mut Vec<u8>, shown: Shown<'_>, from: usize, to: usize) -> Re
 }
 
 // The number of the barrier from which the node of an act goes on there, counted from 1.
-fn barrier_at(shown: Shown<'_>, position: usize) -> usize
+fn barrier_at(shown: Shown<'_, '_>, position: usize) -> usize
     ensures { result ≡ barrier_shown shown.entry position }
 {
     if position < shown.acts.len() {
@@ -112,7 +117,7 @@ fn behind_first(chain: &[usize]) -> &[usize]
     }
 }
 
-fn push_steps(text: &mut Vec<u8>, shown: Shown<'_>, chain: &[usize]) -> Result<(), AllocError>
+fn push_steps(text: &mut Vec<u8>, shown: Shown<'_, '_>, chain: &[usize]) -> Result<(), AllocError>
     ensures { OnOk result (text.new.items ≡ text.old.items ++ steps_text shown.entry chain.now) }
 {
     let steps = behind_first(chain);
@@ -125,7 +130,7 @@ fn push_steps(text: &mut Vec<u8>, shown: Shown<'_>, chain: &[usize]) -> Result<(
 #[tactic(auto, unfolding(crate::specs::Ordered::before_text))]
 fn push_before(
     text: &mut Vec<u8>,
-    shown: Shown<'_>,
+    shown: Shown<'_, '_>,
     earlier: usize,
     later: usize,
     chain: &[usize],
@@ -139,7 +144,11 @@ fn push_before(
 }
 
 #[tactic(auto, unfolding(crate::specs::Ordered::race_line))]
-fn push_race_line(text: &mut Vec<u8>, shown: Shown<'_>, parting: &Parting) -> Result<(), AllocError>
+fn push_race_line(
+    text: &mut Vec<u8>,
+    shown: Shown<'_, '_>,
+    parting: &Parting,
+) -> Result<(), AllocError>
     ensures { OnOk result (text.new.items ≡ text.old.items ++ race_line shown.entry parting.now) }
 {
     let word = word_of(act_at(shown, parting.earlier).deed);
@@ -150,7 +159,7 @@ fn push_race_line(text: &mut Vec<u8>, shown: Shown<'_>, parting: &Parting) -> Re
 #[tactic(auto, unfolding(crate::specs::Ordered::race_text))]
 fn push_race(
     text: &mut Vec<u8>,
-    shown: Shown<'_>,
+    shown: Shown<'_, '_>,
     parting: &Parting,
     first: &Standing,
     second: &Standing,
@@ -165,7 +174,7 @@ fn push_race(
 }
 
 #[tactic(auto, unfolding(crate::specs::Ordered::apart_text))]
-fn push_apart(text: &mut Vec<u8>, shown: Shown<'_>, parting: &Parting) -> Result<(), AllocError>
+fn push_apart(text: &mut Vec<u8>, shown: Shown<'_, '_>, parting: &Parting) -> Result<(), AllocError>
     ensures { OnOk result (text.new.items ≡ text.old.items ++ apart_text shown.entry parting.now) }
 {
     text.extend_from_slice(b"  neither happens before the other\n")?;
@@ -176,7 +185,7 @@ fn push_apart(text: &mut Vec<u8>, shown: Shown<'_>, parting: &Parting) -> Result
 /// Adds the lines that tell how the acts at two positions are ordered.
 pub fn push_relation(
     text: &mut Vec<u8>,
-    shown: Shown<'_>,
+    shown: Shown<'_, '_>,
     earlier: usize,
     later: usize,
     relation: &Relation,

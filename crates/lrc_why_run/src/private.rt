@@ -28,7 +28,7 @@ fn push_is(text: &mut Vec<u8>, name: &[u8], value: u64) -> Result<(), AllocError
 }
 
 #[tactic(auto, unfolding(crate::specs::Private::set_text))]
-fn push_set(text: &mut Vec<u8>, shown: Shown<'_>, last: Option<usize>) -> Result<(), AllocError>
+fn push_set(text: &mut Vec<u8>, shown: Shown<'_, '_>, last: Option<usize>) -> Result<(), AllocError>
     ensures { OnOk result (text.new.items ≡ text.old.items ++ set_text shown.entry last) }
 {
     match last {
@@ -44,7 +44,7 @@ fn push_set(text: &mut Vec<u8>, shown: Shown<'_>, last: Option<usize>) -> Result
 #[tactic(auto, unfolding(crate::specs::Private::name_line))]
 fn push_name(
     text: &mut Vec<u8>,
-    shown: Shown<'_>,
+    shown: Shown<'_, '_>,
     name: &[u8],
     value: u64,
     last: Option<usize>,
@@ -60,7 +60,7 @@ fn push_name(
 #[tactic(auto, unfolding(crate::specs::Private::name_text))]
 fn push_read_name(
     text: &mut Vec<u8>,
-    shown: Shown<'_>,
+    shown: Shown<'_, '_>,
     names: &[&[u8]],
     privates: &[u64; 32],
     statement: &Statement,
@@ -81,7 +81,7 @@ fn push_read_name(
 // Adds the lines of the names that a statement reads.
 fn push_names(
     text: &mut Vec<u8>,
-    shown: Shown<'_>,
+    shown: Shown<'_, '_>,
     names: &[&[u8]],
     privates: &[u64; 32],
     statement: &Statement,
@@ -198,7 +198,7 @@ fn push_quiet(
 fn push_statement(
     way: &Way<'_>,
     text: &mut Vec<u8>,
-    shown: Shown<'_>,
+    shown: Shown<'_, '_>,
     names: &[&[u8]],
     deed: Deed,
     statement: &Statement,
@@ -217,7 +217,7 @@ fn push_statement(
 pub(crate) fn push_private(
     way: &Way<'_>,
     text: &mut Vec<u8>,
-    shown: Shown<'_>,
+    shown: Shown<'_, '_>,
     names: &[&[u8]],
     deed: Deed,
 ) -> Result<(), AllocError>

@@ -1,6 +1,6 @@
 // What is printed of the acts of a run.
 
-ghost use Rattle.std.specs.Prelude.{◌≡◌, ◌≢◌, ◌<◌, ◌≤◌, ℕ, All, IfErr, IfOk, IfSome, List, Some, length, map, slice_get};
+ghost use Rattle.std.specs.Prelude.{◌≡◌, ◌≢◌, ◌<◌, ◌≤◌, ℕ, All, IfErr, IfOk, IfSome, List, Some, length, map, option_map, slice_get, slice_index};
 ghost use Rattle.lrc_judge.specs.declared.TheConstants.{NODES};
 ghost use Rattle.lrc_judge.specs.Firsts.{AreIntervals};
 ghost use Rattle.lrc_judge.specs.Order.{IsOrderOf};
@@ -8,13 +8,15 @@ ghost use Rattle.lrc_text.specs.Parts.{whole_text};
 ghost use Rattle.lrc_why.specs.Spread.{OfEach};
 ghost use Rattle.lrc_why_text.specs.Answers.{IsThere};
 ghost use Rattle.lrc_why_text.specs.declared.asked.Asked.{Asked as AskedRecord};
-ghost use Rattle.lrc_why_run.specs.Answers.{AnswersRun, IsAnswerable, RefusesRun, Tells, TellsBehind, TellsPrivate};
+ghost use Rattle.lrc_why_run.specs.Answers.{AnswersRun, IsAnswerable, RefusesRun, Tells, TellsAt, TellsBehind, TellsPrivate, trap_said};
+ghost use Rattle.lrc_named_core.specs.View.{trap_of};
 
 use crate::private::push_private;
 use lrc_exec::code::Code;
 use lrc_judge::intervals_of;
 use lrc_judge::order::{Order, happens_before};
-use lrc_lines::walks::lines_of_acts;
+use lrc_lines::statements::{lines_of_statements, statements_of_acts};
+use lrc_named_core::tree::Trap;
 use lrc_page::Size;
 use lrc_private_names::Way;
 use lrc_source::source::Source;
@@ -32,7 +34,7 @@ fn private_part(
     alloc: Global,
     code: &Code<'_>,
     nodes: u8,
-    shown: Shown<'_>,
+    shown: Shown<'_, '_>,
     names: &[&[u8]],
     position: usize,
 ) -> Result<Vec<u8>, AllocError>
@@ -53,7 +55,7 @@ fn behind(
     alloc: Global,
     code: &Code<'_>,
     nodes: u8,
-    shown: Shown<'_>,
+    shown: Shown<'_, '_>,
     names: &[&[u8]],
     asked: Asked,
 ) -> Result<Vec<u8>, AllocError>
@@ -75,7 +77,7 @@ fn told(
     code: &Code<'_>,
     nodes: u8,
     page: Size,
-    shown: Shown<'_>,
+    shown: Shown<'_, '_>,
     names: &[&[u8]],
     order: &Order,
     asked: Asked,
@@ -93,14 +95,64 @@ fn told(
     Ok(part)
 }
 
+// The number of the statement that the act at a position is of.
+fn statement_at(statements: &[u32], position: usize) -> u32
+    ensures { result ≡ slice_index statements.now position }
+{
+    match statements.get(position) {
+        Some(statement) => *statement,
+        None => 0,
+    }
+}
+
+// What the text says of a trap of a statement.
+fn trap_said<'s>(traps: Option<&[Trap<'s>]>, statement: u32) -> Trap<'s>
+    ensures { trap_of result
+        ≡ trap_said (option_map (λ traps. map trap_of traps.now) traps.entry) statement }
+{
+    let Some(traps) = traps else {
+        return Trap::Plain;
+    };
+    match traps.get(statement as usize) {
+        Some(trap) => *trap,
+        None => Trap::Plain,
+    }
+}
+
+// What is printed of acts that are there, with names and traps as the text tells them in the statement of the first.
+fn told_at(
+    alloc: Global,
+    source: &Source<'_>,
+    nodes: u8,
+    page: Size,
+    shown: Shown<'_, '_>,
+    statements: &[u32],
+    order: &Order,
+    asked: Asked,
+) -> Result<Vec<u8>, AllocError>
+    requires nodes { All (λ act. act.node < NODES) shown.acts.now }
+    requires order { IsOrderOf shown.acts.now order.now }
+    requires intervals { AreIntervals shown.acts.now (length shown.acts.now) shown.intervals.now }
+    requires asked { IsAnswerable (length shown.acts.now) asked }
+    ensures { IfOk result (λ part. TellsAt source.now.text source.now.names shown.entry
+        source.now.program nodes page (slice_index statements.now asked.act) asked part.items) }
+{
+    let statement = statement_at(statements, asked.act);
+    let text = source.text();
+    let trap = trap_said(text.traps(), statement);
+    let names = text.names_at(alloc, statement, source.names())?;
+    let own = Shown { trap, ..shown };
+    told(alloc, source.code(), nodes, page, own, &names, order, asked)
+}
+
 // What is printed of each of these.
 fn told_each(
     alloc: Global,
-    code: &Code<'_>,
+    source: &Source<'_>,
     nodes: u8,
     page: Size,
-    shown: Shown<'_>,
-    names: &[&[u8]],
+    shown: Shown<'_, '_>,
+    statements: &[u32],
     order: &Order,
     asked: &[Asked],
 ) -> Result<Vec<Vec<u8>>, AllocError>
@@ -110,12 +162,13 @@ fn told_each(
     requires asked { All (IsAnswerable (length shown.acts.now)) asked.now }
     ensures { IfOk result (λ parts. OfEach (length asked.now)
         (λ place part. (one : AskedRecord) → slice_get asked.now place ≡ Some one
-        → Tells shown.entry (map (λ name. name.now) names.now) code.now nodes page one part.items)
+        → TellsAt source.now.text source.now.names shown.entry source.now.program nodes page
+        (slice_index statements.now one.act) one part.items)
         parts.items) }
 {
     let mut parts = Vec::new(alloc);
     for one in asked {
-        let part = told(alloc, code, nodes, page, shown, names, order, *one)?;
+        let part = told_at(alloc, source, nodes, page, shown, statements, order, *one)?;
         parts.push(part)?;
     }
     Ok(parts)
@@ -140,24 +193,17 @@ pub fn why_each(
         → AnswersRun source.now.text source.now.program nodes page acts.now one part.items)
         parts.items) }
 {
-    let lines = lines_of_acts(alloc, source.code(), source.lines(), nodes, acts)?;
+    let statements = statements_of_acts(alloc, source.code(), nodes, acts)?;
+    let lines = lines_of_statements(alloc, source.lines(), &statements)?;
     let intervals = intervals_of(alloc, acts)?;
     let shown = Shown {
         acts,
         lines: lines.as_slice(),
         intervals: intervals.as_slice(),
         labels: source.labels(),
+        trap: Trap::Plain,
     };
-    let parts = told_each(
-        alloc,
-        source.code(),
-        nodes,
-        page,
-        shown,
-        source.names(),
-        order,
-        asked,
-    )?;
+    let parts = told_each(alloc, source, nodes, page, shown, &statements, order, asked)?;
     Ok(parts)
 }
 

@@ -14,6 +14,8 @@ use Rattle.lrc_why.specs.Whole.{AreReasons, IsRelation}
 use Rattle.lrc_why_text.specs.declared.fault.WhyFault.{WhyFault}
 use Rattle.lrc_why_text.specs.declared.fault.WhyFault.TheVariants.{BadAct, NoAct, NoMemory, TooLong}
 use Rattle.lrc_why_text.specs.declared.asked.Asked.{Asked}
+use Rattle.lrc_named_core.specs.Tree.{plain}
+use Rattle.lrc_named_core.specs.View.{trap_of}
 use Rattle.lrc_why_lines.specs.declared.shown.Shown.{Shown}
 use Rattle.lrc_labels.specs.declared.cut.Divider.TheVariants.{LineFeed}
 use Rattle.lrc_labels.specs.Cut.{cut, divides}
@@ -60,6 +62,7 @@ pub record IsShownPlainly (shown : Shown) (acts : List Act) (lines : List ℕ) :
   pub lines_are : shown.lines.now ≡ lines
   pub intervals : AreIntervals acts (length acts) shown.intervals.now
   pub unlabelled : shown.labels.now ≡ []
+  pub untold : trap_of shown.trap ≡ plain
 
 -- what is asked of is there
 abbrev pub IsThere : ℕ → Option ℕ → ℕ → Type 0

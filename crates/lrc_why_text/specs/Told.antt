@@ -2,7 +2,8 @@
 use Rattle.std.specs.Prelude.{ℕ, Bool, true, false, Option, Some, None, List, [], ◌++◌, codes, decimal}
 use Rattle.std.specs.List.{flat_map}
 use Rattle.lrc_trace.specs.declared.act.Cause.{Cause}
-use Rattle.lrc_trace.specs.declared.act.Cause.TheVariants.{DivisionByZero, WordOutOfRange, LockOutOfRange, LockHeld, LockNotHeld}
+use Rattle.lrc_named_core.specs.View.{trap_of}
+use Rattle.lrc_trap_words.specs.Words.{cause_words}
 use Rattle.lrc_trace.specs.declared.act.Deed.{Deed}
 use Rattle.lrc_trace.specs.declared.act.Deed.TheVariants.{Read, Write, Acquire}
 use Rattle.lrc_judge.specs.Races.{word_of}
@@ -19,12 +20,8 @@ use Rattle.lrc_why_lines.specs.Lists.{some_text}
 use Rattle.lrc_why_lines.specs.Places.{act_shown, act_text, labels_shown, since_text}
 
 -- the cause of a trap
-unfoldable pub cause_line : Cause → List ℕ
-cause_line DivisionByZero = codes "  division by zero\n"
-cause_line WordOutOfRange = codes "  word out of range\n"
-cause_line LockOutOfRange = codes "  lock out of range\n"
-cause_line LockHeld = codes "  lock held already\n"
-cause_line LockNotHeld = codes "  lock not held\n"
+unfoldable pub cause_line : Shown → Cause → List ℕ
+cause_line shown cause = codes "  " ++ cause_words (trap_of shown.trap) cause ++ codes "\n"
 
 -- the value that a deed reads or writes, and the lock that it acquires
 abbrev pub value_of : Deed → ℕ
@@ -107,7 +104,7 @@ barrier_line words number = words ++ decimal number ++ codes "\n"
 -- what an act with this deed is about
 unfoldable pub about_text : Shown → Deed → About → List ℕ
 about_text shown deed Nothing = []
-about_text shown deed (Trapped cause) = cause_line cause
+about_text shown deed (Trapped cause) = cause_line shown cause
 about_text shown deed (Gives gift) = gift_text shown deed gift
 about_text shown deed (Follows release) = follows_text shown deed release
 about_text shown deed (Comes number) = barrier_line (codes "  comes to barrier ") number

@@ -6,6 +6,7 @@ ghost use Rattle.lrc_why_text.specs.Told.{about_text, barrier_line, cause_line, 
 use lrc_judge::races::word_of;
 use lrc_text::push_number;
 use lrc_trace::act::{Cause, Deed};
+use lrc_trap_words::push_cause;
 use lrc_why::reasons::{About, Gift, Several, Since, Source};
 use lrc_why_lines::deed::{push_lock, push_word};
 use lrc_why_lines::lists::push_some;
@@ -15,16 +16,12 @@ use lrc_why_lines::shown::Shown;
 use std::alloc::AllocError;
 
 #[tactic(auto, unfolding(crate::specs::Told::cause_line))]
-fn cause_words(cause: Cause) -> &'static [u8]
-    ensures { result.now ≡ cause_line cause }
+fn push_cause_line(text: &mut Vec<u8>, shown: Shown<'_, '_>, cause: Cause) -> Result<(), AllocError>
+    ensures { OnOk result (text.new.items ≡ text.old.items ++ cause_line shown.entry cause) }
 {
-    match cause {
-        Cause::DivisionByZero => b"  division by zero\n",
-        Cause::WordOutOfRange => b"  word out of range\n",
-        Cause::LockOutOfRange => b"  lock out of range\n",
-        Cause::LockHeld => b"  lock held already\n",
-        Cause::LockNotHeld => b"  lock not held\n",
-    }
+    text.extend_from_slice(b"  ")?;
+    push_cause(text, shown.trap, cause)?;
+    text.extend_from_slice(b"\n")
 }
 
 // The value that a deed reads or writes.
@@ -38,7 +35,7 @@ fn value_of(deed: Deed) -> u64
 }
 
 #[tactic(auto, unfolding(crate::specs::Told::unwritten_text))]
-fn push_unwritten(text: &mut Vec<u8>, shown: Shown<'_>, word: u32) -> Result<(), AllocError>
+fn push_unwritten(text: &mut Vec<u8>, shown: Shown<'_, '_>, word: u32) -> Result<(), AllocError>
     ensures { OnOk result (text.new.items ≡ text.old.items ++ unwritten_text shown.entry word) }
 {
     push_word(text, shown.labels, b"0: no write of word ", word)?;
@@ -48,7 +45,7 @@ fn push_unwritten(text: &mut Vec<u8>, shown: Shown<'_>, word: u32) -> Result<(),
 #[tactic(auto, unfolding(crate::specs::Told::known_since_text))]
 fn push_known_since(
     text: &mut Vec<u8>,
-    shown: Shown<'_>,
+    shown: Shown<'_, '_>,
     since: &Option<Since>,
 ) -> Result<(), AllocError>
     ensures { OnOk result (text.new.items
@@ -66,7 +63,7 @@ fn push_known_since(
 #[tactic(auto, unfolding(crate::specs::Told::last_text))]
 fn push_last(
     text: &mut Vec<u8>,
-    shown: Shown<'_>,
+    shown: Shown<'_, '_>,
     write: usize,
     since: &Option<Since>,
 ) -> Result<(), AllocError>
@@ -118,7 +115,7 @@ fn push_several(
 #[tactic(auto, unfolding(crate::specs::Told::unknown_text))]
 fn push_unknown(
     text: &mut Vec<u8>,
-    shown: Shown<'_>,
+    shown: Shown<'_, '_>,
     unknown: Option<usize>,
 ) -> Result<(), AllocError>
     ensures { OnOk result (text.new.items ≡ text.old.items ++ unknown_text shown.entry unknown) }
@@ -140,7 +137,7 @@ fn push_unknown(
 #[tactic(auto, unfolding(crate::specs::Told::source_text))]
 fn push_source(
     text: &mut Vec<u8>,
-    shown: Shown<'_>,
+    shown: Shown<'_, '_>,
     deed: Deed,
     allowed: bool,
     source: &Source,
@@ -156,7 +153,7 @@ fn push_source(
 }
 
 #[tactic(auto, unfolding(crate::specs::Told::last_line))]
-fn push_last_line(text: &mut Vec<u8>, shown: Shown<'_>, write: usize) -> Result<(), AllocError>
+fn push_last_line(text: &mut Vec<u8>, shown: Shown<'_, '_>, write: usize) -> Result<(), AllocError>
     ensures { OnOk result (text.new.items ≡ text.old.items ++ last_line shown.entry write) }
 {
     text.extend_from_slice(b"    last: ")?;
@@ -164,7 +161,11 @@ fn push_last_line(text: &mut Vec<u8>, shown: Shown<'_>, write: usize) -> Result<
     text.extend_from_slice(b"\n")
 }
 
-fn push_last_lines(text: &mut Vec<u8>, shown: Shown<'_>, writes: &[usize]) -> Result<(), AllocError>
+fn push_last_lines(
+    text: &mut Vec<u8>,
+    shown: Shown<'_, '_>,
+    writes: &[usize],
+) -> Result<(), AllocError>
     ensures { OnOk result (text.new.items ≡ text.old.items ++ last_lines shown.entry writes.now) }
 {
     for write in writes {
@@ -176,7 +177,7 @@ fn push_last_lines(text: &mut Vec<u8>, shown: Shown<'_>, writes: &[usize]) -> Re
 #[tactic(auto, unfolding(crate::specs::Told::source_lines))]
 fn push_source_lines(
     text: &mut Vec<u8>,
-    shown: Shown<'_>,
+    shown: Shown<'_, '_>,
     source: &Source,
 ) -> Result<(), AllocError>
     ensures { OnOk result (text.new.items ≡ text.old.items ++ source_lines shown.entry source.now) }
@@ -201,7 +202,7 @@ fn push_gives(text: &mut Vec<u8>, value: u64, allowed: bool) -> Result<(), Alloc
 #[tactic(auto, unfolding(crate::specs::Told::gift_line))]
 fn push_gift_line(
     text: &mut Vec<u8>,
-    shown: Shown<'_>,
+    shown: Shown<'_, '_>,
     deed: Deed,
     gift: &Gift,
 ) -> Result<(), AllocError>
@@ -216,7 +217,7 @@ fn push_gift_line(
 #[tactic(auto, unfolding(crate::specs::Told::gift_text))]
 fn push_gift(
     text: &mut Vec<u8>,
-    shown: Shown<'_>,
+    shown: Shown<'_, '_>,
     deed: Deed,
     gift: &Gift,
 ) -> Result<(), AllocError>
@@ -229,7 +230,7 @@ fn push_gift(
 #[tactic(auto, unfolding(crate::specs::Told::follows_text))]
 fn push_follows(
     text: &mut Vec<u8>,
-    shown: Shown<'_>,
+    shown: Shown<'_, '_>,
     deed: Deed,
     release: Option<usize>,
 ) -> Result<(), AllocError>
@@ -277,7 +278,7 @@ fn push_barrier(text: &mut Vec<u8>, words: &[u8], number: usize) -> Result<(), A
 /// an acquire follows, or the number of its barrier.
 pub(crate) fn push_about(
     text: &mut Vec<u8>,
-    shown: Shown<'_>,
+    shown: Shown<'_, '_>,
     deed: Deed,
     about: &About,
 ) -> Result<(), AllocError>
@@ -286,7 +287,7 @@ pub(crate) fn push_about(
 {
     match about {
         About::Nothing => Ok(()),
-        About::Trapped(cause) => text.extend_from_slice(cause_words(*cause)),
+        About::Trapped(cause) => push_cause_line(text, shown, *cause),
         About::Gives(gift) => push_gift(text, shown, deed, gift),
         About::Follows(release) => push_follows(text, shown, deed, *release),
         About::Comes(number) => push_barrier(text, b"  comes to barrier ", *number),

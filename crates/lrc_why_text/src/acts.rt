@@ -16,6 +16,7 @@ use lrc_judge::intervals_of;
 use lrc_judge::order::happens_before;
 use lrc_judge_text::judge::nodes_of;
 use lrc_labels::label::Label;
+use lrc_named_core::tree::Trap;
 use lrc_page::Size;
 use lrc_trace::act::Act;
 use lrc_why_lines::shown::Shown;
@@ -58,6 +59,7 @@ fn told(
         lines,
         intervals: intervals.as_slice(),
         labels,
+        trap: Trap::Plain,
     };
     let part = why_part(
         alloc,

@@ -20,7 +20,7 @@ fn push_nobody(text: &mut Vec<u8>, node: u64) -> Result<(), AllocError>
 }
 
 #[tactic(auto, unfolding(crate::specs::Learning::telling_line))]
-fn push_telling(text: &mut Vec<u8>, shown: Shown<'_>, from: usize) -> Result<(), AllocError>
+fn push_telling(text: &mut Vec<u8>, shown: Shown<'_, '_>, from: usize) -> Result<(), AllocError>
     ensures { OnOk result (text.new.items ≡ text.old.items ++ telling_line shown.entry from) }
 {
     text.extend_from_slice(b"  others can learn of it from ")?;
@@ -31,7 +31,7 @@ fn push_telling(text: &mut Vec<u8>, shown: Shown<'_>, from: usize) -> Result<(),
 #[tactic(auto, unfolding(crate::specs::Learning::from_line))]
 fn push_from(
     text: &mut Vec<u8>,
-    shown: Shown<'_>,
+    shown: Shown<'_, '_>,
     position: usize,
     from: usize,
 ) -> Result<(), AllocError>
@@ -46,7 +46,7 @@ fn push_from(
 #[tactic(auto, unfolding(crate::specs::Learning::learner_line))]
 fn push_learner_line(
     text: &mut Vec<u8>,
-    shown: Shown<'_>,
+    shown: Shown<'_, '_>,
     node: usize,
     since: &Since,
 ) -> Result<(), AllocError>
@@ -63,7 +63,7 @@ fn push_learner_line(
 #[tactic(auto, unfolding(crate::specs::Learning::learner_text))]
 fn push_learner(
     text: &mut Vec<u8>,
-    shown: Shown<'_>,
+    shown: Shown<'_, '_>,
     node: usize,
     since: &Option<Since>,
 ) -> Result<(), AllocError>
@@ -78,7 +78,7 @@ fn push_learner(
 
 fn push_learners(
     text: &mut Vec<u8>,
-    shown: Shown<'_>,
+    shown: Shown<'_, '_>,
     learners: &[Option<Since>],
 ) -> Result<(), AllocError>
     ensures { OnOk result (text.new.items
@@ -93,7 +93,7 @@ fn push_learners(
 #[tactic(auto, unfolding(crate::specs::Learning::spread_text))]
 fn push_spread(
     text: &mut Vec<u8>,
-    shown: Shown<'_>,
+    shown: Shown<'_, '_>,
     position: usize,
     spread: &Spread,
 ) -> Result<(), AllocError>
@@ -109,7 +109,7 @@ fn push_spread(
 /// Adds the lines that tell which nodes learn of the act at a position.
 pub(crate) fn push_forward(
     text: &mut Vec<u8>,
-    shown: Shown<'_>,
+    shown: Shown<'_, '_>,
     position: usize,
     forward: &Forward,
 ) -> Result<(), AllocError>

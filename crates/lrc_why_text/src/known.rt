@@ -35,7 +35,7 @@ fn closed_words(closes: bool) -> &'static [u8]
 #[tactic(auto, unfolding(crate::specs::Knowing::interval_line))]
 fn push_interval_line(
     text: &mut Vec<u8>,
-    shown: Shown<'_>,
+    shown: Shown<'_, '_>,
     position: usize,
     time: &[usize],
 ) -> Result<(), AllocError>
@@ -54,7 +54,7 @@ fn push_interval_line(
 /// writes follow.
 pub(crate) fn push_interval(
     text: &mut Vec<u8>,
-    shown: Shown<'_>,
+    shown: Shown<'_, '_>,
     size: u32,
     position: usize,
     time: &[usize],
@@ -71,7 +71,7 @@ pub(crate) fn push_interval(
 #[tactic(auto, unfolding(crate::specs::Knowing::already_line))]
 fn push_already(
     text: &mut Vec<u8>,
-    shown: Shown<'_>,
+    shown: Shown<'_, '_>,
     node: usize,
     news: &News,
 ) -> Result<(), AllocError>
@@ -97,7 +97,7 @@ fn push_span(text: &mut Vec<u8>, first: u64, last: u64) -> Result<(), AllocError
 }
 
 // The interval of the first of these acts.
-fn first_interval(shown: Shown<'_>, acts: &[usize]) -> u64
+fn first_interval(shown: Shown<'_, '_>, acts: &[usize]) -> u64
     ensures { result ≡ first_interval shown.entry acts.now }
 {
     match acts {
@@ -109,7 +109,7 @@ fn first_interval(shown: Shown<'_>, acts: &[usize]) -> u64
 #[tactic(auto, unfolding(crate::specs::Knowing::learned_line))]
 fn push_learned_line(
     text: &mut Vec<u8>,
-    shown: Shown<'_>,
+    shown: Shown<'_, '_>,
     node: usize,
     news: &News,
     brought: &Brought,
@@ -130,7 +130,7 @@ fn push_learned_line(
 #[tactic(auto, unfolding(crate::specs::Knowing::learned_text))]
 fn push_learned(
     text: &mut Vec<u8>,
-    shown: Shown<'_>,
+    shown: Shown<'_, '_>,
     size: u32,
     node: usize,
     news: &News,
@@ -147,7 +147,7 @@ fn push_learned(
 #[tactic(auto, unfolding(crate::specs::Knowing::told_text))]
 fn push_told(
     text: &mut Vec<u8>,
-    shown: Shown<'_>,
+    shown: Shown<'_, '_>,
     size: u32,
     node: usize,
     news: &News,
@@ -165,7 +165,7 @@ fn push_told(
 #[tactic(auto, unfolding(crate::specs::Knowing::news_text))]
 fn push_news(
     text: &mut Vec<u8>,
-    shown: Shown<'_>,
+    shown: Shown<'_, '_>,
     size: u32,
     node: usize,
     news: &Option<News>,
@@ -182,7 +182,7 @@ fn push_news(
 
 fn push_news_lines(
     text: &mut Vec<u8>,
-    shown: Shown<'_>,
+    shown: Shown<'_, '_>,
     size: u32,
     news: &[Option<News>],
 ) -> Result<(), AllocError>
@@ -233,7 +233,7 @@ fn push_nothing(text: &mut Vec<u8>, deed: Deed, news: &[Option<News>]) -> Result
 /// Adds the lines that tell what an act with this deed knows of the other nodes.
 pub(crate) fn push_all_news(
     text: &mut Vec<u8>,
-    shown: Shown<'_>,
+    shown: Shown<'_, '_>,
     size: u32,
     deed: Deed,
     news: &[Option<News>],

@@ -21,7 +21,11 @@ use lrc_why_lines::shown::Shown;
 use std::alloc::{AllocError, Global};
 
 #[tactic(auto, unfolding(crate::specs::Answers::act_line))]
-fn push_act_line(text: &mut Vec<u8>, shown: Shown<'_>, position: usize) -> Result<(), AllocError>
+fn push_act_line(
+    text: &mut Vec<u8>,
+    shown: Shown<'_, '_>,
+    position: usize,
+) -> Result<(), AllocError>
     ensures { OnOk result (text.new.items ≡ text.old.items ++ act_line shown.entry position) }
 {
     push_act(text, shown, position)?;
@@ -32,7 +36,7 @@ fn push_act_line(text: &mut Vec<u8>, shown: Shown<'_>, position: usize) -> Resul
 // Adds the lines of an act, with these lines behind the first.
 fn push_reasons(
     text: &mut Vec<u8>,
-    shown: Shown<'_>,
+    shown: Shown<'_, '_>,
     size: u32,
     position: usize,
     told: &Reasons,
@@ -52,7 +56,7 @@ fn push_reasons(
 /// Returns the lines with the reasons of the act at a position. The lines in `private` follow the first of them.
 pub(crate) fn reasons_part(
     alloc: Global,
-    shown: Shown<'_>,
+    shown: Shown<'_, '_>,
     order: &Order,
     nodes: u8,
     size: u32,
@@ -78,7 +82,7 @@ pub(crate) fn reasons_part(
 /// Returns the lines that tell how the acts at two positions are ordered.
 pub(crate) fn relation_part(
     alloc: Global,
-    shown: Shown<'_>,
+    shown: Shown<'_, '_>,
     order: &Order,
     earlier: usize,
     later: usize,
@@ -100,7 +104,7 @@ pub(crate) fn relation_part(
 /// are ordered, without those lines.
 pub fn why_part(
     alloc: Global,
-    shown: Shown<'_>,
+    shown: Shown<'_, '_>,
     order: &Order,
     nodes: u8,
     size: u32,

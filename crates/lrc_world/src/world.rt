@@ -361,7 +361,7 @@ fn newest_place(count: usize) -> u32
 }
 
 // Adds a node at the start of a program. It has a frame of its own: what a node takes on the stack while it is made is
-// then nowhere else.
+// then nowhere else. A `?` would have a copy of the node more there.
 #[inline(never)]
 fn add_node<'c>(
     alloc: Global,
@@ -376,9 +376,13 @@ fn add_node<'c>(
     ensures { OnOk result (made.new.items ≡ made.old.items
         ++ fresh_one code.now nodes options.now me ∷ []) }
 {
-    let node = Node::new(alloc, code, me, nodes, options)?;
-    made.push(Logged::new(alloc, node))?;
-    Ok(())
+    match Node::new(alloc, code, me, nodes, options) {
+        Ok(node) => {
+            made.push(Logged::new(alloc, node))?;
+            Ok(())
+        }
+        Err(fault) => Err(fault),
+    }
 }
 
 // Adds an act, if one was made.

@@ -17,6 +17,8 @@ mod progress;
 #[cfg(test)]
 mod refused;
 #[cfg(test)]
+mod searches;
+#[cfg(test)]
 mod shell;
 #[cfg(test)]
 mod stepped;

@@ -3,7 +3,8 @@
 use crate::checks::passes;
 use crate::words::{Row, Wanted, first_wrong};
 
-const REFUSED: &[Row] = &[
+/// By a number out of range, and of runs and of lists of acts by their usage.
+const REFUSED_RUNS: &[Row] = &[
     ("plain a.tm --nodes 17", Wanted::BadNumber),
     ("plain a.tm --nodes 0", Wanted::BadNumber),
     ("plain a.tm --steps 0", Wanted::BadNumber),
@@ -145,9 +146,45 @@ const REFUSED: &[Row] = &[
     ),
     ("judge a.acts --memory exact --memory exact", Wanted::Usage),
     ("stats a.tm --from 1", Wanted::Usage),
+];
+
+/// Of `explore` and of the commands behind it, by their usage.
+const REFUSED_SEARCHES: &[Row] = &[
     ("explore a.tm --steps 5", Wanted::Usage),
     ("explore a.tm --memory strict", Wanted::Usage),
     ("explore a.tm --memory lazy --memory lazy", Wanted::Usage),
+    ("explore a.tm --memory Exact", Wanted::Usage),
+    ("explore a.tm --memory exact --memory exact", Wanted::Usage),
+    ("explore a.tm --page 64", Wanted::Usage),
+    ("explore a.tm --collect 0", Wanted::Usage),
+    ("explore a.tm --outcomes --collect 1000001", Wanted::Usage),
+    ("explore a.tm --memory flat --page 64", Wanted::Usage),
+    ("explore a.tm --memory lazy --collect 7", Wanted::Usage),
+    ("explore a.tm --memory exact --page 128", Wanted::Usage),
+    (
+        "explore a.tm --memory exact --page 65 --nodes 0",
+        Wanted::Usage,
+    ),
+    (
+        "explore a.tm --memory exact --page 64 --page 64",
+        Wanted::Usage,
+    ),
+    (
+        "explore a.tm --memory exact --collect 1000001",
+        Wanted::BadNumber,
+    ),
+    ("explore a.tm --memory exact --nodes 17", Wanted::BadNumber),
+    ("explore a.tm --memory exact --ends", Wanted::Usage),
+    ("explore a.tm --ignore-races --memory exact", Wanted::Usage),
+    ("explore a.tm --memory exact --as events", Wanted::Usage),
+    (
+        "explore a.tm --memory exact --outcome 1 --as events",
+        Wanted::Usage,
+    ),
+    (
+        "explore a.tm --memory exact --outcomes --tries 5",
+        Wanted::Usage,
+    ),
     ("explore a.tm --outcomes --tries 5", Wanted::Usage),
     ("explore a.tm --memory lazy --tries 5", Wanted::Usage),
     (
@@ -240,6 +277,15 @@ const REFUSED: &[Row] = &[
     ("races t --why 1 2 --group", Wanted::Usage),
     ("races t --locations --why 1 2", Wanted::Usage),
     ("races t --why 1 2 --witness 1 2", Wanted::Usage),
+    ("races t --why 1 2 --score r", Wanted::Usage),
+    ("races t --score", Wanted::Usage),
+    ("races t --score r --score r", Wanted::Usage),
+    ("races t --score r --json", Wanted::Usage),
+    ("races t --score r --group", Wanted::Usage),
+    ("races t --score r --locations", Wanted::Usage),
+    ("races t --score r --witness 1 2", Wanted::Usage),
+    ("races - --score -", Wanted::Usage),
+    ("races t --score r --as rapid", Wanted::Usage),
     ("help plan", Wanted::Usage),
     ("help Sim", Wanted::Usage),
     ("help sim run", Wanted::Usage),
@@ -250,6 +296,11 @@ const REFUSED: &[Row] = &[
 ];
 
 #[test]
-fn words_are_refused(rt: HostRuntime) {
-    passes(&rt, first_wrong(rt.alloc(), REFUSED));
+fn words_of_runs_are_refused(rt: HostRuntime) {
+    passes(&rt, first_wrong(rt.alloc(), REFUSED_RUNS));
+}
+
+#[test]
+fn words_of_searches_are_refused(rt: HostRuntime) {
+    passes(&rt, first_wrong(rt.alloc(), REFUSED_SEARCHES));
 }

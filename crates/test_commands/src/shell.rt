@@ -14,6 +14,7 @@ pub const ON_ONE_NODE: RunOptions<'static> = RunOptions {
     file: "-",
     nodes: Nodes { count: 1 },
     nodes_given: true,
+    default_nodes: Nodes { count: 1 },
     steps: Steps { count: 1_000_000 },
     collect: Collect { count: 0 },
     size: Size::Words64,

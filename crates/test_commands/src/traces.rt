@@ -2,7 +2,9 @@
 
 use crate::checks::passes;
 use crate::words::{Row, Wanted, first_wrong};
-use lrc_cli_args::choice::{Grouping, LinePair, Racing, Reasoning, Request, TraceForm, Witnessing};
+use lrc_cli_args::choice::{
+    Grouping, LinePair, Racing, Reasoning, Request, Scoring, TraceForm, Witnessing,
+};
 
 /// Two lines of a trace, which has the form of acts or not.
 #[derive(Clone, Copy)]
@@ -11,6 +13,16 @@ pub struct TwoLines {
     acts: bool,
     first: u64,
     second: u64,
+    strict: bool,
+}
+
+/// A report on a trace, which has the form of acts or not.
+#[derive(Clone, Copy)]
+pub struct Report {
+    file: &'static str,
+    acts: bool,
+    report: &'static str,
+    sure: bool,
     strict: bool,
 }
 
@@ -50,6 +62,14 @@ fn is_reasoning(made: &Reasoning<'_>, wanted: &TwoLines) -> bool {
         && made.strict == wanted.strict
 }
 
+fn is_scoring(made: &Scoring<'_>, wanted: &Report) -> bool {
+    made.file == wanted.file
+        && is_acts(made.form) == wanted.acts
+        && made.report == wanted.report
+        && made.sure == wanted.sure
+        && made.strict == wanted.strict
+}
+
 fn are_lines(made: LinePair, first: u64, second: u64) -> bool {
     made.first == first && made.second == second
 }
@@ -60,6 +80,7 @@ pub fn is_wanted_of_trace(made: &Request<'_>, wanted: &Wanted) -> bool {
         (Request::Races(made), Wanted::Races(racing)) => is_racing(made, racing),
         (Request::Witness(made), Wanted::Witness(lines)) => is_witnessing(made, lines),
         (Request::Reasons(made), Wanted::Reasons(lines)) => is_reasoning(made, lines),
+        (Request::Score(made), Wanted::Score(report)) => is_scoring(made, report),
         _ => false,
     }
 }
@@ -80,6 +101,14 @@ const THE_LAST_LINES: TwoLines = TwoLines {
     acts: false,
     first: u64::MAX - 1,
     second: u64::MAX,
+    strict: false,
+};
+
+const THE_REPORT: Report = Report {
+    file: "t.std",
+    acts: false,
+    report: "r.txt",
+    sure: false,
     strict: false,
 };
 
@@ -164,6 +193,24 @@ const TRACES: &[Row] = &[
             first: 1,
             second: 2,
             strict: true,
+        }),
+    ),
+    ("races t.std --score r.txt", Wanted::Score(THE_REPORT)),
+    (
+        "races t.std --score - --sure",
+        Wanted::Score(Report {
+            report: "-",
+            sure: true,
+            ..THE_REPORT
+        }),
+    ),
+    (
+        "races - --score=r.txt --as acts --strict",
+        Wanted::Score(Report {
+            file: "-",
+            acts: true,
+            strict: true,
+            ..THE_REPORT
         }),
     ),
 ];

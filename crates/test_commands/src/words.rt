@@ -1,10 +1,11 @@
 // Lines of words, and the choice that they make.
 
 use crate::checks::passes;
-use crate::traces::{TwoLines, is_wanted_of_trace};
+use crate::searches::{Search, is_wanted_search};
+use crate::traces::{Report, TwoLines, is_wanted_of_trace};
 use lrc_cli_args::choice::{
-    Asking, ChartedActs, Charting, Choice, ChooseFault, Exploring, ForeignActs, Form, Judging,
-    Memory, Part, PlainRun, Racing, Request, RunOptions, Shape, Tell, Then, Topic, Way,
+    Asking, ChartedActs, Charting, Choice, ChooseFault, ForeignActs, Form, Judging, Part, PlainRun,
+    Racing, Request, RunOptions, Shape, Then, Topic, Way,
 };
 use lrc_cli_args::choose;
 use lrc_envelope::Picker;
@@ -43,6 +44,7 @@ pub enum Wanted {
     Races(Racing<'static>),
     Witness(TwoLines),
     Reasons(TwoLines),
+    Score(Report),
     /// Of a run: of which act it is asked, and of which other.
     Why(Run, u64, Option<u64>),
     /// The same of acts from a file, of so many nodes, with pages of this size.
@@ -57,12 +59,7 @@ pub enum Wanted {
     Judge(&'static str, Option<u32>, bool),
     /// Against the exact memory with pages of this size, from so many intervals on.
     JudgeExact(&'static str, Size, u32),
-    /// With so many nodes and states, by outcomes or not.
-    Explore(&'static str, u32, u32, bool, Memory, Option<u32>),
-    /// The file of a program of which it is asked whether every order can end, and whether races are ignored.
-    Ends(&'static str, bool),
-    /// The events of an order, or of a run with this outcome, by outcomes or not, with ends asked for or not.
-    Events(&'static str, Tell, Option<u64>, bool, bool),
+    Explore(Search),
     /// The list of commands.
     Commands,
     /// The help of this command.
@@ -152,15 +149,6 @@ fn is_exact(made: &Judging<'_>, size: Size, collect: u32) -> bool {
     }
 }
 
-fn is_exploring(made: &Exploring<'_>, nodes: u32, most: u32, outcomes: bool) -> bool {
-    made.nodes.count == nodes && made.most.count == most && made.outcomes == outcomes
-}
-
-fn is_sought(made: &Exploring<'_>, memory: Memory, tries: Option<u32>) -> bool {
-    let is_lazy = matches!(made.memory, Memory::Lazy);
-    is_lazy == matches!(memory, Memory::Lazy) && made.tries.map(|tries| tries.count) == tries
-}
-
 fn is_asking(made: Asking, act: u64, other: Option<u64>) -> bool {
     made.act == act && made.other == other
 }
@@ -171,16 +159,6 @@ fn is_foreign(made: &ForeignActs<'_>, file: &str, nodes: Option<u32>, size: Size
 
 fn are_charted(made: &ChartedActs<'_>, file: &str, nodes: Option<u32>) -> bool {
     made.file == file && made.nodes.map(|nodes| nodes.count) == nodes
-}
-
-fn is_same_tell(made: Option<Tell>, wanted: Tell) -> bool {
-    matches!(
-        (made, wanted),
-        (Some(Tell::First), Tell::First)
-            | (Some(Tell::Stuck), Tell::Stuck)
-            | (Some(Tell::Trap), Tell::Trap)
-            | (Some(Tell::End), Tell::End)
-    )
 }
 
 fn is_wanted_why(made: &Choice<'_>, wanted: &Wanted) -> bool {
@@ -220,26 +198,7 @@ fn is_wanted(made: &Choice<'_>, wanted: &Wanted) -> bool {
         (Choice::Judge(made), Wanted::JudgeExact(file, size, collect)) => {
             is_judging(made, file, None, false) && is_exact(made, *size, *collect)
         }
-        (Choice::Explore(made), Wanted::Explore(file, nodes, most, outcomes, memory, tries)) => {
-            made.file == *file
-                && is_exploring(made, *nodes, *most, *outcomes)
-                && is_sought(made, *memory, *tries)
-                && !made.ends
-                && made.events.is_none()
-        }
-        (Choice::Explore(made), Wanted::Ends(file, ignores)) => {
-            made.file == *file
-                && made.ends
-                && made.ignores_races == *ignores
-                && made.events.is_none()
-        }
-        (Choice::Explore(made), Wanted::Events(file, tell, outcome, outcomes, ends)) => {
-            made.file == *file
-                && is_same_tell(made.events, *tell)
-                && made.outcome.map(|outcome| outcome.number) == *outcome
-                && made.outcomes == *outcomes
-                && made.ends == *ends
-        }
+        (Choice::Explore(made), Wanted::Explore(search)) => is_wanted_search(made, search),
         _ => false,
     }
 }
@@ -255,7 +214,7 @@ fn is_wanted_topic(made: &Topic<'_>, wanted: &Wanted) -> bool {
 fn is_wanted_request(made: &Request<'_>, wanted: &Wanted) -> bool {
     match made {
         Request::About(topic) => is_wanted_topic(topic, wanted),
-        Request::Races(_) | Request::Witness(_) | Request::Reasons(_) => {
+        Request::Races(_) | Request::Witness(_) | Request::Reasons(_) | Request::Score(_) => {
             is_wanted_of_trace(made, wanted)
         }
         Request::Answer(choice) => is_wanted(choice, wanted),
@@ -551,52 +510,6 @@ const CHOICES: &[Row] = &[
             shape: Look::Stats,
             ..A_RUN
         }),
-    ),
-    (
-        "explore a.tm",
-        Wanted::Explore("a.tm", 1, 1_000_000, false, Memory::Flat, None),
-    ),
-    (
-        "explore a.tm --nodes=3 --most=7 --outcomes",
-        Wanted::Explore("a.tm", 3, 7, true, Memory::Flat, None),
-    ),
-    (
-        "explore a.tm --memory lazy",
-        Wanted::Explore("a.tm", 1, 1_000_000, false, Memory::Lazy, None),
-    ),
-    (
-        "explore a.tm --memory=lazy --outcomes --tries 50",
-        Wanted::Explore("a.tm", 1, 1_000_000, true, Memory::Lazy, Some(50)),
-    ),
-    ("explore a.tm --ends", Wanted::Ends("a.tm", false)),
-    (
-        "explore a.tm --ends --ignore-races",
-        Wanted::Ends("a.tm", true),
-    ),
-    // The events of an order.
-    (
-        "explore a.tm --as events",
-        Wanted::Events("a.tm", Tell::First, None, false, false),
-    ),
-    (
-        "explore a.tm --as=events --memory flat --tell stuck",
-        Wanted::Events("a.tm", Tell::Stuck, None, false, false),
-    ),
-    (
-        "explore a.tm --tell=trap --ends --as events",
-        Wanted::Events("a.tm", Tell::Trap, None, false, true),
-    ),
-    (
-        "explore a.tm --ends --as events --tell end",
-        Wanted::Events("a.tm", Tell::End, None, false, true),
-    ),
-    (
-        "explore a.tm --outcome 2 --as events",
-        Wanted::Events("a.tm", Tell::First, Some(2), false, false),
-    ),
-    (
-        "explore a.tm --outcomes --outcome 2 --as events",
-        Wanted::Events("a.tm", Tell::First, Some(2), true, false),
     ),
     // What is wrong with texts and traces, and why acts are as they are.
     ("lint a.tm", Wanted::Lint("a.tm")),

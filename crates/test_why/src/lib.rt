@@ -4,4 +4,6 @@
 #[cfg(test)]
 mod checks;
 #[cfg(test)]
+mod named;
+#[cfg(test)]
 mod runs;

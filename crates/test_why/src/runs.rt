@@ -192,8 +192,8 @@ const MISSING: &[Missing] = &[
     },
 ];
 
-// Whether the parts are this text, one behind the other.
-fn is_text(parts: &[Vec<u8>], text: &[u8]) -> bool {
+/// Whether the parts are this text, one behind the other.
+pub(crate) fn is_text(parts: &[Vec<u8>], text: &[u8]) -> bool {
     let mut rest = text;
     for part in parts {
         match rest.strip_prefix(part.as_slice()) {
@@ -217,8 +217,8 @@ fn answer(
     answer_to(alloc, &text, acts, nodes, page, asked)
 }
 
-// The same of the text.
-fn answer_to(
+/// What is answered of acts of the program that this text is of, unless one of the texts is bad or an act is asked of twice.
+pub(crate) fn answer_to(
     alloc: Global,
     text: &ReadText<'_>,
     acts: &[u8],

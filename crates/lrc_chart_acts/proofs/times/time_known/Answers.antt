@@ -1,7 +1,17 @@
 use Rattle.std.proofs.Common.{◌≡◌, ◌∙◌, ◌<◌, ◌+◌, ℕ, ap, arith, slice_set, subst, sym}
 use Rattle.lrc_chart_acts.specs.Times.{count_closed}
+use Rattle.lrc_chart_acts.proofs.Closing.{all_kept, kept_many}
 use Rattle.lrc_chart_acts.proofs.Filling.{all_filled, filled, length_filled}
 use Rattle.lrc_chart_acts.proofs.times.time_known.Goals as goal
+
+pub count_closed-requires-clause-closings : goal.count_closed-requires-clause-closings
+count_closed-requires-clause-closings c =
+    all_kept c.args.acts.now c.args.closings.now (λ v. v.items) c.args.nodes c.requires.closings
+
+pub count_closed-requires-clause-node : goal.count_closed-requires-clause-node
+count_closed-requires-clause-node c =
+    let many = kept_many c.args.acts.now c.args.closings.now (λ v. v.items) c.args.nodes c.requires.closings in
+    omega (arith, many, c.loop-node-test.true)
 
 pub set-requires : goal.set-requires
 set-requires c =

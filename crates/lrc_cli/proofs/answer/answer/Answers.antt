@@ -23,7 +23,7 @@ returns-in-Plain c =
 pub returns-in-Show : goal.returns-in-Show
 returns-in-Show c =
     subst (λ (choice : Choice). Answers choice c.args.text.now (option_map (λ (e : Bor (List ℕ)). e.now) c.args.events) c.printed-in-Show.result) (sym c.in-Show.is)
-    (answers_of_run _ _ c.args.text.now (option_map (λ (e : Bor (List ℕ)). e.now) c.args.events) c.shown.result c.printed-in-Show.result
+    (answers_of_run c.in-Show.run' c.in-Show.shape c.args.text.now (option_map (λ (e : Bor (List ℕ)). e.now) c.args.events) c.shown.result c.printed-in-Show.result
     c.printed-in-Show.ensures c.shown.ensures)
 
 pub returns-in-Explore : goal.returns-in-Explore

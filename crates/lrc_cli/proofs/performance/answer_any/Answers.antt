@@ -7,4 +7,4 @@ use Rattle.lrc_cli.proofs.performance.answer_any.Goals as goal
 pub returns-in-Show : goal.returns-in-Show
 returns-in-Show g c =
     subst (λ (choice : Choice). Answers choice c.args.text.now (option_map (λ e. e.now) c.args.events) c.printed.result) (sym c.in-Show.is)
-    (answers_of_run _ _ c.args.text.now (option_map (λ e. e.now) c.args.events) c.shown_any.result c.printed.result c.printed.ensures c.shown_any.ensures)
+    (answers_of_run c.in-Show.run' c.in-Show.shape c.args.text.now (option_map (λ e. e.now) c.args.events) c.shown_any.result c.printed.result c.printed.ensures c.shown_any.ensures)

@@ -22,7 +22,7 @@ returns-in_err-events-clause-err c =
     let memory = c.in_ok-memory.memory in
     let outcomes = c.is_named-outcomes.result in
     let misfit = c.in_err-events.field-0.0 in
-    let memory_is = subst (λ (word : Option Text). IsMemory word memory) (sym c.text_of.ensures) c.in_ok-memory.ensures.ok in
+    let memory_is = c.in_ok-memory.ensures.ok in
     let fit : (IsSome (tries_in rows) → takes_tries memory outcomes (outcome_in rows) ≡ true) = elim c.else-is_some.branch [
       | else-is_some-via-then-is_some+else-not-takes_tries w ↦ search rules
       | else-is_some-via-else-is_some w ↦ search rules

@@ -1,4 +1,7 @@
 use Rattle.std.proofs.Common.{◌∙◌, ◌<◌, ℕ, All, List, Option, ap, ap₂, map, sym, subst}
+use Rattle.std.specs.Prelude.{Vec}
+use Rattle.std.specs.declared.alloc.Global.{Global}
+use Rattle.lrc_chart_invalid.proofs.Finding.{pages_in}
 use Rattle.lrc_judge.specs.FirstPairs.{AreFirstPairs}
 use Rattle.lrc_judge.specs.declared.lanes.Pair.{Pair}
 use Rattle.lrc_labels.specs.Reading.{label_seen}
@@ -12,7 +15,7 @@ use Rattle.lrc_cli_args.specs.declared.choice.Shape.TheVariants.{Chart}
 use Rattle.lrc_chart_title.specs.Title.{title_text}
 use Rattle.lrc_source.specs.Telling.{ReadText, shown_text}
 use Rattle.lrc_world.specs.declared.keep.Keep.TheVariants.{All as Whole}
-use Rattle.lrc_cli_runs.specs.Charted.{AreWaitsIn, IsChart, IsCourse}
+use Rattle.lrc_cli_runs.specs.Charted.{AreInvalidIn, AreWaitsIn, IsChart, IsCourse}
 use Rattle.lrc_cli_runs.specs.Lines.{AreLinesIn}
 use Rattle.lrc_cli_runs.specs.Shown.{IsShowFault}
 use Rattle.lrc_cli_answer.proofs.FaultLemmas.{fault_up}
@@ -30,10 +33,12 @@ returns-in_err-part-clause-err c =
     let options = c.args.choice.now.options in
     let acts = c.as_slice-acts.result.now in
     let known = course_of_run c.args.source.now.text c.args.source.now.program options c.args.run.now
-    c.as_slice-turns.result.now acts c.as_slice-lines.result.now (times_in c.args.run.now.origins.times) c.as_slice-pairs.result.now (map label_seen c.as_slice-labels.result.now) c.as_slice-waits.result.now
+    c.as_slice-turns.result.now (pages_in c.as_slice-invalid.result.now) acts c.as_slice-lines.result.now (times_in c.args.run.now.origins.times) c.as_slice-pairs.result.now (map label_seen c.as_slice-labels.result.now) c.as_slice-waits.result.now
     (c.as_slice-turns.ensures.value ∙ c.in_ok-made.ensures ∙ ap (λ logs. turns_told (map (λ log. log.items) logs) c.deref-3.result.now) c.deref-2.ensures.value
     ∙ ap (turns_told (map (λ log. log.items) c.args.run.now.report.logs.items))
     (c.deref-3.ensures.value ∙ c.in_ok-order.ensures c.args.source.now.program options c.requires))
+    (subst (λ (pages : List (Vec ℕ Global)). AreInvalidIn c.args.source.now.program options c.args.run.now.events.items (pages_in pages))
+    (sym c.as_slice-invalid.ensures.value) c.in_ok-pages.ensures)
     c.as_slice-acts.ensures.value
     (subst (λ (lines : List ℕ). AreLinesIn c.args.source.now.text c.args.source.now.program options.nodes.count acts lines) (sym c.as_slice-lines.ensures.value)
     (c.in_ok-places.ensures.lines options.nodes.count acts
@@ -58,15 +63,18 @@ returns-clause-ok c =
     let labels = map label_seen c.as_slice-labels.result.now in
     let course : CourseRecord = record {
       turns = c.as_slice-turns.result.now;
+      invalid = pages_in c.as_slice-invalid.result.now;
       known = record { acts = acts; lines = c.as_slice-lines.result.now; times = (times_in c.args.run.now.origins.times); pairs = c.as_slice-pairs.result.now; labels = labels };
       waits = c.as_slice-waits.result.now;
     } in
     let known : IsCourse c.args.source.now.text c.args.source.now.program options c.args.run.now course =
     course_of_run c.args.source.now.text c.args.source.now.program options c.args.run.now
-    c.as_slice-turns.result.now acts c.as_slice-lines.result.now (times_in c.args.run.now.origins.times) c.as_slice-pairs.result.now labels c.as_slice-waits.result.now
+    c.as_slice-turns.result.now (pages_in c.as_slice-invalid.result.now) acts c.as_slice-lines.result.now (times_in c.args.run.now.origins.times) c.as_slice-pairs.result.now labels c.as_slice-waits.result.now
     (c.as_slice-turns.ensures.value ∙ c.in_ok-made.ensures ∙ ap (λ logs. turns_told (map (λ log. log.items) logs) c.deref-3.result.now) c.deref-2.ensures.value
     ∙ ap (turns_told (map (λ log. log.items) c.args.run.now.report.logs.items))
     (c.deref-3.ensures.value ∙ c.in_ok-order.ensures c.args.source.now.program options c.requires))
+    (subst (λ (pages : List (Vec ℕ Global)). AreInvalidIn c.args.source.now.program options c.args.run.now.events.items (pages_in pages))
+    (sym c.as_slice-invalid.ensures.value) c.in_ok-pages.ensures)
     c.as_slice-acts.ensures.value
     (subst (λ (lines : List ℕ). AreLinesIn c.args.source.now.text c.args.source.now.program options.nodes.count acts lines) (sym c.as_slice-lines.ensures.value)
     (c.in_ok-places.ensures.lines options.nodes.count acts

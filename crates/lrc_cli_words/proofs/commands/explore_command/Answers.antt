@@ -16,7 +16,9 @@ returns-clause-app c =
     let eight = c.taking-command-8.ensures.app _ _ c.flag_option-2.ensures.local c.flag_option-2.ensures.rule seven in
     let nine = c.taking-command-9.ensures.app _ _ c.flag_option-3.ensures.local c.flag_option-3.ensures.rule eight in
     let ten = c.taking-command-10.ensures.app _ _ c.text.ensures.local c.text.ensures.rule nine in
-    c.taking.ensures.app _ _ c.text-2.ensures.local c.text-2.ensures.rule ten
+    let eleven = c.taking-command-11.ensures.app _ _ c.text-2.ensures.local c.text-2.ensures.rule ten in
+    let twelve = c.taking-command-12.ensures.app _ _ c.page.ensures.local c.page.ensures.rule eleven in
+    c.taking.ensures.app _ _ c.collect.ensures.local c.collect.ensures.rule twelve
 
 pub returns-clause-local : goal.returns-clause-local
 returns-clause-local c =
@@ -31,4 +33,6 @@ returns-clause-local c =
     let eight = c.taking-command-8.ensures.local c.flag_option-2.ensures.local seven in
     let nine = c.taking-command-9.ensures.local c.flag_option-3.ensures.local eight in
     let ten = c.taking-command-10.ensures.local c.text.ensures.local nine in
-    c.taking.ensures.local c.text-2.ensures.local ten
+    let eleven = c.taking-command-11.ensures.local c.text-2.ensures.local ten in
+    let twelve = c.taking-command-12.ensures.local c.page.ensures.local eleven in
+    c.taking.ensures.local c.collect.ensures.local twelve

@@ -13,8 +13,9 @@ returns-clause-app c =
     let five = c.taking-command-5.ensures.app _ _ c.flag_option-3.ensures.local c.flag_option-3.ensures.rule four in
     let six = c.taking-command-6.ensures.app _ _ c.flag_option-4.ensures.local c.flag_option-4.ensures.rule five in
     let seven = c.taking-command-7.ensures.app _ _ c.flag_option-5.ensures.local c.flag_option-5.ensures.rule six in
-    let eight = c.taking-command-8.ensures.app _ _ c.line_pair.ensures.local c.line_pair.ensures.rule seven in
-    c.taking.ensures.app _ _ c.line_pair-2.ensures.local c.line_pair-2.ensures.rule eight
+    let eight = c.taking-command-8.ensures.app _ _ c.text.ensures.local c.text.ensures.rule seven in
+    let nine = c.taking-command-9.ensures.app _ _ c.line_pair.ensures.local c.line_pair.ensures.rule eight in
+    c.taking.ensures.app _ _ c.line_pair-2.ensures.local c.line_pair-2.ensures.rule nine
 
 pub returns-clause-local : goal.returns-clause-local
 returns-clause-local c =
@@ -26,5 +27,6 @@ returns-clause-local c =
     let five = c.taking-command-5.ensures.local c.flag_option-3.ensures.local four in
     let six = c.taking-command-6.ensures.local c.flag_option-4.ensures.local five in
     let seven = c.taking-command-7.ensures.local c.flag_option-5.ensures.local six in
-    let eight = c.taking-command-8.ensures.local c.line_pair.ensures.local seven in
-    c.taking.ensures.local c.line_pair-2.ensures.local eight
+    let eight = c.taking-command-8.ensures.local c.text.ensures.local seven in
+    let nine = c.taking-command-9.ensures.local c.line_pair.ensures.local eight in
+    c.taking.ensures.local c.line_pair-2.ensures.local nine

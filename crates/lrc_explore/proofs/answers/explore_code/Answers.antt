@@ -1,4 +1,4 @@
-use Rattle.std.proofs.Common.{ℕ, false, subst}
+use Rattle.std.proofs.Common.{ℕ, true, false, subst}
 use Rattle.std.specs.Prelude.{IfOk}
 use Rattle.lrc_lang.specs.declared.program.Program.{Program}
 use Rattle.lrc_orders.specs.Verdict.{FindsNoRace}
@@ -11,7 +11,7 @@ pub returns-clause-faults : goal.returns-clause-faults
 returns-clause-faults c =
     let t = c.in_ok-task.ensures in
     fault_says c.answer.result
-    (λ fault is. fault_of_task c.in_ok-task.task c.args.code.now c.args.nodes c.args.most false fault t.task t.program t.flat t.most t.looked t.noting is)
+    (λ fault is. fault_of_task c.in_ok-task.task c.args.code.now c.args.nodes c.args.most false true fault t.task t.program t.flat t.most t.looked t.noting is)
     c.answer.ensures.faults
 
 pub answer-requires-clause-found : goal.answer-requires-clause-found

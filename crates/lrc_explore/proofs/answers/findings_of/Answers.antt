@@ -11,7 +11,7 @@ pub returns-clause-faults : goal.returns-clause-faults
 returns-clause-faults c =
     let t = c.in_ok-task.ensures in
     fault_says c.all_findings.result
-    (λ fault is. fault_of_task c.in_ok-task.task c.args.code.now c.args.nodes c.args.most false fault t.task t.program t.flat t.most t.looked t.noting is)
+    (λ fault is. fault_of_task c.in_ok-task.task c.args.code.now c.args.nodes c.args.most false false fault t.task t.program t.flat t.most t.looked t.noting is)
     c.all_findings.ensures.faults
 
 pub all_findings-requires-clause-found : goal.all_findings-requires-clause-found

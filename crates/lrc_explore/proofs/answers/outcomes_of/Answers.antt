@@ -1,4 +1,4 @@
-use Rattle.std.proofs.Common.{ℕ, true, subst}
+use Rattle.std.proofs.Common.{ℕ, true, false, subst}
 use Rattle.std.specs.Prelude.{◌↔◌}
 use Rattle.lrc_lang.specs.declared.program.Program.{Program}
 use Rattle.lrc_orders.specs.Outcome.{HasOutcome, IsOutcome}
@@ -8,7 +8,7 @@ use Rattle.lrc_explore.proofs.answers.outcomes_of.Goals as goal
 pub returns-clause-faults : goal.returns-clause-faults
 returns-clause-faults c =
     let t = c.in_ok-task.ensures in
-    fault_of_task c.in_ok-task.task c.args.code.now c.args.nodes c.args.most true c.in-Err.fault t.task t.program t.flat t.most t.looked t.noting
+    fault_of_task c.in_ok-task.task c.args.code.now c.args.nodes c.args.most true false c.in-Err.fault t.task t.program t.flat t.most t.looked t.noting
     c.in-Err.ensures.faults
 
 pub all_outcomes-all-requires-clause-found : goal.all_outcomes-all-requires-clause-found

@@ -1,10 +1,12 @@
 use Rattle.std.proofs.Common.{Bool, refl, sym, subst}
 use Rattle.std.specs.Prelude.{IfOk}
 use Rattle.std.proofs.lemmas.Result.{IfOk-weaker}
-use Rattle.lrc_explore.specs.Answers.{FitsEnd, FitsSettled, IsEnd}
+use Rattle.lrc_explore.specs.Answers.{FitsEnd, FitsSettled, IsEnd, IsSearchFault}
 use Rattle.lrc_explore.proofs.Fitting.{fits_settled, ok_all}
 use Rattle.lrc_explore.proofs.Keys.{start_grown, within_more}
 use Rattle.lrc_explore.proofs.Reaching.{no_race}
+use Rattle.lrc_explore.proofs.Seeking.{of_step}
+use Rattle.lrc_orders.proofs.Faults.{fault_says, fault_up}
 use Rattle.lrc_explore_ends.specs.declared.answers.EndVerdict.{EndVerdict}
 use Rattle.lrc_explore_ends.specs.Answers.{GoesThrough, IsEndAnswer}
 use Rattle.lrc_explore_ends.proofs.Answering.{through_anyhow, with_races}
@@ -22,6 +24,17 @@ returns-in-Meeting-clause-answer c =
     let task = c.args.task.now in
     let end = subst (IsEnd task c.seek.new.self c.args.races) c.in-Meeting.is c.in_ok-end.ensures.end in
     subst (λ (b : Bool). IfOk c.race_of.result (IsEndAnswer task.program.now task.flat.nodes b)) (sym end.3) c.race_of.ensures.answer
+
+pub returns-in-Meeting-clause-faults : goal.returns-in-Meeting-clause-faults
+returns-in-Meeting-clause-faults c = fault_says c.race_of.result (of_step c.args.task.now c.args.races) c.race_of.ensures.faults
+
+pub returns-in-Through-clause-faults : goal.returns-in-Through-clause-faults
+returns-in-Through-clause-faults c = fault_says c.through.result (of_step c.args.task.now c.args.races) c.through.ensures.faults
+
+pub returns-in_err-traps-clause-faults : goal.returns-in_err-traps-clause-faults
+returns-in_err-traps-clause-faults c =
+    fault_up c.from_residual.result c.in_err-traps.field-0.0 (IsSearchFault c.args.task.now c.args.races) c.from_residual.ensures.1
+    (of_step c.args.task.now c.args.races c.in_err-traps.field-0.0 c.in_err-traps.ensures.faults)
 
 pub returns-in-Meeting-clause-fits : goal.returns-in-Meeting-clause-fits
 returns-in-Meeting-clause-fits c =

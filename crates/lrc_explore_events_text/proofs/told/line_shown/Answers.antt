@@ -1,4 +1,7 @@
 use Rattle.std.proofs.Common.{◌≡◌, ◌∙◌, IfOk, false, refl, subst, sym, true}
+use Rattle.std.specs.Prelude.{IfErr}
+use Rattle.lrc_orders.specs.declared.search.ExploreFault.TheVariants.{TooMany}
+use Rattle.lrc_explore.specs.Answers.{MetTooMany}
 use Rattle.lrc_explore_events_text.specs.Shows.{ShowsLine, free}
 use Rattle.lrc_explore_events_text.proofs.told.line_shown.Goals as goal
 
@@ -21,3 +24,8 @@ returns-clause-shows c =
     let shown = c.in_ok-shown.shown in
     subst (λ b. ShowsLine c.args.program.now c.args.nodes c.args.races b c.args.line shown.text.items shown.status) (sym c.if-ends.false)
     (free (λ is. let never : true ≡ false = sym is ∙ c.if-races.false in cc) (c.in_ok-shown.ensures false refl))
+
+pub returns-then-races-clause-too_many : goal.returns-then-races-clause-too_many
+returns-then-races-clause-too_many c =
+    subst (λ b. IfErr c.verdict_shown.result (λ fault. fault ≡ TooMany → MetTooMany c.args.program.now c.args.nodes c.args.most false b)) (sym c.if-races.true)
+    c.verdict_shown.ensures.too_many

@@ -1,16 +1,17 @@
-use Rattle.std.proofs.Common.{List, subst}
+use Rattle.std.proofs.Common.{List, false, subst}
 use Rattle.std.proofs.lemmas.Option.{slice_get_within}
 use Rattle.lrc_orders.specs.declared.outcomes.Outcome.{Outcome}
 use Rattle.lrc_orders.specs.declared.search.ExploreFault.TheVariants.{NoMemory}
 use Rattle.lrc_orders.proofs.Faults.{fault_up}
-use Rattle.lrc_explore.specs.Answers.{IsFault}
+use Rattle.lrc_explore.specs.Answers.{IsSearchFault}
+use Rattle.lrc_explore.proofs.Seeking.{of_step}
 use Rattle.lrc_explore_text.specs.OutcomeRun.{IsPlaceOfNumber}
 use Rattle.lrc_explore_text.proofs.Numbered.{fewer, no_memory, numbered}
 use Rattle.lrc_explore_text.proofs.outcome_run.run_of.Goals as goal
 
 pub returns-in_err-place-clause-faults : goal.returns-in_err-place-clause-faults
 returns-in_err-place-clause-faults c =
-    fault_up c.from_residual-in_err-place.result NoMemory (IsFault c.args.task.now) c.from_residual-in_err-place.ensures.1 (no_memory c.args.task.now)
+    fault_up c.from_residual-in_err-place.result NoMemory (IsSearchFault c.args.task.now false) c.from_residual-in_err-place.ensures.1 (no_memory c.args.task.now)
 
 pub run_at-requires-clause-within : goal.run_at-requires-clause-within
 run_at-requires-clause-within c =
@@ -22,8 +23,8 @@ run_at-requires-clause-within c =
 
 pub returns-in_err-acts-in-Some-clause-faults : goal.returns-in_err-acts-in-Some-clause-faults
 returns-in_err-acts-in-Some-clause-faults c =
-    fault_up c.from_residual-in_err-acts-in-Some.result c.in_err-acts-in-Some.field-0.0 (IsFault c.args.task.now) c.from_residual-in_err-acts-in-Some.ensures.1
-    c.in_err-acts-in-Some.ensures.faults
+    fault_up c.from_residual-in_err-acts-in-Some.result c.in_err-acts-in-Some.field-0.0 (IsSearchFault c.args.task.now false) c.from_residual-in_err-acts-in-Some.ensures.1
+    (of_step c.args.task.now false _ c.in_err-acts-in-Some.ensures.faults)
 
 pub returns-in-Some-clause-run : goal.returns-in-Some-clause-run
 returns-in-Some-clause-run c =

@@ -16,4 +16,9 @@ pub of_names-requires-clause-clean : goal.of_names-requires-clause-clean
 of_names-requires-clause-clean c = subst (AreNamesFound (program_of c.args.program.now)) c.in-Good.is c.in_ok-found.ensures
 
 pub of_names-requires-clause-tokens : goal.of_names-requires-clause-tokens
-of_names-requires-clause-tokens c = (map located_of c.args.tokens.now, c.requires, c.deref-in-Good.ensures.value ∙ c.in_ok-lines.ensures)
+of_names-requires-clause-tokens c = (
+  map located_of c.args.tokens.now,
+  c.requires,
+  c.deref-in-Good.ensures.value ∙ c.in_ok-lines.ensures,
+  c.deref-in-Good-2.ensures.value ∙ c.in_ok-offsets-in-Good.ensures,
+)

@@ -1,12 +1,11 @@
 -- The last line that is wanted has come, or why it has not.
-use Rattle.std.specs.Prelude.{ℕ, length}
+use Rattle.std.specs.Prelude.{ℕ}
 use Rattle.std.proofs.lemmas.Result.{IfErr-weaker, on_ok_weaker}
 use Rattle.lrc_races_text.specs.declared.asked.Sought.{Sought}
 use Rattle.lrc_races_text.specs.declared.form.Form.{Form}
 use Rattle.lrc_races_notes.specs.Noting.{HasBoth}
 use Rattle.lrc_shell_sources.specs.Known.{Held}
-use Rattle.lrc_races_stream.specs.Noted.{IsKnownAt}
-use Rattle.lrc_races_stream.specs.Reach.{IsHalt, IsSeeking}
+use Rattle.lrc_races_stream.specs.Reach.{IsSeeking}
 use Rattle.lrc_races_stream.specs.Strict.{HasNone, IsIllFound}
 use Rattle.lrc_races_stream.proofs.NotedLemmas.{kept_come, known_found}
 use Rattle.lrc_races_stream.proofs.StrictLemmas.{come_ill, come_well}

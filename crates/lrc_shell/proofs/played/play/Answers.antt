@@ -2,8 +2,8 @@ use Rattle.std.proofs.Common.{List, Ok, Err, map, ap, subst}
 use Rattle.clap.specs.Words.{Text}
 use Rattle.lrc_cli_args.specs.CommandLine.{Chooses, words_meant}
 use Rattle.lrc_cli_args.specs.declared.choice.Request.{Request}
-use Rattle.lrc_cli_args.specs.declared.choice.Request.TheVariants.{About, Races, Reasons, Witness, Answer}
-use Rattle.lrc_shell.specs.Plays.{played, raced, reasoned, refused, spoken, witnessed}
+use Rattle.lrc_cli_args.specs.declared.choice.Request.TheVariants.{About, Races, Reasons, Score, Witness, Answer}
+use Rattle.lrc_shell.specs.Plays.{played, raced, reasoned, refused, scored, spoken, witnessed}
 use Rattle.lrc_shell.proofs.PlayLemmas.{same}
 use Rattle.lrc_shell.proofs.played.play.Goals as goal
 
@@ -38,6 +38,14 @@ returns-in-Ok-Reasons g c =
     (ap (λ words. words_meant (map g.S.AsStr.text words)) c.words_of.ensures)
     (subst (λ (request : Request). Chooses (words_meant (map g.S.AsStr.text c.words_of.result.now)) (Ok request)) c.in-Ok-Reasons.field-0-is c.in-Ok-Reasons.ensures))
     c.tell_reasons.ensures
+
+pub returns-in-Ok-Score : goal.returns-in-Ok-Score
+returns-in-Ok-Score g c =
+    scored c.in-Ok-Score.scoring
+    (subst (λ (words : List Text). Chooses words (Ok (Score c.in-Ok-Score.scoring)))
+    (ap (λ words. words_meant (map g.S.AsStr.text words)) c.words_of.ensures)
+    (subst (λ (request : Request). Chooses (words_meant (map g.S.AsStr.text c.words_of.result.now)) (Ok request)) c.in-Ok-Score.field-0-is c.in-Ok-Score.ensures))
+    c.tell_score.ensures
 
 pub returns-in-Ok-About : goal.returns-in-Ok-About
 returns-in-Ok-About g c =

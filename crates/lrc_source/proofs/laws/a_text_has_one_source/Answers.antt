@@ -1,12 +1,10 @@
-use Rattle.std.proofs.Common.{◌≡◌, ◌∙◌, ℕ, List, [], ◌∷◌, Ok, ap, fold, map, refl, subst, sym}
+use Rattle.std.proofs.Common.{◌≡◌, ◌∙◌, List, [], ◌∷◌, Ok, ap, fold, map, refl, subst, sym}
 use Rattle.lrc_lang.specs.Faults.{IsText}
 use Rattle.lrc_lang.specs.FirstFault.{placed}
 use Rattle.lrc_lang.specs.Positions.{Located}
 use Rattle.lrc_lang.specs.Symbol.{Names}
 use Rattle.lrc_lang.specs.Token.{Placed}
 use Rattle.lrc_lang.specs.Tree.{ProgramTree, program_of}
-use Rattle.lrc_lang.specs.declared.program.Program.{Program}
-use Rattle.lrc_lang.proofs.Beginnings.{lines_same}
 use Rattle.lrc_lang.proofs.LexemesUnique.{unique}
 use Rattle.lrc_lang.proofs.Located.{lexed_located}
 use Rattle.lrc_lang.proofs.OneAnswer.{of_program}
@@ -15,7 +13,7 @@ use Rattle.lrc_labels.specs.Cut.{cut, divides}
 use Rattle.lrc_labels.specs.Reading.{labels_of}
 use Rattle.lrc_private_names.specs.Spelling.{AreNamesOf, names_through}
 use Rattle.lrc_source.specs.Sources.{IsSource, SourceRecord}
-use Rattle.lrc_source.specs.Telling.{AreLines, AreLinesBy, ReadText, Telling, translated, written}
+use Rattle.lrc_source.specs.Telling.{AreLines, ReadText}
 use Rattle.lrc_source.proofs.Lines.{lines_of_one}
 use Rattle.lrc_source.proofs.laws.a_text_has_one_source.Goals as goal
 

@@ -3,8 +3,8 @@ use Rattle.lrc_node.specs.Node.{TracedNode}
 use Rattle.lrc_node.specs.Logged.{TracedLog}
 use Rattle.lrc_world.proofs.world.add_node.Goals as goal
 
-pub returns : goal.returns
-returns c =
-    let items : c.push.new.self.items ≡ c.args.made.now.items ++ c.new-2.result ∷ [] = search rules in
-    items ∙ ap (λ x. c.args.made.now.items ++ x ∷ []) (c.new-2.ensures
-    ∙ ap (λ (x : TracedNode). let t : TracedLog = record { logged = record { node = x.node; log = [] }; trace = x.trace } in t) c.in_ok-node.ensures)
+pub returns-in_ok-push-in-Ok : goal.returns-in_ok-push-in-Ok
+returns-in_ok-push-in-Ok c =
+    let items : c.push.new.self.items ≡ c.args.made.now.items ++ c.new-in-Ok.result ∷ [] = search rules in
+    items ∙ ap (λ x. c.args.made.now.items ++ x ∷ []) (c.new-in-Ok.ensures
+    ∙ ap (λ (x : TracedNode). let t : TracedLog = record { logged = record { node = x.node; log = [] }; trace = x.trace } in t) c.in-Ok.ensures)

@@ -1,12 +1,12 @@
-use Rattle.std.proofs.Common.{◌<◌, arith}
+use Rattle.std.proofs.Common.{◌≡◌, ◌<◌, true, false, arith}
 use Rattle.lrc_orders_table.specs.Rows.{row_count}
 use Rattle.lrc_explore.proofs.Seeking.{gathering_on, too_many_states}
 use Rattle.lrc_explore.proofs.task.Found.gather.Goals as goal
 
 pub returns-then-len-task-clause-faults : goal.returns-then-len-task-clause-faults
 returns-then-len-task-clause-faults c =
-    too_many_states c.args.task.now c.loop-place.self c.loop-place.invariant.0.found
-    (omega (arith, c.if-len-task.true, c.len-in-loop-place.ensures.len))
+    too_many_states c.args.task.now c.loop-place.self false c.loop-place.invariant.0.found
+    (omega (arith, c.if-len-task.true, c.len-in-loop-place.ensures.len)) (λ looked. let x : false ≡ true = looked in cc)
 
 pub loop-place-preserved : goal.loop-place-preserved
 loop-place-preserved c =

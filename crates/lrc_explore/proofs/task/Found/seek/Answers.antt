@@ -4,7 +4,7 @@ use Rattle.lrc_orders_table.specs.Rows.{row_count}
 use Rattle.lrc_explore.specs.Answers.{IsVisit}
 use Rattle.lrc_explore.specs.Traps.{first_trap}
 use Rattle.lrc_explore.proofs.Keys.{more_again}
-use Rattle.lrc_explore.proofs.Seeking.{Seeking, seeking_first, seeking_on, through, too_many_states}
+use Rattle.lrc_explore.proofs.Seeking.{Seeking, seeking_first, seeking_on, through}
 use Rattle.lrc_explore.proofs.task.Found.seek.Goals as goal
 
 pub loop-place-init : goal.loop-place-init
@@ -13,11 +13,6 @@ loop-place-init c = (
       (seeking_first c.args.task.now c.args.self.now c.args.races c.args.start c.requires.found c.requires.start),
   λ le. omega (arith, le),
 )
-
-pub returns-then-len-task-clause-faults : goal.returns-then-len-task-clause-faults
-returns-then-len-task-clause-faults c =
-    too_many_states c.args.task.now c.loop-place.self c.loop-place.invariant.0.found
-    (omega (arith, c.if-len-task.true, c.len-in-loop-place.ensures.len))
 
 pub returns-in-Meeting-clause-more : goal.returns-in-Meeting-clause-more
 returns-in-Meeting-clause-more c = more_again c.loop-place.invariant.0.more c.in_ok-p.ensures.more

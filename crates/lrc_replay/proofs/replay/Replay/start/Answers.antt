@@ -7,9 +7,9 @@ use Rattle.lrc_replay.proofs.replay.Replay.start.Goals as goal
 
 pub loop-me-preserved : goal.loop-me-preserved
 loop-me-preserved c =
-    let items : c.push.new.self.items ≡ c.loop-me.made.items ++ c.in_ok-new.field-0 ∷ [] = search rules in
-    fresh_more (fresh_node c.args.code.now c.args.nodes c.args.options.now) c.loop-me.made.items c.push.new.self.items c.in_ok-new.field-0 c.loop-me.me
-    c.loop-me.invariant items (ap (λ (t : TracedNode). t.node) c.in_ok-new.ensures)
+    let items : c.push.new.self.items ≡ c.loop-me.made.items ++ c.in-Ok.node ∷ [] = search rules in
+    fresh_more (fresh_node c.args.code.now c.args.nodes c.args.options.now) c.loop-me.made.items c.push.new.self.items c.in-Ok.node c.loop-me.me
+    c.loop-me.invariant items (ap (λ (t : TracedNode). t.node) c.in-Ok.ensures)
 
 pub returns : goal.returns
 returns c =

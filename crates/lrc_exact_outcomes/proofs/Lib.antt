@@ -1,0 +1,4 @@
+pub mod Last
+pub mod Swapping
+pub mod Running
+pub mod Fronting

@@ -1,0 +1,3 @@
+pub mod Calm
+pub mod Listed
+pub mod One

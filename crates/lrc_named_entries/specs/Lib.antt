@@ -1,0 +1,2 @@
+pub mod Entry
+pub mod View

@@ -1,0 +1,4 @@
+pub mod FirstFaults
+pub mod MayStand
+pub mod Stopping
+pub mod Taken

@@ -1,0 +1,3 @@
+pub mod FirstFault
+pub mod Kind
+pub mod Stops

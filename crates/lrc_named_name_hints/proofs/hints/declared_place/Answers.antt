@@ -1,0 +1,24 @@
+use Rattle.std.proofs.Common.{sym, ap, ◌∙◌}
+use Rattle.std.specs.List.{find}
+use Rattle.std.specs.Option.{option_map}
+use Rattle.lrc_named_entries.specs.Entry.{Entry}
+use Rattle.lrc_named_entries.specs.View.{entry_seen}
+use Rattle.lrc_named_name_hints.specs.Hints.{is_entry}
+use Rattle.lrc_named_name_hints.proofs.Searching.{at_end, found_there, none_more}
+use Rattle.lrc_named_name_hints.proofs.hints.declared_place.Goals as goal
+
+pub loop-entry-preserved : goal.loop-entry-preserved
+loop-entry-preserved c =
+    none_more entry_seen (is_entry c.args.name.now) c.args.seen.now.entries.now c.loop-entry.entry-index _ c.loop-entry-test.true c.loop-entry.invariant
+    (sym c.is_entry.ensures ∙ c.if-is_entry.false)
+
+pub returns-then-is_entry : goal.returns-then-is_entry
+returns-then-is_entry c =
+    let there = found_there entry_seen (is_entry c.args.name.now) c.args.seen.now.entries.now c.loop-entry.entry-index _ c.loop-entry-test.true c.loop-entry.invariant
+    (sym c.is_entry.ensures ∙ c.if-is_entry.true) in
+    sym (ap (option_map (λ (e : Entry). e.name.at)) there)
+
+pub returns : goal.returns
+returns c =
+    let none = ap (find (is_entry c.args.name.now)) (sym (at_end entry_seen (is_entry c.args.name.now) c.args.seen.now.entries.now c.loop-entry.entry-index c.loop-entry-test.false)) ∙ c.loop-entry.invariant in
+    sym (ap (option_map (λ (e : Entry). e.name.at)) none)

@@ -1,0 +1,3 @@
+pub mod Hint
+pub mod Hints
+pub mod Seen

@@ -1,0 +1,11 @@
+pub mod Marking
+pub mod Placing
+pub mod Separating
+pub mod Noting
+pub mod Finding
+pub mod Judged
+pub mod Placements
+pub mod Pairing
+pub mod Saying
+pub mod Renaming
+pub mod JudgeLemmas

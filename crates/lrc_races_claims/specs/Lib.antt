@@ -1,0 +1,10 @@
+pub mod Racing
+pub mod Truth
+pub mod Places
+pub mod Asking
+pub mod Firsts
+pub mod Known
+pub mod Judging
+pub mod Spelled
+pub mod Placed
+pub mod Judge

@@ -1,0 +1,5 @@
+pub mod Sorts
+pub mod Traced
+pub mod Missing
+pub mod Spelled
+pub mod Scored

@@ -1,0 +1,37 @@
+-- Nothing is read yet.
+use Rattle.std.proofs.Common.{[], inl, refl}
+use Rattle.lrc_races_scored.specs.Traced.{HasTraced}
+use Rattle.lrc_races_notes.specs.Noting.{KeepsBoth}
+use Rattle.lrc_races_stream.specs.Locations.{most_lines}
+use Rattle.lrc_races_stream.specs.Reach.{out_of_memory}
+use Rattle.lrc_races_stream.specs.Score.{stopped}
+use Rattle.lrc_races_stream.proofs.SeekerLemmas.{seeking_first}
+use Rattle.lrc_races_stream.proofs.TellerLemmas.{nothing_written}
+use Rattle.lrc_races_stream.proofs.score.score.Goals as goal
+
+pub returns-in-Err-clause-answer : goal.returns-in-Err-clause-answer
+returns-in-Err-clause-answer g c = stopped c.new.result out_of_memory tt
+
+pub returns-in-Err-clause-notes : goal.returns-in-Err-clause-notes
+returns-in-Err-clause-notes g c = ([], refl, inl (nothing_written (g.E.Write.contents c.args.err.now)))
+
+pub score_by-requires : goal.score_by-requires
+score_by-requires g c =
+    let left = g.B.Blocks.left c.args.trace.now in (
+      c.args.form,
+      left,
+      seeking_first (KeepsBoth HasTraced) c.args.form most_lines left _
+          (c.in-Ok.ensures c.args.sought (c.new-2.ensures c.args.sought c.args.form (c.new.ensures c.args.form))),
+    )
+
+pub returns-in-Ok-clause-answer : goal.returns-in-Ok-clause-answer
+returns-in-Ok-clause-answer g c =
+    let left = g.B.Blocks.left c.args.trace.now in
+    (c.score_by.ensures c.args.form left (seeking_first (KeepsBoth HasTraced) c.args.form most_lines left _
+    (c.in-Ok.ensures c.args.sought (c.new-2.ensures c.args.sought c.args.form (c.new.ensures c.args.form))))).0
+
+pub returns-in-Ok-clause-notes : goal.returns-in-Ok-clause-notes
+returns-in-Ok-clause-notes g c =
+    let left = g.B.Blocks.left c.args.trace.now in
+    (c.score_by.ensures c.args.form left (seeking_first (KeepsBoth HasTraced) c.args.form most_lines left _
+    (c.in-Ok.ensures c.args.sought (c.new-2.ensures c.args.sought c.args.form (c.new.ensures c.args.form))))).1

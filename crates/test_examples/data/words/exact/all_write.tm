@@ -1,0 +1,5 @@
+words 1; locks 0;
+[0] = me + 1;
+barrier;
+x = [0];
+print x;

@@ -1,0 +1,6 @@
+words 1; locks 0;
+if me == 0 { [0] = 9; [0] = 0; }
+if me == 1 { [0] = 3; }
+barrier;
+x = [0];
+print x;

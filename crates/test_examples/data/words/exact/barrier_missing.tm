@@ -1,0 +1,7 @@
+words 1; locks 1;
+acquire 0;
+x = [0];
+[0] = x + 1;
+release 0;
+if x < 2 { barrier; }
+print x;

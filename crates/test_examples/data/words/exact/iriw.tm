@@ -1,0 +1,5 @@
+words 2; locks 0;
+if me == 0 { [0] = 1; }
+if me == 1 { [1] = 1; }
+if me == 2 { x = [0]; y = [1]; print x; print y; }
+if me == 3 { y = [1]; x = [0]; print y; print x; }

@@ -1,0 +1,4 @@
+words 2; locks 0;
+x = [me];
+[1 - me] = 1;
+print x;

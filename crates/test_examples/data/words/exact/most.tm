@@ -1,0 +1,6 @@
+words 1; locks 1;
+acquire 0;
+x = [0];
+[0] = x + 1;
+release 0;
+print x;

@@ -1,0 +1,1 @@
+words 1; locks 0; print me;

@@ -1,0 +1,13 @@
+words 65; locks 2;
+if me == 0 { acquire 0; release 0; acquire 0; release 0; [64] = 1; [0] = 1; acquire 0; release 0; }
+if me == 1 { [0] = 2; acquire 1; release 1; }
+if me == 2 {
+  acquire 0;
+  z = [0];
+  release 0;
+  acquire 1;
+  x = [0];
+  release 1;
+  print z;
+  print x;
+}

@@ -1,0 +1,2 @@
+lock m;
+acquire(m);

@@ -1,0 +1,3 @@
+nodes 2;
+while 1:
+  x = 1;

@@ -1,0 +1,2 @@
+nodes 2;
+if 1 print 2;

@@ -1,0 +1,2 @@
+nodes 2;
+for me in 0..2 { }

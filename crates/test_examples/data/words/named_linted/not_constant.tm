@@ -1,0 +1,1 @@
+const A = me + 1;

@@ -1,0 +1,2 @@
+nodes 2;
+print me == 1 = 2;

@@ -1,0 +1,3 @@
+shared a,
+ b;
+lock b;

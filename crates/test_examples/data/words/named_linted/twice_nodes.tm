@@ -1,0 +1,2 @@
+nodes 2;
+nodes 3;

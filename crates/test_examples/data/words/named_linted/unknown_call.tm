@@ -1,0 +1,2 @@
+fn first(k) = k;
+x = frist(1);

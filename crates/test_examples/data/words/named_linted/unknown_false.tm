@@ -1,0 +1,3 @@
+shared s;
+falsf = 1;
+x = false;

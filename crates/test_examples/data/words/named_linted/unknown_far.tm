@@ -1,0 +1,2 @@
+shared counter;
+print cuntre3x;

@@ -1,0 +1,2 @@
+shared a[SIZE];
+const SIZE = 8;

@@ -1,0 +1,3 @@
+shared count;
+count = 1;
+x = conut;

@@ -1,0 +1,2 @@
+shared cab, cat;
+print car;

@@ -1,0 +1,1 @@
+fn f(left, right) = lefft + right;

@@ -1,0 +1,3 @@
+nodes 2;
+total = 1;
+print totl;

@@ -1,0 +1,2 @@
+const SIZE = 3;
+SIZE = 4;

@@ -1,0 +1,2 @@
+shared a;
+acquire a;

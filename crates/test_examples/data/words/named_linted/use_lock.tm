@@ -1,0 +1,2 @@
+lock mutex;
+print mutex + 1;

@@ -1,0 +1,3 @@
+shared s;
+lock m;
+with (m) { s += 1; }
