@@ -149,7 +149,7 @@ main > * { min-height: 0; overflow: auto; scrollbar-width: thin; }
 .rows .chips { flex-wrap: nowrap; overflow: hidden; white-space: nowrap; }
 .rows .node:not(.headings) h3, .rows .notes, .rows .node:not(.headings) .name, .rows .note, .rows .stored, .rows .time::before, .rows .line .caption { display: none; }
 
-#story { grid-area: story; display: flex; gap: .6rem 1.5rem; }
+#story { grid-area: story; display: flex; gap: .6rem 1.5rem; overflow-wrap: anywhere; }
 .rows #story { flex-direction: column; }
 #story h2:not(:empty) { margin-top: .2rem; }
 #story h2 { color: var(--soft); font-size: .9rem; font-weight: 650; }
