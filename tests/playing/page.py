@@ -674,6 +674,17 @@ def check_named():
         same(f"{file}: notes", value(noted), lint_shown(file, text))
         if file in ("bank.tm", "peterson.tm"):
             check_turns(f"{file} named", Native(text, file))
+            continue
+        press_text("#result .fields", "Open it")
+        same(f"{file}: its core is opened", editor_text(), Native(text, file).play(f"treadmarks core {file}").stdout)
+        ask("step")
+        (line, status), = heading()
+        core = f"{file[:-3]}_core.tm"
+        asked = f"treadmarks step {core} --nodes {re.search(r'^nodes (.*);', text, re.M)[1]}"
+        same(f"{file}: its core on as many nodes", line[:len(asked)], asked)
+        done = Native(editor_text(), core).play(line)
+        check_errors(f"{file}: its core", done)
+        same(f"{file}: its core turn by turn", document_text() if done.stdout else "", done.stdout)
     for fault, place in (("conut = sum;\nprint conut + cuont;\n", 13), ("sum = ;\n", 12), ("mutex = 1;\n", 12), ("if sum > 1 and { }\n", 12)):
         open_page()
         drop("faulty.tm", NAMED + fault)
