@@ -9,7 +9,7 @@ use Rattle.lrc_lang.specs.Statements as lang
 use Rattle.lrc_lang.specs.Statements.{expression_of, statement_of, row_of, block_of}
 use Rattle.lrc_exec.specs.Meaning.{Thread, Next, quiet, block, chosen, combined, next_of_statement, then_does, value_in, with_value}
 use Rattle.lrc_named_core.specs.Tree.{Expression, number, private, me, nodes, binary, Block, empty, next, behind}
-use Rattle.lrc_named_acts_laws.specs.Coded.{Numbers, number_of, coded, statement_coded, block_coded}
+use Rattle.lrc_named_acts_laws.specs.Coded.{KeepAll, Numbers, number_of, coded, statement_coded, block_coded}
 use Rattle.lrc_named_acts_laws.specs.Standing.{value_at}
 
 pub value_coded : (numbers : Numbers) (t : Thread) (e : code.Expression) (p : Expression) → expression_of e ≡ coded numbers p
@@ -198,3 +198,7 @@ split_joined xs (lang.next s a) b is =
     let (x, rest, xs_is, x_is, rest_is) = first_is xs s (joined a b) is in
     let (ys, zs, rest_parts, ys_is, zs_is) = split_joined rest a b rest_is in
     (x ∷ ys, zs, xs_is ∙ ap (λ l. x ∷ l) rest_parts, ap₂ lang.next x_is ys_is, zs_is)
+
+pub keep_parts : (k : ℕ) (a b : lang.Block) → KeepAll k (joined a b) → KeepAll k a × KeepAll k b
+keep_parts k lang.empty b all = (tt, all)
+keep_parts k (lang.next s a) b all = let rest = keep_parts k a b all.1 in ((all.0, rest.0), rest.1)

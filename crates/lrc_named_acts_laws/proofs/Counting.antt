@@ -16,10 +16,10 @@ use Rattle.lrc_consistency_laws.specs.Follows.{Goes}
 use Rattle.lrc_named_core.specs.Tree.{Private, named, Expression, number, private, binary, Block, empty, next, only, behind, Origin}
 use Rattle.lrc_named_tree.specs.Tree.{Named}
 use Rattle.lrc_named_statements.specs.Statements.{counting, from}
-use Rattle.lrc_named_acts_laws.specs.Coded.{AreApart, coded, KeepAll, Numbers, statement_coded, block_coded}
+use Rattle.lrc_named_acts_laws.specs.Coded.{coded, KeepAll, Numbers, statement_coded, block_coded}
 use Rattle.lrc_named_acts_laws.specs.Rounds.{Begins, Ends, Rounds, nothing_yet, leaves, in_a_round, a_round, loop_of, step_of}
 use Rattle.lrc_named_acts_laws.specs.Standing.{HasMore, IsSteady, StandsBefore, Stays, no_deed, one_deed, value_at, worth}
-use Rattle.lrc_named_acts_laws.proofs.Coding.{IsLoop, assign_is, block_joined, coded_behind, first_is, joined, loop_is, none_is, split_joined, value_coded}
+use Rattle.lrc_named_acts_laws.proofs.Coding.{IsLoop, assign_is, keep_parts, block_joined, coded_behind, first_is, joined, loop_is, none_is, split_joined, value_coded}
 use Rattle.lrc_named_acts_laws.proofs.Steps.{after_quiet, next_here, some_is}
 use Rattle.lrc_named_acts_laws.proofs.Choosing.{set}
 use Rattle.lrc_named_acts_laws.proofs.Staying.{Split, along, none_left, split, steady}
@@ -40,8 +40,17 @@ assigned numbers t u d s rest k p v is here kind worth_is g =
     let after = after_quiet (subst (λ n. Goes n d (Some u)) next_is g) in
     record { deed = after.0; is = some_is after.1 }
 
-module _ (numbers : Numbers) (apart : AreApart numbers) (at : Origin) (bytes : List ℕ) (limit : Expression) (inside : Block) (more : List Statement)
-    (b : ℕ) (small : b < 2 ^ 64) (is_steady : IsSteady numbers limit inside) (keeps : KeepAll (numbers.of_named bytes) (block_coded numbers inside)) where
+module _ (numbers : Numbers) (at : Origin) (bytes : List ℕ) (limit : Expression) (inside : Block) (more : List Statement)
+    (b : ℕ) (small : b < 2 ^ 64) (is_steady : IsSteady numbers limit (behind inside (only (step_of at (named bytes))))) (keeps : KeepAll (numbers.of_named bytes) (block_coded numbers inside)) where
+  -- what block and step keep, each keeps
+  kept_split : (k : ℕ) → KeepAll k (block_coded numbers (behind inside (only (step_of at (named bytes)))))
+      → KeepAll k (block_coded numbers inside) × (numbers.of_named bytes ≢ k)
+  kept_split k all =
+      let parts =
+      keep_parts k (block_coded numbers inside) (block_coded numbers (only (step_of at (named bytes))))
+      (subst (KeepAll k) (coded_behind numbers inside (only (step_of at (named bytes)))) all) in
+      (parts.0, parts.1.0)
+
   record AtLoop (i : ℕ) (t : Thread) : Type 0 where
     loop : Statement
     is_loop : statement_of loop ≡ statement_coded numbers (loop_of at (named bytes) limit inside)
@@ -137,16 +146,17 @@ module _ (numbers : Numbers) (apart : AreApart numbers) (at : Origin) (bytes : L
       record {
         worth_is = within (numbers.of_named bytes) keeps ∙ l.worth_is;
         limit_is =
-            steady numbers t v limit inside is_steady (by.setting ∙ ap (λ x. x.setting) is) (λ k all. within (numbers.of_own k) all) ∙ l.limit_is;
+            steady numbers t v limit (behind inside (only (step_of at (named bytes)))) is_steady (by.setting ∙ ap (λ x. x.setting) is)
+            (λ k all. within (numbers.of_own k) (kept_split (numbers.of_own k) all).0) ∙ l.limit_is;
         fits = subst (λ n. numbers.of_named bytes < n) (sym (by.size ∙ ap (λ x. length x.privates) is)) l.fits;
       }
 
   limit_then : (v w : Thread) (x : ℕ) (rest : List Statement) → w ≡ then_keeps v rest (numbers.of_named bytes) x
       → value_at numbers w limit ≡ value_at numbers v limit
   limit_then v w x rest is =
-      steady numbers v w limit inside is_steady (ap (λ y. y.setting) is)
+      steady numbers v w limit (behind inside (only (step_of at (named bytes)))) is_steady (ap (λ y. y.setting) is)
       (λ k all. ap (λ y. slice_index y.privates (numbers.of_own k)) is
-      ∙ get_or-set_other v.privates (numbers.of_named bytes) (numbers.of_own k) x 0 (λ same. apart.own_apart bytes k (sym same)))
+      ∙ get_or-set_other v.privates (numbers.of_named bytes) (numbers.of_own k) x 0 (λ same. (kept_split (numbers.of_own k) all).1 (sym same)))
 
   -- and then one is added to the name
   again : (i : ℕ) (t v w : Thread) (l : AtLoop i t) (d : Deed) (body : List Statement) (made : Body body) → i < b → Kept i v
@@ -236,29 +246,29 @@ module _ (numbers : Numbers) (apart : AreApart numbers) (at : Origin) (bytes : L
           out_of_loop i t s u d es (at_least i not) after.0 (ap (λ x. x.rest) s_is) (ap (λ x. x.arrived) s_is ∙ l.here) g stays
 
 pub whole : (numbers : Numbers) (token : ℕ) (name : Named) (first limit : Expression) (inside : Block) (more : List Statement) (t : Thread) (a b : ℕ)
-    → AreApart numbers → numbers.of_named name.bytes < length t.privates
+    → numbers.of_named name.bytes < length t.privates
     → StandsBefore numbers t (counting token name first limit inside) more
     → value_at numbers t first ≡ Some a → value_at numbers t limit ≡ Some b → b < 2 ^ 64
-    → IsSteady numbers limit inside → KeepAll (numbers.of_named name.bytes) (block_coded numbers inside)
+    → IsSteady numbers limit (behind inside (only (step_of (from token) (named name.bytes)))) → KeepAll (numbers.of_named name.bytes) (block_coded numbers inside)
     → (ds : List Deed) (u : Thread) → Stays (length more) t ds u
     → ((ds ≡ []) × (u ≡ t)) ⊎ ((s : Thread) × (es : List Deed) × (ds ≡ Quiet ∷ es)
     × Goes (next_of t) Quiet (Some s) × (worth numbers s (named name.bytes) ≡ a)
     × Rounds numbers (from token) (named name.bytes) limit inside more b a s es u)
-whole numbers token name first limit inside more t a b apart fits stands value limit_value small is_steady keeps ds u no_deed = inl (refl, refl)
-whole numbers token name first limit inside more t a b apart fits stands value limit_value small is_steady keeps ds u (one_deed {u = s} {d = d} {ds = es} has g stays) =
+whole numbers token name first limit inside more t a b fits stands value limit_value small is_steady keeps ds u no_deed = inl (refl, refl)
+whole numbers token name first limit inside more t a b fits stands value limit_value small is_steady keeps ds u (one_deed {u = s} {d = d} {ds = es} has g stays) =
     let r = set numbers t (from token) (named name.bytes) first (only (loop_of (from token) (named name.bytes) limit inside)) more a stands value d (Some s) g in
     let s_is : s ≡ then_keeps t r.then_rest (numbers.of_named name.bytes) a = some_is r.goes_on ∙ r.keeps in
     let now : StandsBefore numbers s (only (loop_of (from token) (named name.bytes) limit inside)) more =
     subst (λ x. StandsBefore numbers x (only (loop_of (from token) (named name.bytes) limit inside)) more) (sym (some_is r.goes_on)) r.stands in
     let (x, ys, list_is, x_is, ys_is) = loop_first now.statements now.are in
     let worth_is : worth numbers s (named name.bytes) ≡ a = ap (λ y. worth numbers y (named name.bytes)) (some_is r.goes_on) ∙ r.worth_is fits in
-    let l : AtLoop numbers apart (from token) name.bytes limit inside more b small is_steady keeps a s = record {
+    let l : AtLoop numbers (from token) name.bytes limit inside more b small is_steady keeps a s = record {
       loop = x;
       is_loop = x_is;
       rest = now.rest ∙ ap (λ y. y ++ more) (list_is ∙ ap (λ y. x ∷ y) (none_is ys ys_is));
       here = now.here;
       worth_is = worth_is;
-      limit_is = limit_then numbers apart (from token) name.bytes limit inside more b small is_steady keeps t s a r.then_rest s_is ∙ limit_value;
+      limit_is = limit_then numbers (from token) name.bytes limit inside more b small is_steady keeps t s a r.then_rest s_is ∙ limit_value;
       fits = subst (λ n. numbers.of_named name.bytes < n) (sym (ap (λ y. length y.privates) s_is ∙ length-set t.privates (numbers.of_named name.bytes) a)) fits;
     } in
     inr (
@@ -267,7 +277,7 @@ whole numbers token name first limit inside more t a b apart fits stands value l
       ap (λ y. y ∷ es) r.deed,
       subst (λ y. Goes (next_of t) y (Some s)) r.deed g,
       worth_is,
-      rounds numbers apart (from token) name.bytes limit inside more b small is_steady keeps (length es) a s u es (omega arith) l stays,
+      rounds numbers (from token) name.bytes limit inside more b small is_steady keeps (length es) a s u es (omega arith) l stays,
     )
   where
     loop_first : (xs : List Statement) → block_of xs ≡ block_coded numbers (only (loop_of (from token) (named name.bytes) limit inside))

@@ -4,42 +4,61 @@ use Rattle.lrc_named_tree.specs.Tree.{Expressions, Place, Named, Arms}
 use Rattle.lrc_named_tree.specs.Tree as tree
 use Rattle.lrc_named_names.specs.Names.{Declared, Item}
 use Rattle.lrc_named_constants.specs.Constant.{Known}
-use Rattle.lrc_named_core.specs.Tree.{own, Expression, Block, Origin, assign, if_else, empty, next, only, behind}
+use Rattle.lrc_named_core.specs.Tree.{own, Expression, Statement, Block, Origin, assign, read, write, acquire, release, barrier, print, if_else, while_do, empty, next, only, behind}
 use Rattle.lrc_named_translation.specs.Made.{IsMade, IsByRule, AreMade}
 use Rattle.lrc_named_translation.specs.Made as made
 use Rattle.lrc_named_statements.specs.Statements.{AreCores, ArePrinted, IsAddress, IsChoice, IsCore, IsElse, IsHeldFor, IsHeldWith}
 use Rattle.lrc_named_statements.specs.Statements as rule
-use Rattle.lrc_named_acts_laws.specs.Coded.{AreApart, KeepAll, Numbers, block_coded}
+use Rattle.lrc_named_acts_laws.specs.Coded.{AllSet, IsNotOwn, KeepAll, Keeps, Numbers, Sets, block_coded, number_of, statement_coded}
 
 -- these statements do not set the name of the translation's own with this number
-abbrev pub Keep : Numbers → ℕ → Block → Type 0
-Keep numbers k b = KeepAll (numbers.of_own k) (block_coded numbers b)
+abbrev pub Keep : ℕ → Block → Type 0
+Keep k b = AllSet (IsNotOwn k) b
+
+-- ---- by numbers
+
+mutual
+  pub sets_keep : (numbers : Numbers) (k : ℕ) (s : Statement) → Sets (λ name. number_of numbers name ≢ numbers.of_own k) s
+      → Keeps (numbers.of_own k) (statement_coded numbers s)
+  sets_keep numbers k (assign origin name value) other = other
+  sets_keep numbers k (read origin name word) other = other
+  sets_keep numbers k (write origin word value) other = tt
+  sets_keep numbers k (acquire origin lock) other = tt
+  sets_keep numbers k (release origin lock) other = tt
+  sets_keep numbers k (barrier origin) other = tt
+  sets_keep numbers k (print origin value) other = tt
+  sets_keep numbers k (if_else origin condition first second) other = (all_keep numbers k first other.0, all_keep numbers k second other.1)
+  sets_keep numbers k (while_do origin condition inside) other = all_keep numbers k inside other
+
+  pub all_keep : (numbers : Numbers) (k : ℕ) (b : Block) → AllSet (λ name. number_of numbers name ≢ numbers.of_own k) b
+      → KeepAll (numbers.of_own k) (block_coded numbers b)
+  all_keep numbers k empty other = tt
+  all_keep numbers k (next first others) other = (sets_keep numbers k first other.0, all_keep numbers k others other.1)
+
+-- ---- by the rules
 
 -- What comes before an expression sets no name that is held, and names are only taken.
-record Before (numbers : Numbers) (k taken after : ℕ) (before : Block) : Type 0 where
-  keeps : k ≤ taken → Keep numbers k before
+record Before (k taken after : ℕ) (before : Block) : Type 0 where
+  keeps : k ≤ taken → Keep k before
   grows : taken ≤ after
 
-module _ (numbers : Numbers) (apart : AreApart numbers) (k : ℕ) (declared : List Declared) where
-  pub both : (a b : Block) → Keep numbers k a → Keep numbers k b → Keep numbers k (behind a b)
+module _ (k : ℕ) (declared : List Declared) where
+  pub both : (a b : Block) → Keep k a → Keep k b → Keep k (behind a b)
   both empty b has more = more
   both (next s a) b has more = (has.0, both a b has.1 more)
 
-  later : (j : ℕ) → k ≤ j → numbers.of_own (j + 1) ≢ numbers.of_own k
-  later j le same = let e = apart.owns_apart (j + 1) k same in omega (arith, e)
+  later : (j : ℕ) → k ≤ j → j + 1 ≢ k
+  later j le same = omega (arith, same)
 
-  user : (bytes : List ℕ) → numbers.of_named bytes ≢ numbers.of_own k
-  user bytes = apart.own_apart bytes k
-
-  no_more : (taken : ℕ) → Before numbers k taken taken empty
+  no_more : (taken : ℕ) → Before k taken taken empty
   no_more taken = record { keeps = λ le. tt; grows = omega arith }
 
   within : (a b c : ℕ) → a ≤ b → b ≤ c → a ≤ c
   within a b c le less = omega arith
 
   in_turn : (taken between after : ℕ) (before inside : Block) (at : Origin) (f l g m : ℕ) (x c y : Expression)
-      → Before numbers k taken between before → Before numbers k (between + 1) after inside
-      → Before numbers k taken after (behind before (next (assign at (own (between + 1) f l) x)
+      → Before k taken between before → Before k (between + 1) after inside
+      → Before k taken after (behind before (next (assign at (own (between + 1) f l) x)
       (only (if_else at c (behind inside (only (assign at (own (between + 1) g m) y))) empty))))
   in_turn taken between after before inside at f l g m x c y one other =
       record {
@@ -53,12 +72,12 @@ module _ (numbers : Numbers) (apart : AreApart numbers) (k : ℕ) (declared : Li
 
   mutual
     made_before : {at : Origin} {known : List Known} {cores : List Expression} {e : tree.Expression} {taken after : ℕ} {before : Block} {p : Expression}
-        → IsMade declared at known cores e taken before p after → Before numbers k taken after before
+        → IsMade declared at known cores e taken before p after → Before k taken after before
     made_before (made.a_value {taken = taken} c) = no_more taken
     made_before (made.by_rule c h r) = ruled r
 
     ruled : {at : Origin} {known : List Known} {cores : List Expression} {e : tree.Expression} {taken after : ℕ} {before : Block} {p : Expression}
-        → IsByRule declared at known cores e taken before p after → Before numbers k taken after before
+        → IsByRule declared at known cores e taken before p after → Before k taken after before
     ruled (made.a_number {taken = taken}) = no_more taken
     ruled (made.the_node {taken = taken}) = no_more taken
     ruled (made.node_count {taken = taken}) = no_more taken
@@ -92,7 +111,7 @@ module _ (numbers : Numbers) (apart : AreApart numbers) (k : ℕ) (declared : Li
         in_turn taken between after before inside _ _ _ _ _ _ _ _ (made_before m) (made_before n)
 
     all_before : {at : Origin} {known : List Known} {cores : List Expression} {es : Expressions} {taken after : ℕ} {before : Block} {ps : List Expression}
-        → AreMade declared at known cores es taken before ps after → Before numbers k taken after before
+        → AreMade declared at known cores es taken before ps after → Before k taken after before
     all_before (made.no_expression {taken = taken}) = no_more taken
     all_before (made.one_expression {taken = taken} {between = between} {after = after} {before = before} {behind_it = second} m n) =
         let f = made_before m in
@@ -102,17 +121,17 @@ module _ (numbers : Numbers) (apart : AreApart numbers) (k : ℕ) (declared : Li
         }
 
   address_before : {token : ℕ} {item : Item} {indices : Expressions} {taken after : ℕ} {before : Block} {p : Expression}
-      → IsAddress declared token item indices taken before p after → Before numbers k taken after before
+      → IsAddress declared token item indices taken before p after → Before k taken after before
   address_before (rule.an_address m) = all_before m
 
   next_le : (j : ℕ) → k ≤ j → k ≤ j + 1
   next_le j le = omega arith
 
   mutual
-    core_keeps : {held : ℕ} {s : tree.Statement} {core : Block} → IsCore declared held s core → k ≤ held → Keep numbers k core
-    core_keeps (rule.read_into {p = p} {before = before} pr h m x) le = both before _ ((address_before x).keeps le) (user p.name.bytes, tt)
-    core_keeps (rule.set_to {p = p} {before = before} pr alone m) le = both before _ ((made_before m).keeps le) (user p.name.bytes, tt)
-    core_keeps (rule.changed_by {p = p} {before = before} pr op m) le = both before _ ((made_before m).keeps le) (user p.name.bytes, tt)
+    core_keeps : {held : ℕ} {s : tree.Statement} {core : Block} → IsCore declared held s core → k ≤ held → Keep k core
+    core_keeps (rule.read_into {p = p} {before = before} pr h m x) le = both before _ ((address_before x).keeps le) (tt, tt)
+    core_keeps (rule.set_to {p = p} {before = before} pr alone m) le = both before _ ((made_before m).keeps le) (tt, tt)
+    core_keeps (rule.changed_by {p = p} {before = before} pr op m) le = both before _ ((made_before m).keeps le) (tt, tt)
     core_keeps (rule.written {held = held} {between = between} {first = first} {second = second} m x n) le =
         let f = address_before x in
         both first _ (f.keeps le) (both second _ ((made_before n).keeps (within k held between le f.grows)) (tt, tt))
@@ -139,36 +158,36 @@ module _ (numbers : Numbers) (apart : AreApart numbers) (k : ℕ) (declared : Li
     core_keeps (rule.counted {held = held} {between = between} {name = name} {one = one} {two = two} {within = inside} m n free c) le =
         let f = made_before m in
         both one _ (f.keeps le) (both two _ ((made_before n).keeps (within k held between le f.grows))
-        (user name.bytes, (both inside _ (cores_keep c le) (user name.bytes, tt)), tt))
+        (tt, (both inside _ (cores_keep c le) (tt, tt)), tt))
     core_keeps (rule.counted_held m n has h) le = held_for_keeps h le
 
     held_with_keeps : {held token close : ℕ} {p : Place} {inside : tree.Block} {core : Block} → IsHeldWith declared held token p inside close core
-        → k ≤ held → Keep numbers k core
+        → k ≤ held → Keep k core
     held_with_keeps (rule.a_held_with {held = held} {before = before} {within = inside} m x c) le =
         both before _ ((address_before x).keeps (next_le held le))
         (later held le, tt, both inside _ (cores_keep c (next_le held le)) (tt, tt))
 
     held_for_keeps : {held token : ℕ} {name : Named} {first end : tree.Expression} {inside : tree.Block} {core : Block}
-        → IsHeldFor declared held token name first end inside core → k ≤ held → Keep numbers k core
+        → IsHeldFor declared held token name first end inside core → k ≤ held → Keep k core
     held_for_keeps (rule.a_held_for {held = held} {between = between} {name = name} {one = one} {two = two} {within = inside} m n c) le =
         let f = made_before m in
         let now = next_le held le in
         both one _ (f.keeps now) (both two _ ((made_before n).keeps (within k (held + 1) between now f.grows))
-        (later held le, user name.bytes, (both inside _ (cores_keep c now) (user name.bytes, tt)), tt))
+        (later held le, tt, (both inside _ (cores_keep c now) (tt, tt)), tt))
 
     choice_keeps : {held token : ℕ} {condition : tree.Expression} {then otherwise : tree.Block} {others : Arms} {core : Block}
-        → IsChoice declared held token condition then others otherwise core → k ≤ held → Keep numbers k core
+        → IsChoice declared held token condition then others otherwise core → k ≤ held → Keep k core
     choice_keeps (rule.a_choice {before = before} m c e) le = both before _ ((made_before m).keeps le) ((cores_keep c le, else_keeps e le), tt)
 
     else_keeps : {held : ℕ} {others : Arms} {otherwise : tree.Block} {core : Block} → IsElse declared held others otherwise core → k ≤ held
-        → Keep numbers k core
+        → Keep k core
     else_keeps (rule.last_block c) le = cores_keep c le
     else_keeps (rule.else_if c) le = choice_keeps c le
 
-    printed_keep : {held token : ℕ} {es : Expressions} {core : Block} → ArePrinted declared held token es core → k ≤ held → Keep numbers k core
+    printed_keep : {held token : ℕ} {es : Expressions} {core : Block} → ArePrinted declared held token es core → k ≤ held → Keep k core
     printed_keep rule.none_printed le = tt
     printed_keep (rule.one_printed {before = before} m f) le = both before _ ((made_before m).keeps le) (tt, printed_keep f le)
 
-    pub cores_keep : {held : ℕ} {statements : tree.Block} {core : Block} → AreCores declared held statements core → k ≤ held → Keep numbers k core
+    pub cores_keep : {held : ℕ} {statements : tree.Block} {core : Block} → AreCores declared held statements core → k ≤ held → Keep k core
     cores_keep rule.no_statement le = tt
     cores_keep (rule.one_statement {first = first} {second = second} c f) le = both first second (core_keeps c le) (cores_keep f le)

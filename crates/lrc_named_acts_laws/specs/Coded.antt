@@ -1,5 +1,5 @@
 -- The core of statements as statements of the language, where its private names have numbers.
-use Rattle.std.specs.Prelude.{◌≡◌, ◌≢◌, ℕ, List}
+use Rattle.std.specs.Prelude.{◌≢◌, ℕ, List}
 use Rattle.lrc_lang.specs.Statements as lang
 use Rattle.lrc_named_core.specs.Tree.{Private, named, own, Expression, number, private, me, nodes, binary}
 use Rattle.lrc_named_core.specs.Tree.{Statement, assign, read, write, acquire, release, barrier, print, if_else, while_do, Block, empty, next}
@@ -12,12 +12,6 @@ pub record Numbers : Type 0 where
 abbrev pub number_of : Numbers → Private → ℕ
 number_of numbers (named bytes) = numbers.of_named bytes
 number_of numbers (own k first last) = numbers.of_own k
-
--- no two names have one number
-pub record AreApart (numbers : Numbers) : Type 0 where
-  pub named_apart : (a b : List ℕ) → numbers.of_named a ≡ numbers.of_named b → a ≡ b
-  pub owns_apart : (j k : ℕ) → numbers.of_own j ≡ numbers.of_own k → j ≡ k
-  pub own_apart : (bytes : List ℕ) (k : ℕ) → numbers.of_named bytes ≢ numbers.of_own k
 
 abbrev pub coded : Numbers → Expression → lang.Expression
 coded numbers (number n) = lang.number n
@@ -59,3 +53,25 @@ abbrev mutual
   pub KeepAll : ℕ → lang.Block → Type 0
   KeepAll k lang.empty = Unit {0}
   KeepAll k (lang.next first others) = Keeps k first × KeepAll k others
+
+-- each private name that a statement of these sets, or one in their blocks, is such a name
+abbrev mutual
+  pub Sets : (Private → Type 0) → Statement → Type 0
+  Sets IsSuch (assign origin name value) = IsSuch name
+  Sets IsSuch (read origin name word) = IsSuch name
+  Sets IsSuch (write origin word value) = Unit {0}
+  Sets IsSuch (acquire origin lock) = Unit {0}
+  Sets IsSuch (release origin lock) = Unit {0}
+  Sets IsSuch (barrier origin) = Unit {0}
+  Sets IsSuch (print origin value) = Unit {0}
+  Sets IsSuch (if_else origin condition then otherwise) = AllSet IsSuch then × AllSet IsSuch otherwise
+  Sets IsSuch (while_do origin condition inside) = AllSet IsSuch inside
+
+  pub AllSet : (Private → Type 0) → Block → Type 0
+  AllSet IsSuch empty = Unit {0}
+  AllSet IsSuch (next first others) = Sets IsSuch first × AllSet IsSuch others
+
+-- it is not the name of the translation's own that has this number
+abbrev pub IsNotOwn : ℕ → Private → Type 0
+IsNotOwn k (named bytes) = Unit {0}
+IsNotOwn k (own j first last) = j ≢ k

@@ -13,14 +13,14 @@ ghost use Rattle.lrc_exec.specs.Meaning.{Thread, next_of};
 ghost use Rattle.lrc_consistency_laws.specs.Follows.{Goes};
 ghost use Rattle.lrc_named_tree.specs.Tree.{Block as Tree, Named, Place};
 ghost use Rattle.lrc_named_names.specs.Names.{Declared, Item};
-ghost use Rattle.lrc_named_core.specs.Tree.{assign, Block, empty, Expression, has_division, if_else, named, next, only, Origin, Private, private, release};
+ghost use Rattle.lrc_named_core.specs.Tree.{assign, behind, Block, empty, Expression, has_division, if_else, named, next, only, Origin, Private, private, release};
 ghost use Rattle.lrc_named_address.specs.Address.{address};
 ghost use Rattle.lrc_named_address_laws.specs.Elements.{IsBeyond};
 ghost use Rattle.lrc_named_address_laws.specs.Values.{HaveValues};
 ghost use Rattle.lrc_named_translation.specs.Made.{truth};
 ghost use Rattle.lrc_named_statements.specs.Statements.{AreCores, closing, counting, from, guarded, trial_of};
-ghost use Rattle.lrc_named_acts_laws.specs.Coded.{AreApart, block_coded, KeepAll, number_of, Numbers};
-ghost use Rattle.lrc_named_acts_laws.specs.Rounds.{Rounds};
+ghost use Rattle.lrc_named_acts_laws.specs.Coded.{AllSet, block_coded, IsNotOwn, KeepAll, number_of, Numbers};
+ghost use Rattle.lrc_named_acts_laws.specs.Rounds.{Rounds, step_of};
 ghost use Rattle.lrc_named_acts_laws.specs.Standing.{is_zero, IsSteady, StandsBefore, Stays, UsesElement, value_at, worth};
 
 /// An assertion fails exactly where its condition is 0: there its last statement is a trap, and else a step of the node alone.
@@ -41,10 +41,11 @@ pub fn an_assertion_fails_where_its_condition_is_zero()
 pub fn a_for_makes_its_block_once_for_each_value()
     ensures { (numbers : Numbers) (token : ℕ) (name : Named) (first limit : Expression) (inside : Block) (more : List Statement)
         (t : Thread) (a b : ℕ)
-        → AreApart numbers → number_of numbers (named name.bytes) < length t.privates
         → StandsBefore numbers t (counting token name first limit inside) more
         → value_at numbers t first ≡ Some a → value_at numbers t limit ≡ Some b → b < 2 ^ 64
-        → IsSteady numbers limit inside → KeepAll (number_of numbers (named name.bytes)) (block_coded numbers inside)
+        → number_of numbers (named name.bytes) < length t.privates
+        → KeepAll (number_of numbers (named name.bytes)) (block_coded numbers inside)
+        → IsSteady numbers limit (behind inside (only (step_of (from token) (named name.bytes))))
         → (ds : List Deed) (u : Thread) → Stays (length more) t ds u
         → ((ds ≡ []) × (u ≡ t)) ⊎ ((s : Thread) × (es : List Deed) × (ds ≡ Quiet ∷ es)
         × Goes (next_of t) Quiet (Some s) × (worth numbers s (named name.bytes) ≡ a)
@@ -54,8 +55,10 @@ pub fn a_for_makes_its_block_once_for_each_value()
 /// What a `for` or a `with` holds is a name that its block does not set: where the statements around a block hold so many names, its
 /// core sets none of them.
 pub fn blocks_keep_what_is_held()
-    ensures { (numbers : Numbers) (declared : List Declared) (held k : ℕ) (statements : Tree) (core : Block)
-        → AreApart numbers → AreCores declared held statements core → k ≤ held
+    ensures held { (declared : List Declared) (held k : ℕ) (statements : Tree) (core : Block)
+        → AreCores declared held statements core → k ≤ held → AllSet (IsNotOwn k) core }
+    ensures kept { (numbers : Numbers) (k : ℕ) (core : Block)
+        → AllSet (λ name. number_of numbers name ≢ numbers.of_own k) core
         → KeepAll (numbers.of_own k) (block_coded numbers core) }
 {}
 
