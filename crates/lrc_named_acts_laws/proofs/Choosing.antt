@@ -101,10 +101,10 @@ has_value numbers t (private name) is = (worth numbers t name, refl)
 has_value numbers t me is = (t.setting.me, refl)
 has_value numbers t nodes is = (t.setting.nodes, refl)
 has_value numbers t (binary left o right) is =
-    let (no, first, second) = neither (divides o) (has_division left) (has_division right) is in
+    let (free, first, second) = neither (divides o) (has_division left) (has_division right) is in
     let (x, x_is) = has_value numbers t left first in
     let (y, y_is) = has_value numbers t right second in
-    let (v, v_is) = gives o x y no in (v, ap₂ (combined o) x_is y_is ∙ v_is)
+    let (v, v_is) = gives o x y free in (v, ap₂ (combined o) x_is y_is ∙ v_is)
 
 -- ---- choices
 

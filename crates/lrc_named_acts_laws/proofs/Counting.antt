@@ -51,17 +51,17 @@ module _ (numbers : Numbers) (at : Origin) (bytes : List ℕ) (limit : Expressio
       (subst (KeepAll k) (coded_behind numbers inside (only (step_of at (named bytes)))) all) in
       (parts.0, parts.1.0)
 
-  record AtLoop (i : ℕ) (t : Thread) : Type 0 where
-    loop : Statement
-    is_loop : statement_of loop ≡ statement_coded numbers (loop_of at (named bytes) limit inside)
-    rest : t.rest ≡ loop ∷ more
-    here : t.arrived ≡ false
-    worth_is : slice_index t.privates (numbers.of_named bytes) ≡ i
-    limit_is : value_at numbers t limit ≡ Some b
-    fits : numbers.of_named bytes < length t.privates
+  pub record AtLoop (i : ℕ) (t : Thread) : Type 0 where
+    pub loop : Statement
+    pub is_loop : statement_of loop ≡ statement_coded numbers (loop_of at (named bytes) limit inside)
+    pub rest : t.rest ≡ loop ∷ more
+    pub here : t.arrived ≡ false
+    pub worth_is : slice_index t.privates (numbers.of_named bytes) ≡ i
+    pub limit_is : value_at numbers t limit ≡ Some b
+    pub fits : numbers.of_named bytes < length t.privates
 
   at_least : (i : ℕ) → nat_lt i b ≡ false → b ≤ i
-  at_least i not = ltb-false i b not
+  at_least i off = ltb-false i b off
 
   -- the loop's block: the statements of the `for`, and what adds one to its name
   record Body (here : List Statement) : Type 0 where
@@ -140,7 +140,7 @@ module _ (numbers : Numbers) (at : Origin) (bytes : List ℕ) (limit : Expressio
   kept : (i : ℕ) (t s v : Thread) (ds : List Deed) (l : AtLoop i t) (body : List Statement) (made : Body body) → s ≡ then_does t (body ++ l.loop ∷ more)
       → Stays (length (made.inc ∷ l.loop ∷ more)) s ds v → Kept i v
   kept i t s v ds l body made is stays =
-      let by = along s v ds made.block (made.inc ∷ l.loop ∷ more) (begun i t s l body made is) stays in
+      let by = along (made.inc ∷ l.loop ∷ more) s v ds made.block (begun i t s l body made is) stays in
       let within : (k : ℕ) → KeepAll k (block_coded numbers inside) → slice_index v.privates k ≡ slice_index t.privates k =
       λ k all. by.worth_kept k (subst (KeepAll k) (sym made.block_is) all) ∙ ap (λ x. slice_index x.privates k) is in
       record {
@@ -181,7 +181,7 @@ module _ (numbers : Numbers) (at : Origin) (bytes : List ℕ) (limit : Expressio
 
   -- ---- all of it
 
-  Is : ℕ → Thread → List Deed → Thread → Type 0
+  abbrev Is : ℕ → Thread → List Deed → Thread → Type 0
   Is i t ds u = Rounds numbers at (named bytes) limit inside more b i t ds u
 
   out_of_loop : (i : ℕ) (t s u : Thread) (d : Deed) (ds : List Deed) → b ≤ i → d ≡ Quiet → s.rest ≡ more → s.arrived ≡ false
@@ -209,41 +209,45 @@ module _ (numbers : Numbers) (at : Origin) (bytes : List ℕ) (limit : Expressio
       (a_round lt g (begins i t s l body made is) (subst (λ x. Stays x s first v) (longer made.inc l.loop) comes) (ends i t v l body made there here)
       (subst (λ x. Goes (next_of v) x (Some w)) next_is.0 h) (next_rounds w es (omega arith) next_is.1 stays))
 
+  -- the loop is asked whether it goes on, and does
+  into : (n i : ℕ) (t s u : Thread) (es : List Deed) (l : AtLoop i t) (body : List Statement) (made : Body body) → length es ≤ n → i < b
+      → Goes (next_of t) Quiet (Some s) → s ≡ then_does t (body ++ l.loop ∷ more)
+      → ((w : Thread) (fs : List Deed) → length fs ≤ n → AtLoop (i + 1) w → Stays (length more) w fs u → Is (i + 1) w fs u)
+      → Stays (length (made.inc ∷ l.loop ∷ more)) s es u ⊎ Split (length more) (made.inc ∷ l.loop ∷ more) s u es → Is i t (Quiet ∷ es) u
+  into n i t s u es l body made few lt g s_is then_rounds (inl inner) =
+      in_a_round lt g (begins i t s l body made s_is) (subst (λ x. Stays x s es u) (longer made.inc l.loop) inner)
+  into n i t s u es l body made few lt g s_is then_rounds (inr parts) =
+      subst (λ x. Is i t (Quiet ∷ x) u) (sym parts.is)
+      (on_from n i t s parts.between u l body made parts.first parts.second lt g s_is parts.comes parts.there parts.here
+      (λ w fs less at_loop stay. then_rounds w fs
+      (let e = ap length parts.is in let f = length-append parts.first parts.second in omega (arith, e, f, few, less)) at_loop stay) parts.goes)
+
+  step : (n i : ℕ) (t s u : Thread) (d : Deed) (es : List Deed) → AtLoop i t → length es ≤ n → Goes (next_of t) d (Some s) → Stays (length more) s es u
+      → ((w : Thread) (fs : List Deed) → length fs ≤ n → AtLoop (i + 1) w → Stays (length more) w fs u → Is (i + 1) w fs u)
+      → (x : Bool) → nat_lt i b ≡ x → Is i t (d ∷ es) u
+  step n i t s u d es l few g stays then_rounds true lt =
+      let is =
+      loop_is l.loop (coded numbers (binary (private (named bytes)) Less limit)) (block_coded numbers (behind inside (only (step_of at (named bytes))))) l.is_loop in
+      let made = body_of is.body is.inside in
+      let next_is = asks i t l is ∙ ap (λ x. quiet (then_does t (chosen (one_if x) (is.body ++ l.loop ∷ more) more))) lt in
+      let after = after_quiet (subst (λ x. Goes x d (Some s)) next_is g) in
+      let s_is = some_is after.1 in
+      subst (λ x. Is i t (x ∷ es) u) (sym after.0)
+      (into n i t s u es l is.body made few (ltb-true i b lt) (subst (λ x. Goes (next_of t) x (Some s)) after.0 g) s_is then_rounds
+      (split (length more) (made.inc ∷ l.loop ∷ more) s u es made.block (begun i t s l is.body made s_is) stays))
+  step n i t s u d es l few g stays then_rounds false off =
+      let is =
+      loop_is l.loop (coded numbers (binary (private (named bytes)) Less limit)) (block_coded numbers (behind inside (only (step_of at (named bytes))))) l.is_loop in
+      let next_is = asks i t l is ∙ ap (λ x. quiet (then_does t (chosen (one_if x) (is.body ++ l.loop ∷ more) more))) off in
+      let after = after_quiet (subst (λ x. Goes x d (Some s)) next_is g) in
+      let s_is = some_is after.1 in
+      out_of_loop i t s u d es (at_least i off) after.0 (ap (λ x. x.rest) s_is) (ap (λ x. x.arrived) s_is ∙ l.here) g stays
+
   pub rounds : (n i : ℕ) (t u : Thread) (ds : List Deed) → length ds ≤ n → AtLoop i t → Stays (length more) t ds u → Is i t ds u
   rounds n i t u ds few l no_deed = nothing_yet
-  rounds zero i t u ds few l (one_deed has g stays) = absurd (omega arith)
+  rounds zero i t u ds few l (one_deed has g stays) = absurd (omega (arith, few))
   rounds (suc n) i t u ds few l (one_deed {u = s} {d = d} {ds = es} has g stays) =
-      by (nat_lt i b) refl
-    where
-      is : IsLoop l.loop (coded numbers (binary (private (named bytes)) Less limit)) (block_coded numbers (behind inside (only (step_of at (named bytes)))))
-      is = loop_is l.loop _ _ l.is_loop
-
-      made : Body is.body
-      made = body_of is.body is.inside
-
-      by : (x : Bool) → nat_lt i b ≡ x → Is i t (d ∷ es) u
-      by true lt =
-          let next_is = asks i t l is ∙ ap (λ x. quiet (then_does t (chosen (one_if x) (is.body ++ l.loop ∷ more) more))) lt in
-          let after = after_quiet (subst (λ x. Goes x d (Some s)) next_is g) in
-          let s_is = some_is after.1 in
-          let goes_on = subst (λ x. Goes (next_of t) x (Some s)) after.0 g in
-          subst (λ x. Is i t (x ∷ es) u) (sym after.0)
-          (on goes_on s_is (split (length more) (made.inc ∷ l.loop ∷ more) s u es made.block (begun i t s l is.body made s_is) stays))
-        where
-          on : Goes (next_of t) Quiet (Some s) → s ≡ then_does t (is.body ++ l.loop ∷ more)
-              → Stays (length (made.inc ∷ l.loop ∷ more)) s es u ⊎ Split (length more) (made.inc ∷ l.loop ∷ more) s u es → Is i t (Quiet ∷ es) u
-          on goes_on s_is (inl within) =
-              in_a_round (ltb-true i b lt) goes_on (begins i t s l is.body made s_is) (subst (λ x. Stays x s es u) (longer made.inc l.loop) within)
-          on goes_on s_is (inr parts) =
-              subst (λ x. Is i t (Quiet ∷ x) u) (sym parts.is)
-              (on_from n i t s parts.between u l is.body made parts.first parts.second (ltb-true i b lt) goes_on s_is parts.comes parts.there parts.here
-              (λ w fs less at_loop stay. rounds n (i + 1) w u fs (let e = ap length parts.is in let f = length-append parts.first parts.second in omega (arith, e, f)) at_loop stay)
-              parts.goes)
-      by false not =
-          let next_is = asks i t l is ∙ ap (λ x. quiet (then_does t (chosen (one_if x) (is.body ++ l.loop ∷ more) more))) not in
-          let after = after_quiet (subst (λ x. Goes x d (Some s)) next_is g) in
-          let s_is = some_is after.1 in
-          out_of_loop i t s u d es (at_least i not) after.0 (ap (λ x. x.rest) s_is) (ap (λ x. x.arrived) s_is ∙ l.here) g stays
+      step n i t s u d es l (omega (arith, few)) g stays (λ w fs less at_loop stay. rounds n (i + 1) w u fs less at_loop stay) (nat_lt i b) refl
 
 pub whole : (numbers : Numbers) (token : ℕ) (name : Named) (first limit : Expression) (inside : Block) (more : List Statement) (t : Thread) (a b : ℕ)
     → numbers.of_named name.bytes < length t.privates

@@ -66,7 +66,7 @@ module _ (k : ℕ) (declared : List Declared) where
             let now : k ≤ between = within k taken between le one.grows in
             let set = later between now in
             let then_le : k ≤ between + 1 = omega arith in
-            both before _ (one.keeps le) (set, (both inside _ (other.keeps then_le) (set, tt), tt), tt);
+            both before _ (one.keeps le) (set, ((both inside _ (other.keeps then_le) (set, tt), tt), tt));
         grows = let a = one.grows in let b = other.grows in omega (arith, a, b);
       }
 
@@ -151,21 +151,21 @@ module _ (k : ℕ) (declared : List Declared) where
     core_keeps (rule.asserted_after {held = held} {after = after} {before = before} m divides) le =
         let f = made_before m in
         let set = later after (within k held after le f.grows) in
-        both before _ (f.keeps le) (set, set, tt)
+        both before _ (f.keeps le) (set, (set, tt))
     core_keeps (rule.chosen c) le = choice_keeps c le
     core_keeps (rule.repeated {before = before} {within = inside} {again = again} m c n) le =
         both before _ ((made_before m).keeps le) (both inside again (cores_keep c le) ((made_before n).keeps le), tt)
     core_keeps (rule.counted {held = held} {between = between} {name = name} {one = one} {two = two} {within = inside} m n free c) le =
         let f = made_before m in
         both one _ (f.keeps le) (both two _ ((made_before n).keeps (within k held between le f.grows))
-        (tt, (both inside _ (cores_keep c le) (tt, tt)), tt))
+        (tt, ((both inside _ (cores_keep c le) (tt, tt)), tt)))
     core_keeps (rule.counted_held m n has h) le = held_for_keeps h le
 
     held_with_keeps : {held token close : ℕ} {p : Place} {inside : tree.Block} {core : Block} → IsHeldWith declared held token p inside close core
         → k ≤ held → Keep k core
     held_with_keeps (rule.a_held_with {held = held} {before = before} {within = inside} m x c) le =
         both before _ ((address_before x).keeps (next_le held le))
-        (later held le, tt, both inside _ (cores_keep c (next_le held le)) (tt, tt))
+        (later held le, (tt, both inside _ (cores_keep c (next_le held le)) (tt, tt)))
 
     held_for_keeps : {held token : ℕ} {name : Named} {first end : tree.Expression} {inside : tree.Block} {core : Block}
         → IsHeldFor declared held token name first end inside core → k ≤ held → Keep k core
@@ -173,7 +173,7 @@ module _ (k : ℕ) (declared : List Declared) where
         let f = made_before m in
         let now = next_le held le in
         both one _ (f.keeps now) (both two _ ((made_before n).keeps (within k (held + 1) between now f.grows))
-        (later held le, tt, (both inside _ (cores_keep c now) (tt, tt)), tt))
+        (later held le, (tt, ((both inside _ (cores_keep c now) (tt, tt)), tt))))
 
     choice_keeps : {held token : ℕ} {condition : tree.Expression} {then otherwise : tree.Block} {others : Arms} {core : Block}
         → IsChoice declared held token condition then others otherwise core → k ≤ held → Keep k core

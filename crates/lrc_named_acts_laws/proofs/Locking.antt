@@ -110,7 +110,7 @@ with_releases numbers t s u at last word inside more l ds stands value is_steady
     let (r, none, zs_parts, r_is, none_here) = first_is zs (statement_coded numbers (release last word)) lang.empty zs_is in
     let list_is : b.rest ≡ ys ++ (r ∷ []) = parts ∙ ap (λ x. ys ++ x) (zs_parts ∙ ap (λ x. r ∷ x) (none_is none none_here)) in
     let rest_is : s.rest ≡ ys ++ (r ∷ more) = ap (λ x. x.rest) went.1 ∙ ap (λ x. x ++ more) list_is ∙ append_assoc ys (r ∷ []) more in
-    let by = along s u ds ys (r ∷ more) rest_is (subst (λ n. Stays n s ds u) (one_behind r more) stays) in
+    let by = along (r ∷ more) s u ds ys rest_is (subst (λ n. Stays n s ds u) (one_behind r more) stays) in
     let value_then : value_at numbers u word ≡ Some l =
     steady numbers s u word inside is_steady by.setting (λ k all. by.worth_kept (numbers.of_own k) (subst (KeepAll (numbers.of_own k)) (sym ys_is) all))
     ∙ ap (λ x. value_at numbers x word) went.1 ∙ value in
@@ -125,12 +125,12 @@ no_word n words is few = le-ltb n words (omega (arith, is))
 trap_of : (b : Bool) (n : Next) (c : Cause) (d : Deed) (after : Option Thread) → b ≡ false → Goes (if b then n else traps c) d after
     → (cause : Cause) × (d ≡ deeds.Trap cause) × (after ≡ None)
 trap_of true n c d after is g = absurd (cc)
-trap_of false n c d after is g = (c, after_trap g)
+trap_of false n c d after is g = let h = after_trap g in (c, h.0, h.1)
 
 trap_or : (o : Option ℕ) (go : ℕ → Next) (d : Deed) (after : Option Thread)
     → ((v : ℕ) → Goes (go v) d after → (cause : Cause) × (d ≡ deeds.Trap cause) × (after ≡ None))
     → Goes (or_trap o go) d after → (cause : Cause) × (d ≡ deeds.Trap cause) × (after ≡ None)
-trap_or None go d after each g = (DivisionByZero, after_trap g)
+trap_or None go d after each g = let h = after_trap g in (DivisionByZero, h.0, h.1)
 trap_or (Some v) go d after each g = each v g
 
 pub no_element : (numbers : Numbers) (t : Thread) (word : Expression) (those : Block) (more : List Statement)

@@ -52,11 +52,11 @@ both t u v todo base l m =
     }
 
 -- deeds keep what each of them keeps
-pub along : (t u : Thread) (ds : List Deed) (todo base : List Statement) → t.rest ≡ todo ++ base → Stays (length base) t ds u → Leads t u todo base
-along t u ds todo base is no_deed = no_step t todo base is
-along t v ds todo base is (one_deed {u = u} {d = d} {ds = es} more g rest) =
+pub along : (base : List Statement) (t u : Thread) (ds : List Deed) (todo : List Statement) → t.rest ≡ todo ++ base → Stays (length base) t ds u → Leads t u todo base
+along base t u ds todo is no_deed = no_step t todo base is
+along base t v ds todo is (one_deed {u = u} {d = d} {ds = es} more g rest) =
     let l = leads t u todo base d is more g in
-    both t u v todo base l (along u v es l.then_todo base l.rest rest)
+    both t u v todo base l (along base u v es l.then_todo l.rest rest)
 
 -- ---- up to where it comes to some statements
 
