@@ -1,10 +1,10 @@
 -- Names by their first place: the number of a name is the same at its first place and at all later ones.
-use Rattle.std.proofs.Common.{◌≡◌, ℕ, ◌+◌, ◌<◌, Bool, true, false, not, cond, eqb, List, [], ◌∷◌, ◌++◌, length, map, refl, sym, ap, ap₂, subst, arith, ◌∙◌}
+use Rattle.std.proofs.Common.{◌≡◌, ℕ, ◌+◌, ◌<◌, suc, Bool, true, false, not, cond, eqb, List, [], ◌∷◌, ◌++◌, length, map, refl, sym, ap, ap₂, subst, arith, ◌∙◌}
 use Rattle.std.specs.Prelude.{◌||◌, if◌then◌else◌}
 use Rattle.std.specs.Bool.{Decides}
 use Rattle.std.specs.List.{list_any}
 use Rattle.std.specs.Str.{bytes_eq}
-use Rattle.std.proofs.lemmas.Bool.{eqb-refl, ne_eqb}
+use Rattle.std.proofs.lemmas.Bool.{eq-eqb, ne_eqb}
 use Rattle.std.proofs.lemmas.List.Folds.{position_or_len_push}
 use Rattle.std.proofs.lemmas.Slice.Eq.{bytes_eq-Decides}
 use Rattle.lrc_lang.specs.Token.{Token, name, number, keyword, sign, finish}
@@ -31,52 +31,53 @@ abbrev same : List ℕ → List ℕ → Bool
 same bytes other = bytes_eq other bytes
 
 -- one that is among them has its place there
+step_below : (b : Bool) (n len : ℕ) → (b ≡ false → n < len) → cond (not b) (1 + n) 0 < suc len
+step_below true n len rest = omega arith
+step_below false n len rest = let h = rest refl in omega (arith, h)
+
 among_below : (names : Names) (bytes : List ℕ) → is_among names bytes ≡ true → number_of names bytes < length names
 among_below [] bytes is = absurd (cc)
-among_below (x ∷ names) bytes is = by (bytes_eq x bytes) refl
-  where
-    by : (b : Bool) → bytes_eq x bytes ≡ b → cond (not (bytes_eq x bytes)) (1 + number_of names bytes) 0 < length (x ∷ names)
-    by true here = let e = ap (λ c. cond (not c) (1 + number_of names bytes) 0) here in omega (arith, e)
-    by false here =
-        let e = ap (λ c. cond (not c) (1 + number_of names bytes) 0) here in
-        let f = among_below names bytes (ap (λ c. c || list_any (λ other. bytes_eq other bytes) names) (sym here) ∙ is) in
-        omega (arith, e, f)
+among_below (x ∷ names) bytes is =
+    step_below (bytes_eq x bytes) (number_of names bytes) (length names)
+    (λ off. among_below names bytes (ap (λ c. c || list_any (λ other. bytes_eq other bytes) names) (sym off) ∙ is))
+
+neither : (a b : Bool) → (a || b) ≡ false → (a ≡ false) × (b ≡ false)
+neither true b is = absurd (cc)
+neither false b is = (refl, is)
+
+step_not : (b : Bool) (n len : ℕ) → b ≡ false → n ≡ len → cond (not b) (1 + n) 0 ≡ suc len
+step_not true n len off e = absurd (cc)
+step_not false n len off e = omega (arith, e)
 
 among_not : (names : Names) (bytes : List ℕ) → is_among names bytes ≡ false → number_of names bytes ≡ length names
 among_not [] bytes is = refl
-among_not (x ∷ names) bytes is = by (bytes_eq x bytes) refl
-  where
-    by : (b : Bool) → bytes_eq x bytes ≡ b → cond (not (bytes_eq x bytes)) (1 + number_of names bytes) 0 ≡ length (x ∷ names)
-    by true here = let no = sym is ∙ ap (λ c. c || list_any (λ other. bytes_eq other bytes) names) here in absurd (cc)
-    by false here =
-        let e = ap (λ c. cond (not c) (1 + number_of names bytes) 0) here in
-        let f = among_not names bytes (ap (λ c. c || list_any (λ other. bytes_eq other bytes) names) (sym here) ∙ is) in
-        omega (arith, e, f)
+among_not (x ∷ names) bytes is =
+    let off = neither (bytes_eq x bytes) (list_any (λ other. bytes_eq other bytes) names) is in
+    step_not (bytes_eq x bytes) (number_of names bytes) (length names) off.0 (among_not names bytes off.1)
+
+step_any : (b l m : Bool) → (b || l) ≡ true → (l ≡ true → m ≡ true) → (b || m) ≡ true
+step_any true l m is rest = refl
+step_any false l m is rest = rest is
 
 any_push : (names : Names) (bytes new : List ℕ) → is_among names bytes ≡ true → is_among (names ++ new ∷ []) bytes ≡ true
 any_push [] bytes new is = absurd (cc)
-any_push (x ∷ names) bytes new is = by (bytes_eq x bytes) refl
-  where
-    by : (b : Bool) → bytes_eq x bytes ≡ b → (bytes_eq x bytes || is_among (names ++ new ∷ []) bytes) ≡ true
-    by true here = ap (λ c. c || is_among (names ++ new ∷ []) bytes) here
-    by false here =
-        ap (λ c. c || is_among (names ++ new ∷ []) bytes) here
-        ∙ any_push names bytes new (ap (λ c. c || is_among names bytes) (sym here) ∙ is)
+any_push (x ∷ names) bytes new is =
+    step_any (bytes_eq x bytes) (is_among names bytes) (is_among (names ++ new ∷ []) bytes) is (λ h. any_push names bytes new h)
 
 same_itself : (bytes : List ℕ) → bytes_eq bytes bytes ≡ true
 same_itself bytes = by (bytes_eq bytes bytes) (bytes_eq-Decides bytes bytes)
   where
     by : (b : Bool) → Decides b (bytes ≡ bytes) → b ≡ true
     by true d = refl
-    by false d = absurd (d.1 refl)
+    by false d = d.1 refl
+
+or_right : (b m : Bool) → m ≡ true → (b || m) ≡ true
+or_right true m is = refl
+or_right false m is = is
 
 among_itself : (names : Names) (bytes : List ℕ) → is_among (names ++ bytes ∷ []) bytes ≡ true
 among_itself [] bytes = ap (λ b. b || false) (same_itself bytes)
-among_itself (x ∷ names) bytes = by (bytes_eq x bytes)
-  where
-    by : (b : Bool) → (b || is_among (names ++ bytes ∷ []) bytes) ≡ true
-    by true = refl
-    by false = among_itself names bytes
+among_itself (x ∷ names) bytes = or_right (bytes_eq x bytes) (is_among (names ++ bytes ∷ []) bytes) (among_itself names bytes)
 
 -- a name that is among them keeps its number
 stays_pushed : (names : Names) (bytes new : List ℕ) → is_among names bytes ≡ true → number_of (names ++ new ∷ []) bytes ≡ number_of names bytes
@@ -114,15 +115,12 @@ just_come : (names : Names) (bytes : List ℕ) (b : Bool) → is_among names byt
 just_come names bytes true is = (is, refl)
 just_come names bytes false is =
     let last = among_not names bytes is in
-    let at_end : eqb (number_of names bytes) (length names) ≡ true = ap (λ n. eqb n (length names)) last ∙ same_number (length names) in (
+    let at_end : eqb (number_of names bytes) (length names) ≡ true = ap (λ n. eqb n (length names)) last ∙ eq-eqb (length names) (length names) refl in (
       among_itself names bytes,
       position_or_len_push (same bytes) names bytes
           ∙ ap₂ (λ b c. cond b (length names + cond c 0 1) (number_of names bytes)) at_end (same_itself bytes)
           ∙ (let e = last in omega (arith, e)),
     )
-  where
-    same_number : (n : ℕ) → eqb n n ≡ true
-    same_number n = eqb-refl n
 
 symbol_stays : (t : Token) (ts : List Token) (names : Names) → symbol_of names t ≡ symbol_of (all_names (names_with names t) ts) t
 symbol_stays (number n) ts names = refl

@@ -58,20 +58,20 @@ Between terms = IsSum
 Between sums = IsExpression
 
 -- what it makes stands where there is room for it, and else in parentheses
-placed : (names : Names) (room : Room) (j : Joins) {e : lang.Expression} (inside : List Token → List Token) (ts : List Token)
+placed : (names : Names) (room : Room) (j : Joins) (e : lang.Expression) (inside : List Token → List Token) (ts : List Token)
     → ((us : List Token) → Between j e (Sy names (inside us)) (Sy names us)) → IsIn room e (Sy names (grouped_tokens (is_grouped room j) inside ts)) (Sy names ts)
-placed names Factor factors inside ts h = grammar.parentheses (grammar.one_sum (grammar.term (h (sign signs.CloseParenthesis ∷ ts))))
-placed names Factor terms inside ts h = grammar.parentheses (grammar.one_sum (h (sign signs.CloseParenthesis ∷ ts)))
-placed names Factor sums inside ts h = grammar.parentheses (h (sign signs.CloseParenthesis ∷ ts))
-placed names Term factors inside ts h = h ts
-placed names Term terms inside ts h = grammar.factor (grammar.parentheses (grammar.one_sum (h (sign signs.CloseParenthesis ∷ ts))))
-placed names Term sums inside ts h = grammar.factor (grammar.parentheses (h (sign signs.CloseParenthesis ∷ ts)))
-placed names Sum factors inside ts h = grammar.term (h ts)
-placed names Sum terms inside ts h = h ts
-placed names Sum sums inside ts h = grammar.term (grammar.factor (grammar.parentheses (h (sign signs.CloseParenthesis ∷ ts))))
-placed names Whole factors inside ts h = grammar.one_sum (grammar.term (h ts))
-placed names Whole terms inside ts h = grammar.one_sum (h ts)
-placed names Whole sums inside ts h = h ts
+placed names Factor factors e inside ts h = grammar.parentheses (grammar.one_sum (grammar.term (h (sign signs.CloseParenthesis ∷ ts))))
+placed names Factor terms e inside ts h = grammar.parentheses (grammar.one_sum (h (sign signs.CloseParenthesis ∷ ts)))
+placed names Factor sums e inside ts h = grammar.parentheses (h (sign signs.CloseParenthesis ∷ ts))
+placed names Term factors e inside ts h = h ts
+placed names Term terms e inside ts h = grammar.factor (grammar.parentheses (grammar.one_sum (h (sign signs.CloseParenthesis ∷ ts))))
+placed names Term sums e inside ts h = grammar.factor (grammar.parentheses (h (sign signs.CloseParenthesis ∷ ts)))
+placed names Sum factors e inside ts h = grammar.term (h ts)
+placed names Sum terms e inside ts h = h ts
+placed names Sum sums e inside ts h = grammar.term (grammar.factor (grammar.parentheses (h (sign signs.CloseParenthesis ∷ ts))))
+placed names Whole factors e inside ts h = grammar.one_sum (grammar.term (h ts))
+placed names Whole terms e inside ts h = grammar.one_sum (h ts)
+placed names Whole sums e inside ts h = h ts
 
 -- an operator joins what stands on its two sides
 joined : (names : Names) (o : Operator) (j : Joins) (left right : Expression) (us : List Token) → joins o ≡ j
@@ -102,7 +102,7 @@ expression_parsed names (core.private x) room ts =
 expression_parsed names core.me room ts = from_factor room grammar.me
 expression_parsed names core.nodes room ts = from_factor room grammar.nodes
 expression_parsed names (core.binary left o right) room ts =
-    placed names room (joins o)
+    placed names room (joins o) (lang.binary (coded (numbers_among names) left) o (coded (numbers_among names) right))
     (λ us. expression_tokens (left_room (joins o)) left (sign (sign_of o) ∷ expression_tokens (right_room (joins o)) right us)) ts
     (λ us. joined names o (joins o) left right us refl
     (expression_parsed names left (left_room (joins o)) (sign (sign_of o) ∷ expression_tokens (right_room (joins o)) right us))

@@ -24,7 +24,7 @@ use Rattle.lrc_named_text.specs.Statements.{block_text, core_text, deeper, else_
 use Rattle.lrc_named_text.specs.declared.expression.Room.{Room}
 use Rattle.lrc_named_text.specs.declared.expression.Room.TheVariants.{Whole}
 use Rattle.lrc_named_text_laws.specs.Spelled.{AreLabelled, AreSpelled, Fits, IsLabelled, IsLabelledAs, IsName, IsSpelled, IsSpelledName, IsSpelledStatement}
-use Rattle.lrc_named_text_laws.proofs.Lexing.{IsCalm, Stands, begins_behind, begins_digit, begins_weaker, blank, calm, comment, digits, ended, feed, long, named, numbered, own_is_name, short, word}
+use Rattle.lrc_named_text_laws.proofs.Lexing.{IsCalm, Stands, begins_behind, begins_digit, begins_weaker, blank, calm, comment, digits, ended, feed, long, numbered, own_is_name, short, word}
 use Rattle.lrc_named_text_laws.proofs.Lexing as lexing
 use Rattle.lrc_named_text_laws.proofs.Tokens.{block_tokens, else_tokens, expression_tokens, grouped_tokens, program_tokens, sign_of, statement_tokens}
 
@@ -166,7 +166,7 @@ all_such {P} {Q} f [] all = All-nil Q
 all_such {P} {Q} f (b ∷ text) all = All-cons Q b text (f b (All-head P b text all)) (all_such f text (All-tail P b text all))
 
 within_number : (n : ℕ) → Fits n → All IsWithinLine (decimal n)
-within_number n small = all_such {IsDigit} {IsWithinLine} no_feed_digit (decimal n) (digits n small)
+within_number n small = all_such {P = IsDigit} {Q = IsWithinLine} no_feed_digit (decimal n) (digits n small)
 
 -- literal bytes above the line feed
 above : List ℕ → Bool
@@ -203,7 +203,7 @@ pub record Passes (indent : List ℕ) : Type 0 where
   pub apart : (rest : List ℕ) → ¬ BeginsWith (λ b. b ≡ 61) rest → ¬ BeginsWith (λ b. b ≡ 61) (indent ++ rest)
 
 pub passes_none : Passes []
-passes_none = record { over = λ rest ts h. h; apart = λ rest free. free; }
+passes_none = record { over = λ rest ts h. h; apart = λ rest free. free }
 
 pub passes_deeper : (indent : List ℕ) → Passes indent → Passes (deeper indent)
 passes_deeper indent p = record {
@@ -409,34 +409,34 @@ sizes_within (size ∷ sizes) fit =
     All-append IsWithinLine (codes " " ++ decimal size) (sizes_text sizes)
     (All-append IsWithinLine (codes " ") (decimal size) (within_literal (codes " ") refl) (within_number size fit.0)) (sizes_within sizes fit.1)
 
-item_stands : (k name : List ℕ) (first : ℕ) (sizes : List ℕ) (rest : List ℕ) {ts : List Token} → All IsWithinLine k → IsLabelled name first sizes → Stands rest ts
-    → Stands (item_text (35 ∷ k) name first sizes ++ rest) ts
+item_stands : (k label : List ℕ) (first : ℕ) (sizes : List ℕ) (rest : List ℕ) {ts : List Token} → All IsWithinLine k → IsLabelled label first sizes → Stands rest ts
+    → Stands (item_text (35 ∷ k) label first sizes ++ rest) ts
 unfolding above
-item_stands k name first [] rest all is h =
-    label_line k (codes " " ++ decimal first ++ codes " " ++ name) rest all
-    (All-append IsWithinLine (codes " " ++ decimal first ++ codes " ") name
+item_stands k label first [] rest all is h =
+    label_line k (codes " " ++ decimal first ++ codes " " ++ label) rest all
+    (All-append IsWithinLine (codes " " ++ decimal first ++ codes " ") label
     (All-append IsWithinLine (codes " " ++ decimal first) (codes " ")
     (All-append IsWithinLine (codes " ") (decimal first) (within_literal (codes " ") refl) (within_number first is.1)) (within_literal (codes " ") refl))
-    (all_such {IsLetterOrDigit} {IsWithinLine} no_feed_name name is.0)) h
-item_stands k name first (size ∷ sizes) rest all is h =
+    (all_such {P = IsLetterOrDigit} {Q = IsWithinLine} no_feed_name label is.0)) h
+item_stands k label first (size ∷ sizes) rest all is h =
     let last = first + (elements (size ∷ sizes) - 1) in
-    label_line k (codes "s " ++ decimal first ++ codes " " ++ decimal last ++ (codes " " ++ name) ++ sizes_text sizes) rest all
-    (All-append IsWithinLine (codes "s " ++ decimal first ++ codes " " ++ decimal last ++ (codes " " ++ name)) (sizes_text sizes)
-    (All-append IsWithinLine (codes "s " ++ decimal first ++ codes " " ++ decimal last) (codes " " ++ name)
+    label_line k (codes "s " ++ decimal first ++ codes " " ++ decimal last ++ (codes " " ++ label) ++ sizes_text sizes) rest all
+    (All-append IsWithinLine (codes "s " ++ decimal first ++ codes " " ++ decimal last ++ (codes " " ++ label)) (sizes_text sizes)
+    (All-append IsWithinLine (codes "s " ++ decimal first ++ codes " " ++ decimal last) (codes " " ++ label)
     (All-append IsWithinLine (codes "s " ++ decimal first ++ codes " ") (decimal last)
     (All-append IsWithinLine (codes "s " ++ decimal first) (codes " ")
     (All-append IsWithinLine (codes "s ") (decimal first) (within_literal (codes "s ") refl) (within_number first is.1)) (within_literal (codes " ") refl))
     (within_number last is.2))
-    (All-append IsWithinLine (codes " ") name (within_literal (codes " ") refl) (all_such {IsLetterOrDigit} {IsWithinLine} no_feed_name name is.0)))
+    (All-append IsWithinLine (codes " ") label (within_literal (codes " ") refl) (all_such {P = IsLetterOrDigit} {Q = IsWithinLine} no_feed_name label is.0)))
     (sizes_within sizes is.3)) h
 
-label_stands : (name : List ℕ) (meaning : Meaning) (rest : List ℕ) {ts : List Token} → IsLabelledAs name meaning → Stands rest ts
-    → Stands (label_text name meaning ++ rest) ts
+label_stands : (label : List ℕ) (meaning : Meaning) (rest : List ℕ) {ts : List Token} → IsLabelledAs label meaning → Stands rest ts
+    → Stands (label_text label meaning ++ rest) ts
 unfolding above
-label_stands name (constant n) rest is h = h
-label_stands name (shared item) rest is h = item_stands (codes ": word") name item.first item.sizes rest (within_literal (codes ": word") refl) is h
-label_stands name (lock item) rest is h = item_stands (codes ": lock") name item.first item.sizes rest (within_literal (codes ": lock") refl) is h
-label_stands name (function parameters body) rest is h = h
+label_stands label (constant n) rest is h = h
+label_stands label (shared item) rest is h = item_stands (codes ": word") label item.first item.sizes rest (within_literal (codes ": word") refl) is h
+label_stands label (lock item) rest is h = item_stands (codes ": lock") label item.first item.sizes rest (within_literal (codes ": lock") refl) is h
+label_stands label (function parameters body) rest is h = h
 
 labels_stand : (declared : List Declared) (rest : List ℕ) {ts : List Token} → AreLabelled declared → Stands rest ts → Stands (labels_text declared ++ rest) ts
 labels_stand [] rest is h = h
@@ -466,4 +466,4 @@ core_stands words locks declared lines statements small_words small_locks labell
     (blank (word keywords.Locks (32 ∷ (decimal locks ++ (codes ";\n" ++ behind))) (calm_blank (decimal locks ++ (codes ";\n" ++ behind)))
     (blank (numbered locks (codes ";\n" ++ behind) small_locks (calm_end (10 ∷ behind))
     (semicolon (10 ∷ behind) (calm_feed behind).no_sign_goes_on
-    (feed (labels_stand declared (block_text lines [] statements) labelled body))))))))))
+    (feed (labels_stand declared (block_text lines [] statements) labelled body)))))))))))
