@@ -1,6 +1,6 @@
 -- The intervals that are stored at a node, with the changes that are.
-use Rattle.std.specs.Prelude.{ℕ, ◌==◌, ◌&&◌, Bool, not, Option, None, List, ◌++◌, codes, decimal, filter, filter_map}
-use Rattle.std.specs.Prelude.{if◌then◌else◌, length, map, nat_lt, option_map}
+use Rattle.std.specs.Prelude.{ℕ, ◌==◌, ◌&&◌, Bool, false, not, Option, None, List, ◌++◌, codes, decimal, filter, filter_map}
+use Rattle.std.specs.Prelude.{if◌then◌else◌, length, map, nat_lt, option_map, slice_get, unwrap_or}
 use Rattle.std.specs.List.{list_any}
 use Rattle.std.specs.Cmp.{IsEquivalence, and_equiv, nat_eq_equiv, on_equiv}
 use Rattle.std.specs.Cmp.Lexicographic.{pointwise}
@@ -57,6 +57,10 @@ is_same a b =
 
 abbrev pub is_known : List StoredInterval → StoredInterval → Bool
 is_known known stored = list_any (is_same stored) known
+
+-- the same of the one at a place
+abbrev pub is_at : List StoredInterval → (place : ℕ) → StoredInterval → Bool
+is_at known place stored = unwrap_or (option_map (is_same stored) (slice_get known place)) false
 
 -- those that were not known, or had other changes
 abbrev pub not_known : List StoredInterval → List StoredInterval → List StoredInterval

@@ -1,7 +1,8 @@
 // The intervals of a node that were shown before.
 
-ghost use Rattle.std.specs.Prelude.{◌≡◌, ◌<◌, [], IfOk};
-ghost use Rattle.lrc_state_text.specs.Intervals.{is_known, not_known, stored_in};
+ghost use Rattle.std.specs.Prelude.{◌≡◌, ◌<◌, ◌∷◌, ◌++◌, [], IfOk, OnOk, is_some};
+ghost use Rattle.std.specs.List.{position};
+ghost use Rattle.lrc_state_text.specs.Intervals.{is_at, is_known, is_same, not_known, stored_in};
 
 use crate::stored::{StoredInterval, stored_in};
 use lrc_node::NodeState;
@@ -41,11 +42,51 @@ impl Known {
         Ok(Known { list })
     }
 
-    // Whether an interval was shown with these changes.
-    fn has(&self, stored: &StoredInterval) -> bool
-        ensures { result ≡ is_known self.now stored.now }
+    // Whether an interval stands at a place with these changes.
+    fn is_at(&self, place: usize, stored: &StoredInterval) -> bool
+        ensures { result ≡ is_at self.now place stored.now }
     {
-        self.list.iter().any(|known| stored.is_same(known))
+        match self.list.get(place) {
+            Some(known) => stored.is_same(known),
+            None => false,
+        }
+    }
+
+    // The first place at which an interval stands with these changes.
+    fn first_place(&self, stored: &StoredInterval) -> Option<usize>
+        ensures { result ≡ position (is_same stored.now) self.now }
+    {
+        self.list.iter().position(|known| stored.is_same(known))
+    }
+
+    // A place at which an interval stands with these changes, if there is one. The given place is looked at first.
+    fn place_of(&self, likely: usize, stored: &StoredInterval) -> Option<usize>
+        ensures { is_some result ≡ is_known self.now stored.now }
+    {
+        if self.is_at(likely, stored) {
+            return Some(likely);
+        }
+        self.first_place(stored)
+    }
+
+    // Adds an interval to others, unless it was shown with these changes. Returns at which place the next one is likely to
+    // have been shown.
+    fn push_new(
+        &self,
+        found: &mut Vec<StoredInterval>,
+        likely: usize,
+        stored: StoredInterval,
+    ) -> Result<usize, AllocError>
+        ensures { OnOk result (found.new.items
+            ≡ found.old.items ++ not_known self.now (stored ∷ [])) }
+    {
+        match self.place_of(likely, &stored) {
+            Some(place) => Ok(place.saturating_add(1)),
+            None => {
+                found.push(stored)?;
+                Ok(likely)
+            }
+        }
     }
 
     /// Returns the intervals of a state that were not shown before, or that have other changes now.
@@ -57,9 +98,13 @@ impl Known {
         ensures { IfOk result (λ found. found.items
             ≡ not_known self.now (stored_in state.now.memory)) }
     {
-        let mut all = all_stored(alloc, state)?;
-        all.retain(|stored| !self.has(stored));
-        Ok(all)
+        let all = all_stored(alloc, state)?;
+        let mut found = Vec::new(alloc);
+        let mut likely = 0;
+        for stored in all {
+            likely = self.push_new(&mut found, likely, stored)?;
+        }
+        Ok(found)
     }
 }
 

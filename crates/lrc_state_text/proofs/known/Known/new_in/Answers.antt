@@ -1,11 +1,11 @@
-use Rattle.std.proofs.Common.{◌∙◌, ap, not, rules}
-use Rattle.std.specs.Prelude.{filter}
-use Rattle.std.proofs.lemmas.Fn.{filter_same}
-use Rattle.lrc_state_text.specs.Intervals.{is_known, StoredInterval}
+use Rattle.std.proofs.Common.{◌∙◌, ◌++◌, ◌∷◌, [], List, ap, not, sym}
+use Rattle.std.proofs.lemmas.List.Elements.{filter-append}
+use Rattle.lrc_state_text.specs.Intervals.{StoredInterval, is_known, not_known}
 use Rattle.lrc_state_text.proofs.known.Known.new_in.Goals as goal
 
-pub returns : goal.returns
-returns c =
-    filter_same _ (λ (stored : StoredInterval). not (is_known c.args.self.now stored)) _ (λ x b f' h. (search rules, search rules))
-    c.in_ok-all.all.items c.retain.new.self.items c.retain.ensures.filtered
-    ∙ ap (filter (λ (stored : StoredInterval). not (is_known c.args.self.now stored))) c.in_ok-all.ensures
+pub loop-stored-preserved : goal.loop-stored-preserved
+loop-stored-preserved c =
+    let known = c.args.self.now in
+    let stored = c.in-Some.stored in
+    c.in_ok-likely.ensures ∙ ap (λ (l : List StoredInterval). l ++ not_known known (stored ∷ [])) c.loop-stored.invariant
+    ∙ sym (filter-append (λ (one : StoredInterval). not (is_known known one)) c.loop-stored.yielded (stored ∷ []))

@@ -1,0 +1,6 @@
+pub mod Lexing
+pub mod Numbering
+pub mod Parsing
+pub mod Reading
+pub mod Texts
+pub mod Tokens
