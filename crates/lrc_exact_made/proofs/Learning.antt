@@ -85,7 +85,7 @@ module _ (size : Size) (nodes : ℕ) (made : List StoredRecord) (time : List ℕ
         (subst (λ k. k ≤ entry news.time q) (sym it.index_is) known)))) in
         let index = it.index_is in
         let own = same_entry q in
-        let then = after_entry q in
+        let join = after_entry q in
         record {
           interval = it.interval;
           member = it.member;
@@ -103,7 +103,7 @@ module _ (size : Size) (nodes : ℕ) (made : List StoredRecord) (time : List ℕ
         let later = b.later in
         let known = b.known in
         let own = same_entry q in
-        let then = after_entry q in
+        let join = after_entry q in
         let come : stamp_index made_stamps b.interval ≤ entry news.time q = omega arith in
         let e : IsExactly size b.interval (news.interval q (stamp_index made_stamps b.interval)) = n.exactly.each b.interval b.member come in
         record {
@@ -133,7 +133,7 @@ module _ (size : Size) (nodes : ℕ) (made : List StoredRecord) (time : List ℕ
         elim s [
           | inl b ↦
               let known = b.known in
-              let then = after_entry b.interval.node in
+              let join = after_entry b.interval.node in
               record { interval = b.interval; member = b.member; later = b.later; known = omega arith; ranked = b.ranked; changed = b.changed }
           | inr b ↦
               let later = b.later in

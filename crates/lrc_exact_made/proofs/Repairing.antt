@@ -166,9 +166,9 @@ module _ (made : List StoredRecord) (page : ℕ) (collected since time : List �
       let there : Contains (intervals_of store) i = (k.just i).1 (interval-in made b.interval b.member, over, b.known) in
       let names : list_any (λ named. named == page) i.pages ≡ true =
       elim (cases_Bool (list_any (λ named. named == page) i.pages)) [
-        | inl yes ↦ yes
+        | inl there ↦ there
         | inr none ↦
-            absurd (no_changes b.interval offset value (unnamed page b.interval (λ yes. both_ways (list_any (λ named. named == page) i.pages) none yes)) b.changed)
+            absurd (no_changes b.interval offset value (unnamed page b.interval (λ some. both_ways (list_any (λ named. named == page) i.pages) none some)) b.changed)
       ] in
       let new : not (knows since i.node (index_of i)) ≡ true =
       ap not (false_from_ne_true (knows since i.node (index_of i)) (λ e. let le = leb-true (index_of i) (entry since i.node) e in omega arith)) in

@@ -1,0 +1,25 @@
+// What runs of the protocol machine read, and what their intervals made, by the acts alone. Each function is a theorem: its body is
+// empty, and its clauses are the law. The statements stand in specs/, so that others can cite them.
+
+ghost use Rattle.lrc_exact_worlds.specs.Laws.{ActsFixWhatWasMade, AreExactRuns, OrderFixesActs, ReadExactly, WasExactlyMade};
+
+/// In every run in which barriers never collect, whatever the messages' order and however often they come, each read
+/// gives the exact memory's value.
+pub fn runs_read_exactly()
+    ensures reads { ReadExactly }
+    ensures runs { AreExactRuns }
+{}
+
+/// So the acts are a function of the program, the nodes, the size of a page and the order in which the nodes act. (By the
+/// law `only_locks_decide` the order in which they acquire each lock decides all.)
+pub fn the_order_fixes_the_acts()
+    ensures { OrderFixesActs }
+{}
+
+/// In every such run there is one list of intervals with their changes, with which the nodes and the acts agree, and in
+/// which each interval has the weight, the pages and the changes that the exact memory gives it. An interval that a node
+/// has closed for an acquire that is still to come has those that the acquire will give it.
+pub fn what_was_made_is_exact()
+    ensures made { WasExactlyMade }
+    ensures fixed { ActsFixWhatWasMade }
+{}
