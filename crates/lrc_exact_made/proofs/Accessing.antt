@@ -1,5 +1,5 @@
 -- Accesses: a node reads what the exact memory has, and a write leaves both alike.
-use Rattle.std.proofs.Common.{◌≡◌, ℕ, ◌<◌, ◌≤◌, ◌||◌, List, [], Bool, true, false, length, inl, inr, refl, sym, ap, subst, ◌∙◌, arith}
+use Rattle.std.proofs.Common.{◌≡◌, ℕ, ◌<◌, ◌||◌, List, Bool, true, false, length, inl, inr, refl, sym, ap, subst, ◌∙◌}
 use Rattle.std.specs.Prelude.{Option, Some, None, is_some, unwrap_or, ◌==◌, slice_index, slice_index_or, slice_set, if◌then◌else◌}
 use Rattle.std.proofs.lemmas.Bool.{cases_eq, cases_lt, eq-eqb, eqb-true, ne_eqb, false≢true}
 use Rattle.std.proofs.lemmas.List.{get_or_past, get_or-set_same, get_or-set_other}
@@ -118,7 +118,7 @@ module _ (size : Size) (nodes collect : ℕ) (made : List StoredRecord) (time : 
                 (λ copy. HasWord made time page offset copy (record (state.words word) { mark = None }) (state.before word)) (sym copy) (
                   ap unmarked (sym now),
                   before_none made time page offset (copy_at memory page) (state.words word) (state.before word)
-                  (ap (λ p. changes_of (copy_at memory p)) here ∙ unwritten) (h.copies page offset lt),
+                      (ap (λ p. changes_of (copy_at memory p)) here ∙ unwritten) (h.copies page offset lt),
                 ))
             | inr other ↦
                 subst (λ b. HasWord made time page offset (copy_at (with_copy memory at (valid values)) page) (looked word b) (state.before word))

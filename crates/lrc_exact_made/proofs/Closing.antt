@@ -1,8 +1,8 @@
 -- A node whose copies have what the exact memory has closes its interval with the changes that the exact memory gives it.
-use Rattle.std.proofs.Common.{◌≡◌, ℕ, ◌+◌, ◌<◌, ◌≤◌, ◌&&◌, List, [], ◌∷◌, ◌++◌, Bool, true, false, length, inl, inr, refl, sym, ap, subst, ◌∙◌, arith}
+use Rattle.std.proofs.Common.{◌≡◌, ℕ, ◌+◌, ◌<◌, ◌≤◌, ◌&&◌, List, [], ◌∷◌, ◌++◌, Bool, false, length, inl, inr, refl, sym, ap, subst, ◌∙◌, arith}
 use Rattle.std.specs.Prelude.{Option, Some, None, is_some, unwrap_or, ◌==◌, slice_index, Contains, if◌then◌else◌}
 use Rattle.std.proofs.lemmas.Bool.{cases_eq, eq-eqb, ne_eqb, eqb-true, and_parts, and_from, false_from_ne_true}
-use Rattle.std.proofs.lemmas.List.Elements.{Contains-append_left, Contains-push, Contains-push_cases}
+use Rattle.std.proofs.lemmas.List.Elements.{Contains-append_left, Contains-push_cases}
 use Rattle.lrc_time.specs.Time.{entry, weight_of, Covers}
 use Rattle.lrc_time.proofs.Times.{entry-set_same, entry-set_other, covers-raised, weight-raised}
 use Rattle.lrc_page.specs.declared.size.Size.{Size}
@@ -17,10 +17,10 @@ use Rattle.lrc_protocol.specs.Pages.{with_interval as storing}
 use Rattle.lrc_node_laws.proofs.OwnCopies.{map-copy}
 use Rattle.lrc_reading_laws.specs.Written.{made_stamps, word_on, changes_on}
 use Rattle.lrc_exact.specs.Memory.{Word, Interval}
-use Rattle.lrc_exact.specs.Rule.{Knowledge, State, change_of, open_interval, with_interval, closed}
+use Rattle.lrc_exact.specs.Rule.{State, change_of, open_interval, with_interval, closed}
 use Rattle.lrc_exact_known.specs.Learned.{TakesHighest}
 use Rattle.lrc_exact_marks.proofs.Ranks.{by_other_words}
-use Rattle.lrc_exact_made.specs.Copies.{IsExactly, AreExactly, IsChangeBetween, unmarked, HasWord, HasExact}
+use Rattle.lrc_exact_made.specs.Copies.{IsExactly, IsChangeBetween, unmarked, HasWord, HasExact}
 use Rattle.lrc_exact_made.specs.Steps.{IsClosing}
 
 no_some : (value : ℕ) → None ≡ Some value → ⊥

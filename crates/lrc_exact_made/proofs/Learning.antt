@@ -1,15 +1,14 @@
 -- A node whose copies have what the exact memory has learns news: copies of the pages that are named become invalid, and lack just the
 -- changes that the exact memory has put in place.
-use Rattle.std.proofs.Common.{◌≡◌, ℕ, ◌+◌, ◌<◌, ◌≤◌, ◌⊎◌, List, [], Bool, true, false, length, map, max, inl, inr, refl, sym, ap, subst, ◌∙◌, arith}
-use Rattle.std.specs.Prelude.{Option, Some, None, is_some, nat_le, slice_index, slice_index_or, Contains, if◌then◌else◌}
+use Rattle.std.proofs.Common.{◌≡◌, ℕ, ◌<◌, ◌≤◌, List, Bool, true, false, length, map, max, inl, inr, refl, sym, ap, subst, ◌∙◌, arith}
+use Rattle.std.specs.Prelude.{Option, Some, None, is_some, nat_le, slice_index, Contains, if◌then◌else◌}
 use Rattle.std.specs.List.{enumerate_from}
-use Rattle.std.proofs.lemmas.Bool.{cases_lt, cases_Bool, leb-true, leb-false, le-leb}
+use Rattle.std.proofs.lemmas.Bool.{cases_lt, leb-true, leb-false, le-leb}
 use Rattle.std.proofs.lemmas.List.{get_or_past}
 use Rattle.lrc_time.specs.Time.{entry, joined, Covers, weight_of}
-use Rattle.lrc_time.proofs.Times.{covers-joined_first, covers-joined_second, entry-joined}
+use Rattle.lrc_time.proofs.Times.{entry-joined}
 use Rattle.lrc_page.specs.declared.size.Size.{Size}
 use Rattle.lrc_page.specs.Page.{words_of}
-use Rattle.lrc_page.specs.Changes.{change_at}
 use Rattle.lrc_store.specs.Interval.{IntervalRecord}
 use Rattle.lrc_store.specs.Store.{StoredRecord}
 use Rattle.lrc_copies.specs.Stamps.{stamp_index}
@@ -17,8 +16,8 @@ use Rattle.lrc_protocol.specs.Times.{is_named}
 use Rattle.lrc_protocol.specs.Pages.{Copy, valid, written, invalid, absent, changes_of, invalidated, Memory, copy_at, learned}
 use Rattle.lrc_node_laws.proofs.Lists.{length-placed}
 use Rattle.lrc_node_laws.proofs.OwnCopies.{placed-copy}
-use Rattle.lrc_reading_laws.specs.Written.{made_stamps, word_on, changes_on}
-use Rattle.lrc_exact.specs.Memory.{Rank, Word, Interval}
+use Rattle.lrc_reading_laws.specs.Written.{made_stamps, word_on}
+use Rattle.lrc_exact.specs.Memory.{Rank, Word}
 use Rattle.lrc_exact.specs.Rule.{Knowledge, State, known_together, with_news, with_learned}
 use Rattle.lrc_exact_known.specs.Learned.{IsNews, TakesHighest, unchanged, taken}
 use Rattle.lrc_exact_known.proofs.Highest.{learned_is_highest}

@@ -1,5 +1,5 @@
 -- Ranks of intervals, and the order in which changes are applied.
-use Rattle.std.proofs.Common.{◌≡◌, ℕ, ◌+◌, ◌<◌, ◌&&◌, ◌||◌, ◌⊎◌, Bool, true, false, inl, inr, refl, arith}
+use Rattle.std.proofs.Common.{◌≡◌, ℕ, ◌+◌, ◌<◌, ◌&&◌, ◌⊎◌, true, false, inl, inr, arith}
 use Rattle.std.specs.Prelude.{IsTrue, ◌==◌, nat_lt}
 use Rattle.std.proofs.lemmas.Bool.{cases_lt, ltb-true, lt-ltb, eqb-true, eq-eqb, and_parts, and_from, or_cases, or_left, or_right, both_ways, false_from_ne_true}
 use Rattle.lrc_time.specs.Time.{weight_of}

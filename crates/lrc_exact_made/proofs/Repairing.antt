@@ -1,5 +1,5 @@
 -- What a page lacks, applied in its order, makes of the page what the exact memory has of it.
-use Rattle.std.proofs.Common.{◌≡◌, ℕ, ◌<◌, ◌≤◌, ◌&&◌, List, [], ◌∷◌, true, false, length, map, inl, inr, refl, sym, ap, subst, ◌∙◌, arith}
+use Rattle.std.proofs.Common.{◌≡◌, ℕ, ◌<◌, ◌≤◌, List, [], ◌∷◌, true, false, length, map, inl, inr, refl, sym, ap, subst, ◌∙◌, arith}
 use Rattle.std.specs.Prelude.{IsTrue, ◌==◌, nat_le, Option, Some, None, is_none, unwrap_or, option_and_then, not, fold, slice_index, All, AllPairs, Contains}
 use Rattle.std.specs.List.{list_any}
 use Rattle.std.proofs.lemmas.Bool.{true≢false, and_parts, and_from, leb-true, le-leb, both_ways, false_from_ne_true, cases_Bool, cases_lt, not-true}
@@ -12,7 +12,7 @@ use Rattle.lrc_page.proofs.ChangeLists.{length-applied, get_or-applied}
 use Rattle.lrc_store.specs.declared.key.Key.{Key}
 use Rattle.lrc_store.specs.Interval.{IntervalRecord, index_of, by_weight}
 use Rattle.lrc_store.specs.Order.{IsAscendingPart, ascending_part}
-use Rattle.lrc_store.specs.Store.{NoticeRecord, StoredRecord, StoreRecord, interval_of, intervals_of, stored_at, notice_of, changes_at, is_missing, key_of}
+use Rattle.lrc_store.specs.Store.{NoticeRecord, StoredRecord, StoreRecord, interval_of, intervals_of, notice_of, changes_at, is_missing, key_of}
 use Rattle.lrc_store.specs.Store.{missing_of}
 use Rattle.lrc_store.proofs.Orders.{IsAscendingPart-ascending_part}
 use Rattle.lrc_store.proofs.Ranks.{IsStrictWeakOrder-by_weight, Comparable-by_weight}
@@ -23,7 +23,7 @@ use Rattle.lrc_node_laws.proofs.Awaited.{All-unmap}
 use Rattle.lrc_reading_laws.specs.Written.{made_stamps, changes_on, made_changes}
 use Rattle.lrc_reading_laws.proofs.Fitting.Repair.{unnamed}
 use Rattle.lrc_reading_laws.proofs.Stamped.Lists.{HasRecord, interval-in, interval-from}
-use Rattle.lrc_exact.specs.Memory.{Rank, Word, is_lower, replaces}
+use Rattle.lrc_exact.specs.Memory.{Rank, Word, is_lower}
 use Rattle.lrc_exact_known.specs.Learned.{TakesHighest, unchanged, taken}
 use Rattle.lrc_exact_made.specs.Copies.{IsChangeBetween, unmarked}
 use Rattle.lrc_exact_made.specs.Steps.{KnowsMissing}

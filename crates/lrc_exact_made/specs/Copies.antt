@@ -1,5 +1,5 @@
 -- What closed intervals changed, and what a node has of the pages, where both are as the exact memory has them.
-use Rattle.std.specs.Prelude.{◌≡◌, ℕ, ◌+◌, ◌<◌, ◌≤◌, Option, Some, None, is_some, unwrap_or, List, Contains, slice_index}
+use Rattle.std.specs.Prelude.{◌≡◌, ℕ, ◌<◌, ◌≤◌, Option, Some, None, is_some, unwrap_or, List, Contains, slice_index}
 use Rattle.lrc_time.specs.Time.{entry, weight_of}
 use Rattle.lrc_page.specs.declared.size.Size.{Size}
 use Rattle.lrc_page.specs.Page.{words_of}

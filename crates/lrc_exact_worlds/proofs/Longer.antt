@@ -1,6 +1,6 @@
 -- What holds of a node, and of what is known, stays as other nodes close intervals.
-use Rattle.std.proofs.Common.{◌≡◌, ℕ, ◌+◌, ◌<◌, ◌≤◌, List, [], ◌∷◌, ◌++◌, Bool, true, false, map, inl, inr, refl, sym, ap, subst, ◌∙◌, arith, append-nil}
-use Rattle.std.specs.Prelude.{Option, Some, None, ◌==◌, Contains, slice_index, if◌then◌else◌}
+use Rattle.std.proofs.Common.{◌≡◌, ℕ, ◌+◌, ◌≤◌, List, [], ◌∷◌, ◌++◌, Bool, true, false, map, inl, inr, sym, ap, subst, ◌∙◌, arith, append-nil}
+use Rattle.std.specs.Prelude.{Option, ◌==◌, slice_index, if◌then◌else◌}
 use Rattle.std.proofs.lemmas.List.Elements.{Contains-append_left, Contains-push_cases}
 use Rattle.lrc_time.specs.Time.{entry}
 use Rattle.lrc_page.specs.declared.size.Size.{Size}
@@ -17,7 +17,6 @@ use Rattle.lrc_reading_laws.proofs.Stamped.Cuts.{IsFull, Counted}
 use Rattle.lrc_reading_laws.proofs.Stamped.Lists.{HasRecord, interval-from, own_between}
 use Rattle.lrc_exact.specs.Memory.{Word}
 use Rattle.lrc_exact.specs.Rule.{Knowledge, State}
-use Rattle.lrc_exact_known.specs.Learned.{TakesHighest}
 use Rattle.lrc_exact_marks.proofs.Ranks.{by_other_words}
 use Rattle.lrc_exact_made.specs.Copies.{AreExactly, IsChangeBetween, unmarked, HasWord, HasExact}
 use Rattle.lrc_exact_made.specs.Steps.{IsAmong}

@@ -1,5 +1,5 @@
 -- A page that is repaired at a miss is the one that the exact memory has once it is accessed.
-use Rattle.std.proofs.Common.{◌≡◌, ℕ, ◌<◌, ◌≤◌, List, [], true, false, length, refl, sym, ap, subst, ◌∙◌, ⊎_elim, inl, inr, arith}
+use Rattle.std.proofs.Common.{◌≡◌, ℕ, ◌<◌, List, [], true, false, length, refl, sym, ap, subst, ◌∙◌, inl, inr, arith}
 use Rattle.std.specs.Prelude.{Some, None, is_none, slice_index, All, Contains}
 use Rattle.std.proofs.lemmas.Bool.{cases_lt, true≢false}
 use Rattle.std.proofs.lemmas.List.Elements.{All-head}
@@ -8,18 +8,17 @@ use Rattle.lrc_time.specs.Time.{entry, weight_of, Covers}
 use Rattle.lrc_time.proofs.Times.{weight-covers_strictly}
 use Rattle.lrc_page.specs.declared.size.Size.{Size}
 use Rattle.lrc_page.specs.Page.{words_of}
-use Rattle.lrc_page.specs.Place.{page_of}
 use Rattle.lrc_store.specs.declared.key.Key.{Key}
 use Rattle.lrc_store.specs.Store.{StoredRecord, changes_at, missing_of, stored_at}
 use Rattle.lrc_copies.specs.Stamps.{stamp_index, AreStamped}
 use Rattle.lrc_copies.proofs.Stamping.{le-covered}
-use Rattle.lrc_protocol.specs.Pages.{Copy, valid, written, invalid, absent, is_readable, values_of, changes_of, Base, unneeded, due, come, Need, is_met}
-use Rattle.lrc_protocol.specs.Pages.{first_values, repaired, Memory, copy_at, missing_in, all_applied, with_copy}
+use Rattle.lrc_protocol.specs.Pages.{Copy, valid, written, invalid, absent, changes_of, Base, unneeded, due, come, Need, is_met}
+use Rattle.lrc_protocol.specs.Pages.{first_values, repaired, copy_at, missing_in, all_applied}
 use Rattle.lrc_protocol.specs.Node.{Node, access, needs_of, OptionsRecord}
 use Rattle.lrc_node_laws.specs.Needs.{FitsBase, FitsNeed}
 use Rattle.lrc_node_laws.specs.Ranges.{IsWholeCopy}
 use Rattle.lrc_node_laws.specs.Remembered.{IsBetween}
-use Rattle.lrc_node_laws.proofs.Change.{View, view_of, Walk, pages_in}
+use Rattle.lrc_node_laws.proofs.Change.{view_of, Walk, pages_in}
 use Rattle.lrc_node_laws.proofs.MetNeeds.{met-known}
 use Rattle.lrc_node_laws.proofs.Reach.{first_view}
 use Rattle.lrc_reading_laws.specs.Written.{made_stamps, word_on}
@@ -27,7 +26,6 @@ use Rattle.lrc_reading_laws.proofs.Fitting.Copies.{Stored}
 use Rattle.lrc_reading_laws.proofs.Fitting.First.{whole-long}
 use Rattle.lrc_reading_laws.proofs.Fitting.Later.{AtView, at_view}
 use Rattle.lrc_reading_laws.proofs.Stamped.Lists.{AreFound, found_once}
-use Rattle.lrc_exact.specs.Memory.{Word}
 use Rattle.lrc_exact.specs.Rule.{State, accessed}
 use Rattle.lrc_exact_made.specs.Copies.{shape_of, HasWord, HasExact}
 use Rattle.lrc_exact_made.specs.Steps.{KnowsMissing}
@@ -36,7 +34,6 @@ use Rattle.lrc_exact_made.proofs.Repairing.{repairs_exactly}
 use Rattle.lrc_exact_worlds.proofs.Uncollected.{is_absent, ArePresent}
 
 -- ---- intervals of one node weigh more and more
-
 
 -- one with a lower index of the same node weighs less
 lower_less : (nodes : ℕ) (made : List StoredRecord) → AreStamped made_stamps nodes made → (x y : StoredRecord) → Contains made x → Contains made y

@@ -1,13 +1,9 @@
 -- Runs read exactly, and their intervals are the exact memory's.
-use Rattle.std.proofs.Common.{◌≡◌, ℕ, ◌+◌, ◌<◌, ◌≤◌, ◌&&◌, List, Bool, true, false, length, inl, inr, refl, sym, ap, subst, ◌∙◌, arith}
-use Rattle.std.specs.Prelude.{Option, Some, None, ◌==◌, Contains, slice_get, if◌then◌else◌}
+use Rattle.std.proofs.Common.{◌≡◌, ℕ, ◌+◌, ◌<◌, ◌≤◌, List, Bool, length, refl, sym, ap, subst, ◌∙◌, arith}
+use Rattle.std.specs.Prelude.{Some, ◌==◌, Contains, slice_get, if◌then◌else◌}
 use Rattle.std.proofs.lemmas.Bool.{and_from, eq-eqb}
 use Rattle.lrc_lang.specs.declared.program.Program.{Program}
-use Rattle.lrc_trace.specs.declared.act.Act.{Act}
-use Rattle.lrc_trace.specs.declared.act.Deed.{Deed}
-use Rattle.lrc_trace.specs.Run.{Does}
 use Rattle.lrc_trace.specs.Interval.{interval_at}
-use Rattle.lrc_trace.specs.Synchronization.{IsWellSynchronized}
 use Rattle.lrc_time.specs.Time.{entry}
 use Rattle.lrc_page.specs.Page.{words_of}
 use Rattle.lrc_page.specs.Changes.{change_at}
@@ -17,18 +13,17 @@ use Rattle.lrc_clock.specs.Times.{time_at, time_before}
 use Rattle.lrc_clock.proofs.Counting.{own_entry_before}
 use Rattle.lrc_clock.proofs.Covering.{closing-entry}
 use Rattle.lrc_consistency_laws.specs.Follows.{nodes_of_acts}
-use Rattle.lrc_store.specs.Store.{StoredRecord, interval_of}
+use Rattle.lrc_store.specs.Store.{StoredRecord}
 use Rattle.lrc_copies.specs.Stamps.{stamp_index}
 use Rattle.lrc_protocol.specs.declared.event.Event.{Event}
-use Rattle.lrc_protocol.specs.Node.{Wait, nothing, grant, departure, access, upkeep, discard, Node, OptionsRecord}
+use Rattle.lrc_protocol.specs.Node.{Wait, nothing, grant, departure, access, upkeep, discard, OptionsRecord}
 use Rattle.lrc_protocol.specs.Run.{Logged, World, run_of}
 use Rattle.lrc_protocol.proofs.Texts.{text}
 use Rattle.lrc_order_laws.proofs.Pending.{get_within}
-use Rattle.lrc_order_laws.proofs.Reached.{IsReached}
 use Rattle.lrc_order_laws.proofs.Timed.{synchronized}
 use Rattle.lrc_protocol.proofs.Worlds.{run-whole}
 use Rattle.lrc_reading_laws.specs.Written.{made_stamps, changes_on}
-use Rattle.lrc_reading_laws.proofs.Closed.History.{History, history_of, reached_by}
+use Rattle.lrc_reading_laws.proofs.Closed.History.{History, history_of}
 use Rattle.lrc_reading_laws.proofs.Stamped.Lists.{own_between}
 use Rattle.lrc_reading_laws.proofs.Stamped.Made.{all_made, all_listed}
 use Rattle.lrc_reading_laws.proofs.Whole.{stamps, of_acts}

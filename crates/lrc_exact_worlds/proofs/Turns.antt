@@ -1,26 +1,25 @@
 -- A turn of a node keeps what it has as the exact memory has it.
-use Rattle.std.proofs.Common.{◌≡◌, ℕ, zero, suc, ◌+◌, ◌<◌, ◌≤◌, ◌⊎◌, List, [], ◌∷◌, ◌++◌, Bool, true, false, length, map, max, inl, inr, refl, sym, ap, subst, ◌∙◌, ⊎_elim}
+use Rattle.std.proofs.Common.{◌≡◌, ℕ, zero, suc, ◌+◌, ◌<◌, ◌≤◌, List, [], ◌∷◌, ◌++◌, Bool, true, false, length, map, max, inl, inr, refl, sym, ap, subst, ◌∙◌}
 use Rattle.std.proofs.Common.{arith, append-nil}
 use Rattle.std.specs.Prelude.{Option, Some, None, is_some, slice_index_or, unwrap_or, option_and_then, ◌==◌, ◌-◌, nat_le, ◌&&◌, slice_get, Contains, if◌then◌else◌}
-use Rattle.std.specs.List.{list_any, range_with_len}
-use Rattle.std.proofs.lemmas.Bool.{cases_lt, cases_Bool, eq-eqb, ne_eqb, false≢true, true≢false}
+use Rattle.std.specs.List.{list_any}
+use Rattle.std.proofs.lemmas.Bool.{cases_lt, cases_Bool, eq-eqb, ne_eqb, false≢true}
 use Rattle.std.proofs.lemmas.Option.{same_Some}
 use Rattle.std.proofs.lemmas.List.Elements.{All-head}
 use Rattle.lrc_lang.specs.declared.program.Program.{Program}
 use Rattle.lrc_trace.specs.declared.act.Act.{Act}
 use Rattle.lrc_trace.specs.declared.act.Deed.{Deed}
-use Rattle.lrc_trace.specs.declared.act.Deed.TheVariants.{Read, Write, Acquire, Release, Arrive, Depart}
+use Rattle.lrc_trace.specs.declared.act.Deed.TheVariants.{Read, Write, Acquire, Depart}
 use Rattle.lrc_trace.specs.Run.{departs_before}
 use Rattle.lrc_time.specs.Time.{entry, zeros, joined, Covers}
-use Rattle.lrc_time.proofs.Times.{entry-zeros, entry-joined, entry-set_same, length-zeros, covers-zeros, covers-joined_first, covers-joined_second, joined-covers}
+use Rattle.lrc_time.proofs.Times.{entry-zeros, entry-joined, entry-set_same, length-zeros, covers-zeros, covers-joined_second, joined-covers}
 use Rattle.lrc_page.specs.declared.size.Size.{Size}
 use Rattle.lrc_page.specs.Page.{words_of}
 use Rattle.lrc_page.specs.Place.{page_of}
-use Rattle.lrc_exec.specs.Meaning.{Thread, Next, quiet, prints, reads, writes, acquires, releases, arrives, departs, traps, ends, next_of}
+use Rattle.lrc_exec.specs.Meaning.{Next, quiet, prints, reads, writes, acquires, releases, arrives, departs, traps, ends, next_of}
 use Rattle.lrc_store.specs.Interval.{IntervalRecord, index_of}
 use Rattle.lrc_store.specs.Store.{StoredRecord, NoticeRecord, interval_of, notice_of}
 use Rattle.lrc_envelope.specs.declared.message.Message.{Message}
-use Rattle.lrc_envelope.specs.declared.message.Message.TheVariants.{LockGrant, Depart as Departs}
 use Rattle.lrc_copies.specs.Stamps.{stamp_index, AreStamped}
 use Rattle.lrc_protocol.specs.Times.{next_time, is_named}
 use Rattle.lrc_protocol.specs.Pages.{Copy, valid, written, invalid, absent, is_readable, values_of, changes_of, Memory, copy_at, Need, is_met, repaired, learned}
@@ -40,9 +39,8 @@ use Rattle.lrc_node_laws.specs.Needs.{FitsNeed, page_next, ReachesFor}
 use Rattle.lrc_node_laws.specs.Ranges.{IsWholeCopy}
 use Rattle.lrc_node_laws.specs.Remembered.{IsBetween}
 use Rattle.lrc_node_laws.specs.Waits.{NoneWritten, IsQuiet}
-use Rattle.lrc_node_laws.proofs.Acted.{Known}
 use Rattle.lrc_node_laws.proofs.ByRules.{access-in_range, access-reaches, Brought, brought}
-use Rattle.lrc_node_laws.proofs.Change.{View, view_of, Walk, goes, News, news, reply_in, pages_in, misses, gets_changes, gets_page}
+use Rattle.lrc_node_laws.proofs.Change.{view_of, Walk, goes, News, news, reply_in, pages_in, misses, gets_changes, gets_page}
 use Rattle.lrc_node_laws.proofs.Change.{mends as mends_change}
 use Rattle.lrc_node_laws.proofs.Opened.{unwritten-at}
 use Rattle.lrc_node_laws.proofs.Reach.{first_view}
@@ -51,7 +49,7 @@ use Rattle.lrc_node_laws.proofs.Turning.{news_in}
 use Rattle.lrc_node_laws.proofs.Whole.{readable-long}
 use Rattle.lrc_reading_laws.specs.Made.{AllMade}
 use Rattle.lrc_reading_laws.specs.Written.{made_stamps, word_on, changes_on}
-use Rattle.lrc_reading_laws.proofs.Closed.History.{closed_record, closed_by}
+use Rattle.lrc_reading_laws.proofs.Closed.History.{closed_record}
 use Rattle.lrc_reading_laws.proofs.Closed.Stored.{Member, made_at, in_index, in_range}
 use Rattle.lrc_reading_laws.proofs.Fitting.Copies.{Stored}
 use Rattle.lrc_reading_laws.proofs.Fitting.First.{whole-long, list_any-in}
@@ -61,17 +59,17 @@ use Rattle.lrc_reading_laws.proofs.Stamped.Lists.{HasRecord, interval-from, own_
 use Rattle.lrc_reading_laws.proofs.Written.Notices.{closed_changes, closed_none, noticed, unnamed as unnoticed}
 use Rattle.lrc_exact.specs.LocalRule.{last_state, released_state, arrived_state}
 use Rattle.lrc_exact.specs.Memory.{Word}
-use Rattle.lrc_exact.specs.Rule.{Shape, Knowledge, State, nothing_known, accessed, closed, with_learned, acquired, with_arrived, known_by_all, collects, some_asks}
+use Rattle.lrc_exact.specs.Rule.{Shape, Knowledge, State, nothing_known, accessed, closed, with_learned, acquired, with_arrived, known_by_all, some_asks}
 use Rattle.lrc_exact.specs.Rule.{collected, departed, known_together}
 use Rattle.lrc_exact.proofs.LocalRules.{last-cases}
-use Rattle.lrc_exact_made.specs.Copies.{shape_of, AreExactly, HasWord, HasExact}
-use Rattle.lrc_exact_made.specs.Steps.{IsClosing, IsAmong, IsNewsTo}
-use Rattle.lrc_exact_made.proofs.Accessing.{accesses_exactly, reads_exactly, writes_exactly, readable_within}
+use Rattle.lrc_exact_made.specs.Copies.{shape_of, HasWord, HasExact}
+use Rattle.lrc_exact_made.specs.Steps.{IsClosing, IsNewsTo}
+use Rattle.lrc_exact_made.proofs.Accessing.{accesses_exactly, reads_exactly, writes_exactly}
 use Rattle.lrc_exact_made.proofs.Closing.{closes_exactly}
 use Rattle.lrc_exact_made.proofs.Learning.{together_exactly, learns_exactly, learns_nothing, learned_nothing}
-use Rattle.lrc_exact_worlds.proofs.Effects.{standing, now_state, next_state, then_state, KnowsMade, Here, Effected, Elsewhere}
+use Rattle.lrc_exact_worlds.proofs.Effects.{standing, now_state, next_state, KnowsMade, Here, Effected, Elsewhere}
 use Rattle.lrc_exact_worlds.proofs.Mending.{mends}
-use Rattle.lrc_exact_worlds.proofs.Uncollected.{collects_in, is_collecting, ArePresent, NeverCollects}
+use Rattle.lrc_exact_worlds.proofs.Uncollected.{collects_in, is_collecting, ArePresent}
 
 -- ---- deeds
 

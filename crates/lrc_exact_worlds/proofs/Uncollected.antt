@@ -1,44 +1,40 @@
 -- Where barriers never collect, no message says that one does, no node waits in a collection, and no copy is dropped.
-use Rattle.std.proofs.Common.{◌≡◌, ℕ, zero, suc, ◌+◌, ◌<◌, ◌≤◌, ◌&&◌, ◌||◌, List, [], ◌∷◌, ◌++◌, Bool, true, false, length, map, inl, inr, refl, sym, ap, subst, ◌∙◌, ⊎_elim, arith}
+use Rattle.std.proofs.Common.{◌≡◌, ℕ, zero, suc, ◌+◌, ◌<◌, ◌&&◌, ◌||◌, List, [], ◌∷◌, ◌++◌, Bool, true, false, length, map, refl, sym, ap, subst, ◌∙◌, arith}
 use Rattle.std.specs.Prelude.{Option, Some, None, is_some, option_map, ◌==◌, nat_le, replicate, slice_get, slice_index, slice_index_or, slice_set, filter_map, if◌then◌else◌}
-use Rattle.std.specs.List.{enumerate_from, list_all, list_any, range_with_len}
-use Rattle.std.specs.Option.{option_to_list}
-use Rattle.std.proofs.lemmas.Bool.{cases_lt, false≢true, true≢false}
-use Rattle.std.proofs.lemmas.List.{length-set, length-map, length-replicate}
+use Rattle.std.specs.List.{enumerate_from, list_all, range_with_len}
+use Rattle.std.proofs.lemmas.Bool.{false≢true}
+use Rattle.std.proofs.lemmas.List.{length-set, length-map}
 use Rattle.lrc_lang.specs.declared.program.Program.{Program}
-use Rattle.lrc_exec.specs.Meaning.{Thread, Next, quiet, prints, reads, writes, acquires, releases, arrives, departs, traps, ends, next_of}
+use Rattle.lrc_exec.specs.Meaning.{Next, quiet, prints, reads, writes, acquires, releases, arrives, departs, traps, ends, next_of}
 use Rattle.lrc_page.specs.Page.{zero_page}
 use Rattle.lrc_page.specs.Place.{page_of, offset_of, pages_of}
 use Rattle.lrc_store.specs.Interval.{IntervalRecord}
 use Rattle.lrc_envelope.specs.Envelope.{EnvelopeRecord}
 use Rattle.lrc_envelope.specs.declared.message.Message.{Message}
-use Rattle.lrc_envelope.specs.declared.message.Message.TheVariants.{LockRequest, LockForward, LockGrant, Arrive, Depart, Clean, Discard}
-use Rattle.lrc_envelope.specs.declared.message.Message.TheVariants.{ChangesRequest, ChangesReply, PageRequest, PageReply}
+use Rattle.lrc_envelope.specs.declared.message.Message.TheVariants.{Arrive, Depart, Clean}
 use Rattle.lrc_lock.specs.declared.state.Pass.{Pass}
 use Rattle.lrc_barrier.specs.declared.arrival.Arrival.{Arrival}
-use Rattle.lrc_barrier.specs.declared.departure.Departure.{Departure}
 use Rattle.lrc_barrier.specs.declared.fault.BarrierFault.TheVariants.{WrongEpisode, Twice}
 use Rattle.lrc_barrier.specs.Barrier.{ManagerRecord, first_manager, is_next, has_arrived, with_arrival, arrivals_of, asks, departure_to, departures_of, departed}
 use Rattle.lrc_barrier.specs.Barrier.{ArriveStep, refuses, waits, departs as all_depart, arrived, CleanStep, refuses_clean, awaits, discards, cleaned, cleaned_by}
 use Rattle.lrc_protocol.specs.Times.{MOST_NUMBER, is_named}
 use Rattle.lrc_protocol.specs.Pages.{Copy, valid, written, invalid, absent, closed, invalidated, after_write, Memory, copy_at, Base, unneeded, due, come}
-use Rattle.lrc_protocol.specs.Pages.{Asked, Need, learned, with_interval, repaired, with_written_word}
+use Rattle.lrc_protocol.specs.Pages.{Asked, Need, learned, with_interval, repaired}
 use Rattle.lrc_protocol.specs.Barriers.{arrival_in}
-use Rattle.lrc_protocol.specs.Node.{Letter, Wait, nothing, grant, departure, access, upkeep, discard, Course, going, trapped, ended, Node, Effect, OptionsRecord}
-use Rattle.lrc_protocol.specs.Node.{makes, acts_by, acts, numbered, envelope_of, fresh_node, memory_after}
-use Rattle.lrc_protocol.specs.Turn.{requests_of, page_request_of, changes_request_of, grants_of, grant_of, departure_of, discards_to, TurnRecord, taking}
+use Rattle.lrc_protocol.specs.Node.{Letter, Wait, nothing, upkeep, discard, Course, going, trapped, ended, Node, Effect, OptionsRecord}
+use Rattle.lrc_protocol.specs.Node.{makes, acts_by, acts, numbered, envelope_of}
+use Rattle.lrc_protocol.specs.Turn.{page_request_of, changes_request_of, grants_of, departure_of, discards_to, TurnRecord, taking}
 use Rattle.lrc_protocol.specs.Rules.{RunRule, run_hit, run_miss, run_repair, run_acquire, run_ask, run_release, run_barrier, run_other, TakeRule}
 use Rattle.lrc_protocol.specs.Rules.{take_request, take_forward, take_token, take_arrive, take_last_arrive, take_depart, take_collect, take_collect_at_once}
 use Rattle.lrc_protocol.specs.Rules.{take_reply, take_last_reply, take_kept_reply, take_last_kept_reply, take_clean, take_last_clean, take_discard}
-use Rattle.lrc_protocol.specs.Rules.{take_changes_request, take_page_request, IsSent, with_numbers}
-use Rattle.lrc_protocol.specs.Run.{Input, run, taken, EntryRecord, Logged, World, Flying, fresh_world, with_turn}
+use Rattle.lrc_protocol.specs.Rules.{take_changes_request, take_page_request, IsSent, with_numbers, closed_for}
+use Rattle.lrc_protocol.specs.Run.{Input, run, Logged, World, fresh_world, with_turn}
 use Rattle.lrc_protocol.specs.Follows.{pending}
-use Rattle.lrc_protocol.proofs.Worlds.{IsEntry, fresh_at}
-use Rattle.lrc_protocol.proofs.Induction.{Comes}
-use Rattle.lrc_order_laws.proofs.Pending.{Ran, Took, Lost, ran}
+use Rattle.lrc_protocol.proofs.Worlds.{fresh_at}
+use Rattle.lrc_order_laws.proofs.Pending.{Ran, ran}
 use Rattle.lrc_order_laws.proofs.Reached.{IsReached, KeptByReached, by_reached}
 use Rattle.lrc_order_laws.proofs.Shape.{shape_at}
-use Rattle.lrc_node_laws.proofs.ByRules.{Brought, brought}
+use Rattle.lrc_node_laws.proofs.ByRules.{brought}
 use Rattle.lrc_node_laws.proofs.Lists.{length-placed}
 use Rattle.lrc_node_laws.proofs.OwnCopies.{set-copy, map-copy, placed-copy}
 use Rattle.lrc_reading_laws.proofs.Stamped.Worlds.{each_node, TurnBy, alone, again, anew, turn_at}
@@ -212,32 +208,31 @@ StepSo (refuses fault) = Unit {0}
 StepSo (waits manager) = AreKept manager.arrivals
 StepSo (all_depart departures manager) = AllQuiet (map departure_of departures) × AreKept manager.arrivals
 
-arrive-so : (before : ManagerRecord) (from : ℕ) (a : Arrival) → AreKept before.arrivals → a.ask ≡ false → StepSo (arrived before from a)
-arrive-so before from a h none = by_next (is_next before a.episode)
-  where
-    full : ManagerRecord
-    full = with_arrival before from a
+module _ (before : ManagerRecord) (from : ℕ) (a : Arrival) (h : AreKept before.arrivals) (none : a.ask ≡ false) where
+  abbrev full : ManagerRecord
+  full = with_arrival before from a
 
-    kept : AreKept full.arrivals
-    unfolding full
-    kept = set-kept before.arrivals from a h none
+  abbrev accepts : Bool → ArriveStep
+  accepts b = if b then all_depart (departures_of (arrivals_of full)) (departed full) else waits full
 
-    by_all : (b : Bool) → StepSo (if b then all_depart (departures_of (arrivals_of full)) (departed full) else waits full)
-    by_all true = (departures-quiet (arrivals_of full) 0 (arrivals_of full) (none-ask full.arrivals kept), none-kept (length full.last))
-    by_all false = kept
+  kept : AreKept full.arrivals
+  kept = set-kept before.arrivals from a h none
 
-    by_first : (b : Bool)
-        → StepSo (if b then refuses Twice else (if list_all is_some full.arrivals then all_depart (departures_of (arrivals_of full)) (departed full) else waits full))
-    by_first true = tt
-    by_first false = by_all (list_all is_some full.arrivals)
+  by_all : (b : Bool) → StepSo (accepts b)
+  by_all true = (departures-quiet (arrivals_of full) 0 (arrivals_of full) (none-ask full.arrivals kept), none-kept (length full.last))
+  by_all false = kept
 
-    by_next : (b : Bool) → StepSo (if b
-        then (if has_arrived before from
-        then refuses Twice
-        else (if list_all is_some full.arrivals then all_depart (departures_of (arrivals_of full)) (departed full) else waits full))
-        else refuses WrongEpisode)
-    by_next true = by_first (has_arrived before from)
-    by_next false = tt
+  by_first : (b : Bool) → StepSo (if b then refuses Twice else accepts (list_all is_some full.arrivals))
+  by_first true = tt
+  by_first false = by_all (list_all is_some full.arrivals)
+
+  by_next : (b : Bool)
+      → StepSo (if b then (if has_arrived before from then refuses Twice else accepts (list_all is_some full.arrivals)) else refuses WrongEpisode)
+  by_next true = by_first (has_arrived before from)
+  by_next false = tt
+
+  arrive-so : StepSo (arrived before from a)
+  arrive-so = by_next (is_next before a.episode)
 
 -- a Clean leaves what is kept of arrivals
 abbrev CleanSo : ManagerRecord → CleanStep → Type 0
@@ -354,7 +349,7 @@ module _ (node : Node) (none : node.options.collect ≡ 0) (h : NeverCollects no
   run-so e (run_release lock after r room) =
       acts-so _ _ (grants-quiet _ _) (record { wait = h.wait; copies = closes-present node.memory.copies h.copies; manages = h.manages })
   run-so e (run_barrier after r room) =
-      acts-so _ _ (ap (λ c. nat_le 1 c && nat_le c _) none, tt)
+      acts-so _ _ (ap (λ c. nat_le 1 c && nat_le c (length (closed_for node (arrives after)).memory.store.entries)) none, tt)
       (record { wait = refl; copies = closes-present node.memory.copies h.copies; manages = h.manages })
   run-so e (run_other r own) = acts-so [] _ tt (record { wait = h.wait; copies = h.copies; manages = h.manages })
 

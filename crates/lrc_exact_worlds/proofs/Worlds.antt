@@ -1,8 +1,8 @@
 -- In every history of a run without collections each node has what the exact memory has, and what is known of intervals is what they
 -- did.
-use Rattle.std.proofs.Common.{◌≡◌, ℕ, zero, suc, ◌+◌, ◌<◌, ◌≤◌, ◌⊎◌, List, [], ◌∷◌, ◌++◌, Bool, true, false, length, map, inl, inr, refl, sym, ap, subst, ◌∙◌, arith}
-use Rattle.std.proofs.Common.{append-nil, ⊎_elim}
-use Rattle.std.specs.Prelude.{Option, Some, None, is_some, ◌==◌, if◌then◌else◌, Contains, slice_get, slice_set, slice_index, slice_index_or, replicate}
+use Rattle.std.proofs.Common.{◌≡◌, ℕ, zero, suc, ◌+◌, ◌≤◌, ◌⊎◌, List, [], ◌∷◌, ◌++◌, false, length, map, inl, inr, refl, sym, ap, subst, ◌∙◌, arith}
+use Rattle.std.proofs.Common.{append-nil}
+use Rattle.std.specs.Prelude.{Option, Some, None, is_some, if◌then◌else◌, slice_get, slice_set, slice_index, replicate}
 use Rattle.std.proofs.lemmas.Bool.{cases_eq, cases_lt, eq-eqb}
 use Rattle.std.proofs.lemmas.List.{length_push, map-append}
 use Rattle.std.proofs.lemmas.Option.{same_Some, slice_get_within}
@@ -12,10 +12,7 @@ use Rattle.lrc_trace.specs.declared.act.Deed.{Deed}
 use Rattle.lrc_trace.specs.declared.act.Deed.TheVariants.{Read}
 use Rattle.lrc_trace.specs.Run.{Does, act_of}
 use Rattle.lrc_trace.proofs.Positions.{Does-within, Does-last, Does-cases, slice_get-front, slice_get-seam}
-use Rattle.lrc_exec.specs.Meaning.{Setting}
-use Rattle.lrc_exec.specs.Plain.{setting_of}
 use Rattle.lrc_time.specs.Time.{entry}
-use Rattle.lrc_page.specs.declared.size.Size.{Size}
 use Rattle.lrc_page.specs.Page.{words_of, zero_page}
 use Rattle.lrc_page.specs.Place.{pages_of}
 use Rattle.lrc_store.specs.Interval.{IntervalRecord}
@@ -28,23 +25,22 @@ use Rattle.lrc_copies.specs.Stamps.{stamp_index}
 use Rattle.lrc_copies.proofs.Members.{none_Contains}
 use Rattle.lrc_clock.specs.Keeping.{KeepsTime}
 use Rattle.lrc_clock.proofs.Deciding.{one_list}
-use Rattle.lrc_protocol.specs.Pages.{Copy, valid, written, invalid, absent, changes_of, Memory, copy_at}
+use Rattle.lrc_protocol.specs.Pages.{Copy, valid, written, absent, changes_of, copy_at}
 use Rattle.lrc_protocol.specs.Node.{Node, Effect, OptionsRecord, fresh_node}
 use Rattle.lrc_protocol.specs.Turn.{TurnRecord, taking}
 use Rattle.lrc_protocol.specs.Rules.{IsSent, with_numbers}
 use Rattle.lrc_protocol.specs.Run.{Input, EntryRecord, Logged, World, Flying, fresh_world, with_turn}
-use Rattle.lrc_protocol.specs.Follows.{pending, turns_of}
+use Rattle.lrc_protocol.specs.Follows.{pending}
 use Rattle.lrc_protocol.proofs.Worlds.{IsEntry, fresh_at, get_set_same, get_set_other}
 use Rattle.lrc_protocol.proofs.Induction.{Comes}
 use Rattle.lrc_order_laws.proofs.AllTimely.{Made, made_so}
-use Rattle.lrc_order_laws.proofs.Pending.{Ran, Took, Lost, ran}
+use Rattle.lrc_order_laws.proofs.Pending.{Ran, ran}
 use Rattle.lrc_order_laws.proofs.Present.{more_acts, more_times}
 use Rattle.lrc_order_laws.proofs.Reached.{IsReached}
 use Rattle.lrc_order_laws.proofs.Shape.{shape_at}
 use Rattle.lrc_order_laws.proofs.Shift.{deed_made, deed_back}
 use Rattle.lrc_order_laws.proofs.Timed.{keeps}
 use Rattle.lrc_node_laws.specs.Reached.{IsReached as IsReachedNode}
-use Rattle.lrc_node_laws.proofs.Acted.{Known}
 use Rattle.lrc_node_laws.proofs.Always.{slice_index_or-replicate, is_store_at, known_at}
 use Rattle.lrc_node_laws.proofs.Change.{view_of, Walk, goes, receives}
 use Rattle.lrc_node_laws.proofs.Reach.{first_view}
@@ -52,8 +48,8 @@ use Rattle.lrc_node_laws.proofs.Tokened.{come_to}
 use Rattle.lrc_node_laws.proofs.Turning.{news_in}
 use Rattle.lrc_reading_laws.specs.Known.{AreKnown}
 use Rattle.lrc_reading_laws.specs.Made.{AllMade, AllTold, intervals_in}
-use Rattle.lrc_reading_laws.specs.Written.{made_stamps, word_on}
-use Rattle.lrc_reading_laws.proofs.Closed.History.{History, KeptByHistory, by_history, one_more, closed_record, closed_by}
+use Rattle.lrc_reading_laws.specs.Written.{made_stamps}
+use Rattle.lrc_reading_laws.proofs.Closed.History.{History, by_history, one_more, closed_record, closed_by}
 use Rattle.lrc_reading_laws.proofs.Closed.Told.{told-there as made-there}
 use Rattle.lrc_reading_laws.proofs.Fitting.Copies.{Stored}
 use Rattle.lrc_reading_laws.proofs.Stamped.Cuts.{Counted}
@@ -72,7 +68,7 @@ use Rattle.lrc_exact_made.specs.Copies.{shape_of, HasWord, HasExact}
 use Rattle.lrc_exact_worlds.proofs.Effects.{standing, now_state, next_state, then_state, KnowsMade, Here, Effected, Elsewhere}
 use Rattle.lrc_exact_worlds.proofs.Longer.{reaches, not_reached, knows_more, exact_more}
 use Rattle.lrc_exact_worlds.proofs.Turns.{run-then, take-then}
-use Rattle.lrc_exact_worlds.proofs.Uncollected.{collects_in, AllTold as AllQuiet, NeverCollects, AreUncollected, all_uncollected, told-there as quiet-there}
+use Rattle.lrc_exact_worlds.proofs.Uncollected.{collects_in, AllTold as AllQuiet, AreUncollected, all_uncollected, told-there as quiet-there}
 
 -- the nodes have what the exact memory has of the acts, and the reads give it
 pub record AreExactOf (nodes : ℕ) (options : OptionsRecord) (made : List StoredRecord) (logged : List Logged) (acts : List Act) : Type 0 where
@@ -348,15 +344,16 @@ module _ (program : Program) (nodes : ℕ) (options : OptionsRecord) (none : opt
         Walk (first_view reached.program reached.nodes reached.options reached.me reached.leads.among) (view_of l.node)
     walked = let reached : IsReachedNode l.node = p.reached in (come_to l.node reached).walked
 
-    turned_by : (turn : TurnRecord) (later : Node) (pending_then : List EnvelopeRecord) → TurnBy l.node (pending world) input turn later pending_then
+    turned_by : (input : Input) (turn : TurnRecord) (later : Node) (pending_then : List EnvelopeRecord)
+        → TurnBy l.node (pending world) input turn later pending_then
         → (deed_made turn ≡ deed_made entry_made.turn) → later ≡ after.node → Turned
-    turned_by turn later pending_then (alone o k is) same_turn same_node =
+    turned_by _ turn later pending_then (alone o k is) same_turn same_node =
         let it : Ran l.node turn later = ran l.node turn later o in
         let reached : IsReachedNode l.node = p.reached in
         of_effect it.effect turn later it.sent same_turn same_node
         (run-then nodes options.collect none acts states made reached.program reached.nodes reached.options reached.me reached.leads.among l.node walked here
         it.effect it.rule)
-    turned_by _ _ pending_then (again e is) same_turn same_node = record {
+    turned_by _ _ _ pending_then (again e is) same_turn same_node = record {
       exact = subst (λ (x : Node). HasExact l.node.options.size (made ++ closed_by l.node x) x.locks.time x.memory
           (standing l.node.setting.me x.mail.wait (then_state nodes options.collect acts states l.node (deed_made entry_made.turn)))) same_node
           (subst (λ deed. HasExact l.node.options.size (made ++ closed_by l.node l.node) l.node.locks.time l.node.memory
@@ -375,7 +372,7 @@ module _ (program : Program) (nodes : ℕ) (options : OptionsRecord) (none : opt
             sym (append-nil made)
             ∙ ap (λ b. made ++ (if b then [] else closed_record l.node ∷ []))
             (sym (eq-eqb (entry l.node.locks.time l.node.setting.me) (entry l.node.locks.time l.node.setting.me) refl))
-    turned_by turn later pending_then (anew e t k lost) same_turn same_node =
+    turned_by _ turn later pending_then (anew e t k lost) same_turn same_node =
         let reached : IsReachedNode l.node = p.reached in
         let told : AllMade (map interval_of made) (news_in e.message) =
         news-made (map interval_of made) e.message
@@ -388,7 +385,7 @@ module _ (program : Program) (nodes : ℕ) (options : OptionsRecord) (none : opt
 
     turned : Turned
     turned =
-        turned_by entry_made.turn after.node (pending now) (turn_at program nodes options world flight n l after input entry_made at come i r) refl refl
+        turned_by input entry_made.turn after.node (pending now) (turn_at program nodes options world flight n l after input entry_made at come i r) refl refl
 
     -- ---- what is known, and other nodes
 

@@ -2,7 +2,6 @@
 use Rattle.std.specs.Prelude.{◌≡◌, ℕ, List, Contains, length}
 use Rattle.lrc_trace.specs.Interval.{interval_at}
 use Rattle.lrc_clock.specs.Cover.{ClosesAt}
-use Rattle.lrc_page.specs.declared.size.Size.{Size}
 use Rattle.lrc_store.specs.Store.{StoredRecord}
 use Rattle.lrc_copies.specs.Stamps.{stamp_index}
 use Rattle.lrc_protocol.specs.Node.{OptionsRecord}
