@@ -20,7 +20,7 @@ use Rattle.lrc_protocol.specs.Node.{Wait, nothing, grant, departure, access, upk
 use Rattle.lrc_protocol.specs.Run.{Logged, World, run_of}
 use Rattle.lrc_protocol.proofs.Texts.{text}
 use Rattle.lrc_order_laws.proofs.Pending.{get_within}
-use Rattle.lrc_order_laws.proofs.Timed.{synchronized}
+use Rattle.lrc_order_laws.proofs.Timed.{synchronized, waits}
 use Rattle.lrc_protocol.proofs.Worlds.{run-whole}
 use Rattle.lrc_reading_laws.specs.Written.{made_stamps, changes_on}
 use Rattle.lrc_reading_laws.proofs.Closed.History.{History, history_of}
@@ -35,11 +35,14 @@ use Rattle.lrc_exact_known.specs.Known.{times_of}
 use Rattle.lrc_exact_known.proofs.KeepingTime.{before-time, time-there, times-kept}
 use Rattle.lrc_exact_known.proofs.Made.{did_there}
 use Rattle.lrc_exact_laws.specs.Laws.{IsExactRun}
+use Rattle.lrc_exact_laws.proofs.Deciding.{one_begins}
+use Rattle.lrc_exact_reading.specs.Steady.{ReadsSteadily}
+use Rattle.lrc_exact_reading.proofs.Giving.{reads_steadily}
 use Rattle.lrc_exact_machine.specs.Machine.{exact}
 use Rattle.lrc_exact_machine.proofs.Making.{is_made}
 use Rattle.lrc_exact_made.specs.Copies.{IsExactly, HasExact}
 use Rattle.lrc_exact_worlds.specs.Made.{shape_in, AreExact}
-use Rattle.lrc_exact_worlds.specs.Laws.{WasExactlyMade, ActsFixWhatWasMade}
+use Rattle.lrc_exact_worlds.specs.Laws.{LocksAloneDecide, WasExactlyMade, ActsFixWhatWasMade}
 use Rattle.lrc_exact_worlds.proofs.Effects.{standing, KnowsMade}
 use Rattle.lrc_exact_worlds.proofs.Worlds.{AreExactOf, all_exact}
 
@@ -48,13 +51,13 @@ module _ (program : Program) (nodes : ℕ) (options : OptionsRecord) (events : L
   abbrev shape : Shape
   shape = shape_in nodes options
 
-  hist : (made : List StoredRecord) × History program nodes options world made
+  pub hist : (made : List StoredRecord) × History program nodes options world made
   hist = history_of program nodes options events world run
 
   abbrev made : List StoredRecord
   made = hist.0
 
-  all : AreExactOf nodes options made world.nodes world.acts
+  pub all : AreExactOf nodes options made world.nodes world.acts
   all = all_exact program nodes options none world hist.0 hist.1
 
   pub reads_exactly : ReadsExactly shape world.acts
@@ -69,6 +72,10 @@ module _ (program : Program) (nodes : ℕ) (options : OptionsRecord) (events : L
 
   pub order_fixes : exact program shape (nodes_of_acts world.acts) ≡ Some world.acts
   order_fixes = is_made program shape world.acts exact_run
+
+  pub steadily : ReadsSteadily world.acts
+  steadily =
+      reads_steadily shape world.acts (synchronized program nodes options events world run) (waits program nodes options events world run) reads_exactly
 
   -- ---- what was made
 
@@ -151,13 +158,22 @@ was_made program nodes options events world run none =
       are_exact program nodes options events world run none,
     )
 
+-- two runs that read exactly differ by locks alone
+pub locks_decide : LocksAloneDecide
+locks_decide program nodes options events other_events world other run run' none locks =
+    let a : IsExactRun program (shape_in nodes options) world.acts = exact_run program nodes options events world run none in
+    let b : IsExactRun program (shape_in nodes options) other.acts = exact_run program nodes options other_events other run' none in
+    one_begins (exact_rule (shape_in nodes options)) (λ state word. (state.words word).value) program nodes world.acts other.acts a.exact.states b.exact.states
+    record { follows = a.follows; synchronized = a.synchronized; keeps = a.exact.keeps; reads = a.exact.reads }
+    record { follows = b.follows; synchronized = b.synchronized; keeps = b.exact.keeps; reads = b.exact.reads } locks
+
 -- the acts fix the changes
 same_changes : (options : OptionsRecord) (x y : StoredRecord) (interval : Interval) → IsExactly options.size x interval → IsExactly options.size y interval
     → (page offset : ℕ) → offset < words_of options.size → change_at (changes_on page x) offset ≡ change_at (changes_on page y) offset
 same_changes options x y interval a b page offset lt = sym (a.changed page offset lt) ∙ b.changed page offset lt
 
 pub acts_fix : ActsFixWhatWasMade
-acts_fix nodes options world other made mades states other_states a b same x y j c d node_is index_is closing page offset lt =
+acts_fix nodes options world other mine theirs states other_states a b same x y j c d node_is index_is closing page offset lt =
     let rule = exact_rule (shape_in nodes options) in
     let kept : KeepsExact (shape_in nodes options) world.acts other_states = subst (λ acts. KeepsExact (shape_in nodes options) acts other_states) (sym same) b.keeps in
     let states_are : other_states ≡ states = one_list rule nodes world.acts other_states states kept a.keeps in

@@ -1,7 +1,7 @@
 -- A turn of a node keeps what it has as the exact memory has it.
 use Rattle.std.proofs.Common.{◌≡◌, ℕ, zero, suc, ◌+◌, ◌<◌, ◌≤◌, List, [], ◌∷◌, ◌++◌, Bool, true, false, length, map, max, inl, inr, refl, sym, ap, subst, ◌∙◌}
 use Rattle.std.proofs.Common.{arith, append-nil}
-use Rattle.std.specs.Prelude.{Option, Some, None, is_some, slice_index_or, unwrap_or, option_and_then, ◌==◌, ◌-◌, nat_le, ◌&&◌, slice_get, Contains, if◌then◌else◌}
+use Rattle.std.specs.Prelude.{All, Option, Some, None, is_some, slice_index_or, unwrap_or, option_and_then, ◌==◌, ◌-◌, nat_le, ◌&&◌, slice_get, Contains, if◌then◌else◌}
 use Rattle.std.specs.List.{list_any}
 use Rattle.std.proofs.lemmas.Bool.{cases_lt, cases_Bool, eq-eqb, ne_eqb, false≢true}
 use Rattle.std.proofs.lemmas.Option.{same_Some}
@@ -73,11 +73,11 @@ use Rattle.lrc_exact_worlds.proofs.Uncollected.{collects_in, is_collecting, AreP
 
 -- ---- deeds
 
-read_word : Deed → ℕ
+abbrev read_word : Deed → ℕ
 read_word (Read word value) = word
 read_word _ = 0
 
-read_value : Deed → ℕ
+abbrev read_value : Deed → ℕ
 read_value (Read word value) = value
 read_value _ = 0
 
@@ -431,7 +431,7 @@ module _ (nodes collect : ℕ) (none : collect ≡ 0) (acts : List Act) (states 
       accesses-then (charged node next).left (record node.mail { wait = nothing }) (repaired node.memory need) letters refl next word access_is f readable
       (long_then (waiting nothing (with_memory node (repaired node.memory need))) (goes walk (mends_change need refl met)) page readable))
 
-  run-then : (e : Effect) → RunRule node e → Then e
+  pub run-then : (e : Effect) → RunRule node e → Then e
   run-then e (run_hit {next = next} {word = word} r access_is readable) =
       acts_by-as Then [] (charged node next) node.course next (next-ready node next r) (λ o.
       accesses-then (charged node next).left node.mail node.memory [] r.idle next word access_is
@@ -599,7 +599,7 @@ module _ (nodes collect : ℕ) (none : collect ≡ 0) (acts : List Act) (states 
         readable
         (long_then (waiting nothing (with_memory node (repaired memory then_need))) (goes walks (mends_change then_need refl met)) (page_of word size) readable))
 
-  take-then : (from : ℕ) (message : Message) (e : Effect) → collects_in message ≡ false → AllMade (map interval_of made) (news_in message)
+  pub take-then : (from : ℕ) (message : Message) (e : Effect) → collects_in message ≡ false → AllMade (map interval_of made) (news_in message)
       → TakeRule node from message e → Then e
   take-then from message e q told (take_request m lt counted mine) = λ o. rests _ _ refl refl refl
   take-then from message e q told (take_forward m lt asker counted managed accepted) = λ o. rests _ _ refl refl refl

@@ -21,13 +21,13 @@ use Rattle.lrc_protocol.specs.Times.{MOST_NUMBER, is_named}
 use Rattle.lrc_protocol.specs.Pages.{Copy, valid, written, invalid, absent, closed, invalidated, after_write, Memory, copy_at, Base, unneeded, due, come}
 use Rattle.lrc_protocol.specs.Pages.{Asked, Need, learned, with_interval, repaired}
 use Rattle.lrc_protocol.specs.Barriers.{arrival_in}
-use Rattle.lrc_protocol.specs.Node.{Letter, Wait, nothing, upkeep, discard, Course, going, trapped, ended, Node, Effect, OptionsRecord}
+use Rattle.lrc_protocol.specs.Node.{waiting, with_memory, Letter, Wait, nothing, upkeep, discard, Course, going, trapped, ended, Node, Effect, OptionsRecord}
 use Rattle.lrc_protocol.specs.Node.{makes, acts_by, acts, numbered, envelope_of}
-use Rattle.lrc_protocol.specs.Turn.{page_request_of, changes_request_of, grants_of, departure_of, discards_to, TurnRecord, taking}
+use Rattle.lrc_protocol.specs.Turn.{requests_of, charged, page_request_of, changes_request_of, grants_of, departure_of, discards_to, TurnRecord, taking}
 use Rattle.lrc_protocol.specs.Rules.{RunRule, run_hit, run_miss, run_repair, run_acquire, run_ask, run_release, run_barrier, run_other, TakeRule}
 use Rattle.lrc_protocol.specs.Rules.{take_request, take_forward, take_token, take_arrive, take_last_arrive, take_depart, take_collect, take_collect_at_once}
 use Rattle.lrc_protocol.specs.Rules.{take_reply, take_last_reply, take_kept_reply, take_last_kept_reply, take_clean, take_last_clean, take_discard}
-use Rattle.lrc_protocol.specs.Rules.{take_changes_request, take_page_request, IsSent, with_numbers, closed_for}
+use Rattle.lrc_protocol.specs.Rules.{take_changes_request, take_page_request, IsSent, with_numbers, closed_for, page_at, need_at}
 use Rattle.lrc_protocol.specs.Run.{Input, run, Logged, World, fresh_world, with_turn}
 use Rattle.lrc_protocol.specs.Follows.{pending}
 use Rattle.lrc_protocol.proofs.Worlds.{fresh_at}
@@ -72,32 +72,26 @@ told-there [] ys e h = h.0
 told-there (x ∷ xs) ys e h = told-there xs ys e h.1
 
 -- letters with their numbers
-sent_so : (me first : ℕ) (sent : List ℕ) (letters : List Letter) (out : List EnvelopeRecord) (rest : List ℕ)
-    → numbered me first sent letters ≡ Some (out, rest) → AllQuiet letters → AllTold out
-sent_so me first sent [] out rest e h = none out rest e
-  where
-    none : (out : List EnvelopeRecord) (rest : List ℕ) → Some ([], sent) ≡ Some (out, rest) → AllTold out
-    none out rest e = subst AllTold (first_of e) tt
-      where
-        first_of : Some ([], sent) ≡ Some (out, rest) → [] ≡ out
-        first_of e = cc
-sent_so me first sent (l ∷ letters) out rest e h =
-    by_test (nat_le (first + slice_index sent l.to) MOST_NUMBER) (numbered me first (slice_set sent l.to (slice_index sent l.to + 1)) letters) refl e
-  where
-    head : EnvelopeRecord
-    head = envelope_of me (first + slice_index sent l.to) l
+none_are : (out : List EnvelopeRecord) (sent last : List ℕ) → Some ([], sent) ≡ Some (out, last) → [] ≡ out
+none_are out sent last e = cc
 
-    head_of : (more : List EnvelopeRecord) (last : List ℕ) → Some (head ∷ more, last) ≡ Some (out, rest) → head ∷ more ≡ out
-    head_of more last e = cc
+head_is : (head : EnvelopeRecord) (es out : List EnvelopeRecord) (sent last : List ℕ) → Some (head ∷ es, sent) ≡ Some (out, last) → head ∷ es ≡ out
+head_is head es out sent last e = cc
 
-    by_test : (b : Bool) (more : Option (List EnvelopeRecord × List ℕ))
-        → numbered me first (slice_set sent l.to (slice_index sent l.to + 1)) letters ≡ more
-        → (if b then option_map (λ (more : List EnvelopeRecord × List ℕ). (head ∷ more.0, more.1)) more else None) ≡ Some (out, rest) → AllTold out
-    by_test true (Some more) is e =
-        subst AllTold (head_of more.0 more.1 e)
-        (h.0, sent_so me first (slice_set sent l.to (slice_index sent l.to + 1)) letters more.0 more.1 is h.1)
-    by_test true None is e = cc
-    by_test false more is e = cc
+sent_one : (head : EnvelopeRecord) (b : Bool) (more : Option (List EnvelopeRecord × List ℕ)) (out : List EnvelopeRecord) (last : List ℕ)
+    → collects_in head.message ≡ false → ((es : List EnvelopeRecord) (sent : List ℕ) → more ≡ Some (es, sent) → AllTold es)
+    → (if b then option_map (λ (more : List EnvelopeRecord × List ℕ). (head ∷ more.0, more.1)) more else None) ≡ Some (out, last) → AllTold out
+sent_one head true (Some more) out last q rest e = subst AllTold (head_is head more.0 out more.1 last e) (q, rest more.0 more.1 refl)
+sent_one head true None out last q rest e = cc
+sent_one head false more out last q rest e = cc
+
+sent_so : (me first : ℕ) (sent : List ℕ) (letters : List Letter) (out : List EnvelopeRecord) (last : List ℕ)
+    → numbered me first sent letters ≡ Some (out, last) → AllQuiet letters → AllTold out
+sent_so me first sent [] out last e h = subst AllTold (none_are out sent last e) tt
+sent_so me first sent (l ∷ letters) out last e h =
+    let before : ℕ = slice_index sent l.to in
+    sent_one (envelope_of me (first + before) l) (nat_le (first + before) MOST_NUMBER) (numbered me first (slice_set sent l.to (before + 1)) letters) out
+    last h.0 (λ es then_sent is. sent_so me first (slice_set sent l.to (before + 1)) letters es then_sent is h.1) e
 
 -- ---- nodes
 
@@ -338,8 +332,11 @@ module _ (node : Node) (none : node.options.collect ≡ 0) (h : NeverCollects no
     node = record { wait = refl; copies = h.copies; manages = h.manages };
     letters = requests-quiet _ _ _;
   }
-  run-so e (run_repair r a away met) =
-      acts-so _ _ (requests-quiet _ _ _) (record { wait = refl; copies = repairs-present node.memory _ h.copies; manages = h.manages })
+  run-so e (run_repair {next = next} {word = word} r a away met) =
+      let need : Need = need_at node (page_at node word) in
+      acts-so (requests_of need) (waiting nothing (with_memory (charged node next) (repaired node.memory need)))
+      (requests-quiet need.page need.base need.asked)
+      (record { wait = refl; copies = repairs-present node.memory need h.copies; manages = h.manages })
   run-so e (run_acquire lock after r room free) =
       acts-so [] _ tt (record { wait = h.wait; copies = closes-present node.memory.copies h.copies; manages = h.manages })
   run-so e (run_ask lock after r room away) = record {
@@ -347,7 +344,8 @@ module _ (node : Node) (none : node.options.collect ≡ 0) (h : NeverCollects no
     letters = (refl, tt);
   }
   run-so e (run_release lock after r room) =
-      acts-so _ _ (grants-quiet _ _) (record { wait = h.wait; copies = closes-present node.memory.copies h.copies; manages = h.manages })
+      acts-so _ _ (grants-quiet (closed_for node (releases lock after)) _)
+      (record { wait = h.wait; copies = closes-present node.memory.copies h.copies; manages = h.manages })
   run-so e (run_barrier after r room) =
       acts-so _ _ (ap (λ c. nat_le 1 c && nat_le c (length (closed_for node (arrives after)).memory.store.entries)) none, tt)
       (record { wait = refl; copies = closes-present node.memory.copies h.copies; manages = h.manages })
@@ -363,7 +361,7 @@ module _ (node : Node) (none : node.options.collect ≡ 0) (h : NeverCollects no
   }
   take-so from message e q (take_forward m lt asker counted managed accepted) = record {
     node = record { wait = h.wait; copies = h.copies; manages = h.manages };
-    letters = grants-quiet _ _;
+    letters = grants-quiet node _;
   }
   take-so from message e q (take_token m lt at told) =
       acts-so [] _ tt (record { wait = refl; copies = learns-present node.locks.time m.intervals node.memory h.copies; manages = h.manages })
@@ -489,11 +487,11 @@ module _ (program : Program) (nodes : ℕ) (options : OptionsRecord) (none : opt
   }
 
   kept-so : KeptByReached program nodes options AreUncollected
-  kept-so world flight n l after input entry at come i r r' h =
+  kept-so world flight n l after input entry at coming i r r' h =
       let same : l.node.options ≡ options = (shape_at program nodes options r.events world n l r.runs at).options in
       let so : TurnSo after.node (pending (with_turn world flight n entry after)) =
       turn-so l.node (ap (λ (o : OptionsRecord). o.collect) same ∙ none) (h.nodes n l at) (pending world) h.told input entry.turn after.node
-      (pending (with_turn world flight n entry after)) (turn_at program nodes options world flight n l after input entry at come i r) in
+      (pending (with_turn world flight n entry after)) (turn_at program nodes options world flight n l after input entry at coming i r) in
       record {
         told = so.told;
         nodes = each_node (λ q lq. NeverCollects lq.node) world n l after at so.node h.nodes;

@@ -3,7 +3,7 @@ use Rattle.std.specs.Prelude.{◌≡◌, ℕ, ◌<◌, Some, List, Contains}
 use Rattle.lrc_lang.specs.declared.program.Program.{Program}
 use Rattle.lrc_page.specs.Page.{words_of}
 use Rattle.lrc_page.specs.Changes.{change_at}
-use Rattle.lrc_consistency_laws.specs.Follows.{nodes_of_acts}
+use Rattle.lrc_consistency_laws.specs.Follows.{deeds_of, nodes_of_acts}
 use Rattle.lrc_clock.specs.Cover.{ClosesAt}
 use Rattle.lrc_store.specs.Store.{StoredRecord}
 use Rattle.lrc_copies.specs.Stamps.{stamp_index}
@@ -15,6 +15,8 @@ use Rattle.lrc_reading_laws.specs.Known.{AreKnown}
 use Rattle.lrc_reading_laws.specs.Written.{made_stamps, changes_on}
 use Rattle.lrc_exact.specs.Rule.{State, ReadsExactly}
 use Rattle.lrc_exact_laws.specs.Laws.{IsExactRun}
+use Rattle.lrc_exact_laws.specs.Order.{acquirers, OneBeginsOther}
+use Rattle.lrc_exact_reading.specs.Steady.{ReadsSteadily}
 use Rattle.lrc_exact_machine.specs.Machine.{exact}
 use Rattle.lrc_exact_worlds.specs.Made.{shape_in, AreExact}
 
@@ -28,13 +30,26 @@ InEachRun Holds =
 abbrev pub ReadExactly : Type 0
 ReadExactly = InEachRun (λ program nodes options world. ReadsExactly (shape_in nodes options) world.acts)
 
--- So it is one of the exact machine's runs,
+-- So reads are steady.
+abbrev pub ReadSteadily : Type 0
+ReadSteadily = InEachRun (λ program nodes options world. ReadsSteadily world.acts)
+
+-- The run is one of the exact machine's,
 abbrev pub AreExactRuns : Type 0
 AreExactRuns = InEachRun (λ program nodes options world. IsExactRun program (shape_in nodes options) world.acts)
 
 -- led by the order of its acts.
 abbrev pub OrderFixesActs : Type 0
 OrderFixesActs = InEachRun (λ program nodes options world. exact program (shape_in nodes options) (nodes_of_acts world.acts) ≡ Some world.acts)
+
+-- Of two runs, let the nodes acquire each lock in the same order, as far as both go. Then each node makes the same acts in both, as far
+-- as both go.
+abbrev pub LocksAloneDecide : Type 0
+LocksAloneDecide =
+    (program : Program) (nodes : ℕ) (options : OptionsRecord) (events other_events : List Event) (world other : World)
+    → run_of program nodes options events ≡ Some world → run_of program nodes options other_events ≡ Some other → options.collect ≡ 0
+    → ((l : ℕ) → OneBeginsOther (acquirers l world.acts) (acquirers l other.acts))
+    → (node : ℕ) → OneBeginsOther (deeds_of node world.acts) (deeds_of node other.acts)
 
 -- There is one list of intervals with which nodes and acts agree, and each of them did what the exact memory says of it.
 abbrev pub WasExactlyMade : Type 0

@@ -1,19 +1,25 @@
 // What runs of the protocol machine read, and what their intervals made, by the acts alone. Each function is a theorem: its body is
 // empty, and its clauses are the law. The statements stand in specs/, so that others can cite them.
 
-ghost use Rattle.lrc_exact_worlds.specs.Laws.{ActsFixWhatWasMade, AreExactRuns, OrderFixesActs, ReadExactly, WasExactlyMade};
+ghost use Rattle.lrc_exact_worlds.specs.Laws.{ActsFixWhatWasMade, AreExactRuns, LocksAloneDecide, OrderFixesActs};
+ghost use Rattle.lrc_exact_worlds.specs.Laws.{ReadExactly, ReadSteadily, WasExactlyMade};
 
 /// In every run in which barriers never collect, whatever the messages' order and however often they come, each read
-/// gives the exact memory's value.
+/// gives the exact memory's value. So reads are steady: where the writes that happen before a read are unordered, it
+/// gives the value of one that is the last of them in its interval, and the same until its node writes the word, acquires
+/// or departs.
 pub fn runs_read_exactly()
     ensures reads { ReadExactly }
+    ensures steadily { ReadSteadily }
     ensures runs { AreExactRuns }
 {}
 
-/// So the acts are a function of the program, the nodes, the size of a page and the order in which the nodes act. (By the
-/// law `only_locks_decide` the order in which they acquire each lock decides all.)
-pub fn the_order_fixes_the_acts()
-    ensures { OrderFixesActs }
+/// So the acts are a function of the program, the nodes, the size of a page and the order in which the nodes act. And
+/// the order in which the nodes acquire each lock decides all that each node does: of messages, when they come, how
+/// often and in which order, nothing is left.
+pub fn locks_alone_decide()
+    ensures order { OrderFixesActs }
+    ensures locks { LocksAloneDecide }
 {}
 
 /// In every such run there is one list of intervals with their changes, with which the nodes and the acts agree, and in
