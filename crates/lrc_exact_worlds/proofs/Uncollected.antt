@@ -4,6 +4,7 @@ use Rattle.std.specs.Prelude.{Option, Some, None, is_some, option_map, ◌==◌,
 use Rattle.std.specs.List.{enumerate_from, list_all, range_with_len}
 use Rattle.std.proofs.lemmas.Bool.{false≢true}
 use Rattle.std.proofs.lemmas.List.{length-set, length-map}
+use Rattle.std.proofs.lemmas.Option.{same_Some}
 use Rattle.lrc_lang.specs.declared.program.Program.{Program}
 use Rattle.lrc_exec.specs.Meaning.{Next, quiet, prints, reads, writes, acquires, releases, arrives, departs, traps, ends, next_of}
 use Rattle.lrc_page.specs.Page.{zero_page}
@@ -72,26 +73,34 @@ told-there [] ys e h = h.0
 told-there (x ∷ xs) ys e h = told-there xs ys e h.1
 
 -- letters with their numbers
-none_are : (out : List EnvelopeRecord) (sent last : List ℕ) → Some ([], sent) ≡ Some (out, last) → [] ≡ out
-none_are out sent last e = cc
+abbrev Sent : Type 0
+Sent = List EnvelopeRecord × List ℕ
 
-head_is : (head : EnvelopeRecord) (es out : List EnvelopeRecord) (sent last : List ℕ) → Some (head ∷ es, sent) ≡ Some (out, last) → head ∷ es ≡ out
-head_is head es out sent last e = cc
+abbrev one_before : EnvelopeRecord → Sent → Sent
+one_before head more = (head ∷ more.0, more.1)
 
-sent_one : (head : EnvelopeRecord) (b : Bool) (more : Option (List EnvelopeRecord × List ℕ)) (out : List EnvelopeRecord) (last : List ℕ)
-    → collects_in head.message ≡ false → ((es : List EnvelopeRecord) (sent : List ℕ) → more ≡ Some (es, sent) → AllTold es)
-    → (if b then option_map (λ (more : List EnvelopeRecord × List ℕ). (head ∷ more.0, more.1)) more else None) ≡ Some (out, last) → AllTold out
-sent_one head true (Some more) out last q rest e = subst AllTold (head_is head more.0 out more.1 last e) (q, rest more.0 more.1 refl)
-sent_one head true None out last q rest e = cc
-sent_one head false more out last q rest e = cc
+abbrev none_before : List ℕ → Sent
+none_before sent = ([], sent)
 
-sent_so : (me first : ℕ) (sent : List ℕ) (letters : List Letter) (out : List EnvelopeRecord) (last : List ℕ)
-    → numbered me first sent letters ≡ Some (out, last) → AllQuiet letters → AllTold out
-sent_so me first sent [] out last e h = subst AllTold (none_are out sent last e) tt
-sent_so me first sent (l ∷ letters) out last e h =
+none_are : (sent : List ℕ) (all : Sent) → Some (none_before sent) ≡ Some all → [] ≡ all.0
+none_are sent all e = ap (λ (s : Sent). s.0) (same_Some (none_before sent) all e)
+
+head_is : (head : EnvelopeRecord) (more all : Sent) → Some (one_before head more) ≡ Some all → head ∷ more.0 ≡ all.0
+head_is head more all e = ap (λ (s : Sent). s.0) (same_Some (one_before head more) all e)
+
+sent_one : (head : EnvelopeRecord) (b : Bool) (more : Option Sent) (all : Sent) → collects_in head.message ≡ false
+    → ((sent : Sent) → more ≡ Some sent → AllTold sent.0) → (if b then option_map (one_before head) more else None) ≡ Some all → AllTold all.0
+sent_one head true (Some more) all q rest e = subst AllTold (head_is head more all e) (q, rest more refl)
+sent_one head true None all q rest e = cc
+sent_one head false more all q rest e = cc
+
+sent_so : (me first : ℕ) (sent : List ℕ) (letters : List Letter) (all : Sent) → numbered me first sent letters ≡ Some all → AllQuiet letters
+    → AllTold all.0
+sent_so me first sent [] all e h = subst AllTold (none_are sent all e) tt
+sent_so me first sent (l ∷ letters) all e h =
     let before : ℕ = slice_index sent l.to in
-    sent_one (envelope_of me (first + before) l) (nat_le (first + before) MOST_NUMBER) (numbered me first (slice_set sent l.to (before + 1)) letters) out
-    last h.0 (λ es then_sent is. sent_so me first (slice_set sent l.to (before + 1)) letters es then_sent is h.1) e
+    sent_one (envelope_of me (first + before) l) (nat_le (first + before) MOST_NUMBER) (numbered me first (slice_set sent l.to (before + 1)) letters) all
+    h.0 (λ more is. sent_so me first (slice_set sent l.to (before + 1)) letters more is h.1) e
 
 -- ---- nodes
 
@@ -434,7 +443,7 @@ sent-node e turn after (with_numbers out sent is) so =
 
 sent-out : (e : Effect) (turn : TurnRecord) (after : Node) → IsSent e turn after → EffectSo e → AllTold turn.out
 sent-out e turn after (with_numbers out sent is) so =
-    sent_so e.node.setting.me e.node.options.first e.node.mail.sent e.letters out sent is so.letters
+    sent_so e.node.setting.me e.node.options.first e.node.mail.sent e.letters (out, sent) is so.letters
 
 module _ (node : Node) (none : node.options.collect ≡ 0) (h : NeverCollects node) (was : List EnvelopeRecord) (told : AllTold was) where
   turn-so : (input : Input) (turn : TurnRecord) (after : Node) (now : List EnvelopeRecord) → TurnBy node was input turn after now → TurnSo after now
