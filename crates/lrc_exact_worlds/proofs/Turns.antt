@@ -335,7 +335,17 @@ module _ (nodes collect : ℕ) (none : collect ≡ 0) (acts : List Act) (states 
 
   module _ (upto : List ℕ) (intervals : List IntervalRecord) (come : News (view_of node) upto intervals) (told : AllMade (map interval_of made) intervals)
       (quiet : NoneWritten node.memory) where
-    -- an interval that is new is among those that came
+    -- an interval that was made is among those that came, if one with its node and index is
+    of_member : (y : StoredRecord) → Contains made y → Member y.node (stamp_index made_stamps y) intervals → Contains intervals (interval_of y)
+    of_member y member m =
+        let r : HasRecord made m.i = interval-from made m.i (made_at (map interval_of made) intervals m.i told m.in_list) in
+        let same : y ≡ r.x =
+        found_once made y r.x h.listed.found member r.in_list
+        (sym m.node_is ∙ ap (λ (i : IntervalRecord). i.node) (sym r.is))
+        (sym m.index_is ∙ ap index_of (sym r.is)) in
+        subst (Contains intervals) (sym r.is ∙ ap interval_of (sym same)) m.in_list
+
+    -- one that is new is
     comes : (y : StoredRecord) → Contains made y → entry time y.node < stamp_index made_stamps y
         → stamp_index made_stamps y ≤ entry (joined time upto) y.node → Contains intervals (interval_of y)
     comes y member later known =
@@ -344,15 +354,9 @@ module _ (nodes collect : ℕ) (none : collect ≡ 0) (acts : List Act) (states 
         let both : entry (joined time upto) q ≡ max (entry time q) (entry upto q) = entry-joined time upto q in
         let less : k ≤ entry upto q = omega arith in
         let within : q < node.setting.nodes = subst (λ n. q < n) (sym h.count) (h.listed.among y member) in
-        let m : Member q k intervals =
-        in_index q k intervals
-        (subst (λ ks. Contains ks k) (sym (come.between q within)) (in_range (entry time q + 1) (entry upto q - entry time q) k (omega arith) (omega arith))) in
-        let r : HasRecord made m.i = interval-from made m.i (made_at (map interval_of made) intervals m.i told m.in_list) in
-        let same : y ≡ r.x =
-        found_once made y r.x h.listed.found member r.in_list
-        (sym m.node_is ∙ ap (λ (i : IntervalRecord). i.node) (sym r.is))
-        (sym m.index_is ∙ ap index_of (sym r.is)) in
-        subst (Contains intervals) (sym r.is ∙ ap interval_of (sym same)) m.in_list
+        of_member y member
+        (in_index q k intervals
+        (subst (λ ks. Contains ks k) (sym (come.between q within)) (in_range (entry time q + 1) (entry upto q - entry time q) k (omega arith) (omega arith))))
 
     not_named : (page : ℕ) → is_named intervals page ≡ false → (y : StoredRecord) → Contains made y → entry time y.node < stamp_index made_stamps y
         → stamp_index made_stamps y ≤ entry (joined time upto) y.node → changes_on page y ≡ []
