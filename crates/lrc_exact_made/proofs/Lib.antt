@@ -1,0 +1,5 @@
+pub mod Ranks
+pub mod Closing
+pub mod Learning
+pub mod Accessing
+pub mod Repairing

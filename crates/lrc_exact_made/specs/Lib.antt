@@ -1,0 +1,3 @@
+pub mod Copies
+pub mod Steps
+pub mod Laws

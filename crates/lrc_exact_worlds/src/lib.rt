@@ -1,0 +1,6 @@
+//! What every run of the protocol machine reads, races or not: the values of the exact memory, a function of the program, the
+//! nodes, the size of a page and the order in which nodes acquire each lock. Proved here for runs without collections.
+//! The crate has laws only.
+#![tactic(auto)]
+
+pub mod laws;
