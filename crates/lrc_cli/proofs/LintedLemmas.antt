@@ -1,12 +1,11 @@
 -- What `lint` says of a text that is read as a named program.
-use Rattle.std.proofs.Common.{◌≡◌, ℕ, List, Option, Some, None, MatchOption, Result, Ok, Err, IfOk, inl, inr, refl, subst}
+use Rattle.std.proofs.Common.{◌≡◌, ℕ, List, Option, Some, None, MatchOption, Result, Ok, Err, IfOk, inl, inr, subst}
 use Rattle.lrc_text.specs.Parts.{whole_text}
 use Rattle.lrc_lint_fault.specs.declared.linted.Linted.{Linted}
-use Rattle.lrc_named.proofs.OneCore.{no_fault}
 use Rattle.lrc_named.specs.Named.{IsReadAsNamed}
-use Rattle.lrc_named_faults.specs.Checked.{counted_in}
 use Rattle.lrc_named_linted.specs.Linted.{HasUntoldFault, IsUntold, TellsNamed}
 use Rattle.lrc_named_warned.specs.Warned.{HasFault, WarnsNamed}
+use Rattle.lrc_named_warned.proofs.Telling.{not_faulty}
 use Rattle.lrc_cli.specs.Answer.{IsLinted, IsLintedAsCore, IsLintedAsNamed, IsNotTold, IsToldAsNamed}
 
 pub none_case : {A P : Type 0} {Q : A → Type 0} (o : Option A) → o ≡ None → MatchOption o P Q → P
@@ -21,9 +20,8 @@ fault_told file text linted told = inl told
 -- a text that has a fault of which nothing is told has one of which no hint is told
 untold_fault : (text : List ℕ) → IsUntold text → HasFault text → HasUntoldFault text
 untold_fault text (inl untold) fault = untold
-untold_fault text (inr sound) (fault, is, other) =
-    absurd (other (no_fault text (counted_in None sound.tree.declarations) sound.core fault
-    (record { tokens = sound.tokens; tree = sound.tree; declared = sound.declared; is = sound.is; asked = refl; core_is = sound.written }) is))
+untold_fault text (inr sound) fault =
+    absurd (not_faulty text sound.tokens sound.tree sound.declared sound.core sound.is sound.written fault)
 
 -- what is told of a text of whose first fault nothing is told
 pub sound_told : {E : Type 0} (file text : List ℕ) (r : Result (Option Linted) E) → IsUntold text

@@ -13,16 +13,19 @@ use Rattle.lrc_named_names.specs.View.{declared_of}
 use Rattle.lrc_named_expression_faults.specs.declared.fault.Fault.{Fault}
 use Rattle.lrc_named_expression_faults.specs.Fault.{IsFirstOf}
 use Rattle.lrc_named_faults.specs.declared.layout.Layout as code_layout
+use Rattle.lrc_named_faults.specs.Checked.{counted_in}
 use Rattle.lrc_named_faults.specs.Program.{IsFaultOf}
 use Rattle.lrc_named_core.specs.Tree.{Origin}
 use Rattle.lrc_named_limits.specs.declared.excess.Excess.{Excess}
 use Rattle.lrc_named_held.specs.declared.owns.Own.{Own}
 use Rattle.lrc_named_check.specs.Program.{IsClean}
-use Rattle.lrc_named_written.specs.Written.{IsCoreLong, IsCoreOver, IsCoreTextFrom}
+use Rattle.lrc_named_written.specs.Written.{IsCoreLong, IsCoreOver, IsCoreText, IsCoreTextFrom}
 use Rattle.lrc_named.specs.declared.fault.NamedFault.TheVariants.{Names, NoMemory, Text}
 use Rattle.lrc_named.specs.Faults.{fault_of_kind}
 use Rattle.lrc_named.specs.Lines.{lines_of}
+use Rattle.lrc_named.specs.Named.{IsFaultless}
 use Rattle.lrc_named.proofs.Answering.{long_found, name_fault, over_found, text_fault}
+use Rattle.lrc_named.proofs.OneCore.{no_fault}
 use Rattle.lrc_named_warned.specs.Warned.{HasFault, TellsCore, WarnsNamed}
 
 still_a_fault : (line : ℕ) (kind : FaultKind) → (kind ≡ kinds.NoMemory → ⊥) → fault_of_kind line kind ≡ NoMemory → ⊥
@@ -61,6 +64,12 @@ long_faulty text t tree layout parsed clean long =
 
 -- ---- a text that has none
 
+pub not_faulty : (text : List ℕ) (t : List Located) (tree : NamedTree) (declared : List Declared) (core : List ℕ) → IsFaultless text t tree declared
+    → IsCoreText declared (lines_of t) tree core → HasFault text → ⊥
+not_faulty text t tree declared core is written fault =
+    fault.2 (no_fault text (counted_in None tree.declarations) core fault.0
+    (record { tokens = t; tree = tree; declared = declared; is = is; asked = refl; core_is = written }) fault.1)
+
 pub warned : (file text printed : List ℕ) (t : List Located) (tree : NamedTree) (layout : code_layout.Layout) (core : List ℕ) (origins : List Origin)
     (owns : List (List Own)) → IsNamed text t tree → IsClean tree layout
     → IsCoreTextFrom (declared_of layout.names) (lines_of t) tree core origins owns
@@ -91,5 +100,5 @@ IsAnswer file text told = MatchOption told (HasFault text) (λ linted. WarnsName
 pub nothing_told : {E : Type 0} (file text : List ℕ) (place : Place) (kind : FaultKind) (r : Result (Option Linted) E)
     → (kind ≡ kinds.NoMemory) ⊎ HasFirstFault text place kind → IfOk r (λ told. (told ≡ None) × (kind ≡ kinds.NoMemory → ⊥)) → IfOk r (IsAnswer file text)
 nothing_told file text place kind (Ok None) found none = text_faulty text place kind found none.1
-nothing_told file text place kind (Ok (Some linted)) found none = absurd (cc)
+nothing_told file text place kind (Ok (Some linted)) found none = let e = none.0 in absurd (cc)
 nothing_told file text place kind (Err e) found none = tt

@@ -1,6 +1,6 @@
 // What is told of a named program without a fault.
 
-ghost use Rattle.std.specs.Prelude.{◌≡◌, ◌≢◌, [], IfOk, MatchOption, OnOk, map};
+ghost use Rattle.std.specs.Prelude.{◌≡◌, ◌≢◌, [], IfOk, MatchOption, None, OnOk, map};
 ghost use Rattle.lrc_lang.specs.declared.fault.FaultKind.TheVariants.{NoMemory};
 ghost use Rattle.lrc_lang.specs.Faults.{IsText};
 ghost use Rattle.lrc_lang.specs.Tree.{program_of as core_program_of};

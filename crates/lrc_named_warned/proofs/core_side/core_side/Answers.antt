@@ -31,6 +31,12 @@ warnings-requires c =
     (ap (map token_of) c.deref-3.ensures.value ∙ c.in_ok-tokens.ensures
     ∙ ap (λ (l : List code_located.Located). tokens_of (map located_of l)) c.deref.ensures.value)
 
+pub statements_at-requires : goal.statements_at-requires
+statements_at-requires c =
+    few_tokens c.args.core.now c.in_ok-all.all.items _ c.requires.fits c.in_ok-all.ensures
+    (ap (map token_of) c.deref-6.ensures.value ∙ c.in_ok-tokens.ensures
+    ∙ ap (λ (l : List code_located.Located). tokens_of (map located_of l)) c.deref.ensures.value)
+
 pub returns : goal.returns
 returns c =
     let core = c.args.core.now in

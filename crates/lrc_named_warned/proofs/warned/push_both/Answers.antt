@@ -1,4 +1,4 @@
-use Rattle.std.proofs.Common.{List, ap, map, refl, ◌∙◌}
+use Rattle.std.proofs.Common.{List, ap, map, ◌∙◌}
 use Rattle.std.proofs.lemmas.Result.{on_ok_weaker}
 use Rattle.lrc_labels.specs.Reading.{label_seen}
 use Rattle.lrc_named_core.specs.View.{origin_of}
@@ -7,24 +7,19 @@ use Rattle.lrc_named_names.specs.View.{declared_of}
 use Rattle.lrc_named_tokens.specs.View.{located_of}
 use Rattle.lrc_named_tree.specs.declared.tree.Declaration as code_declaration
 use Rattle.lrc_named_tree.specs.declared.tree.Statement.{Statement}
-use Rattle.lrc_named_tree.specs.View.{block_of, declaration_of, program_of}
+use Rattle.lrc_named_tree.specs.View.{block_of, declaration_of}
 use Rattle.lrc_named_uses.specs.Loops.{loops_in}
 use Rattle.lrc_named_uses.specs.Unused.{unused_of}
-use Rattle.lrc_named_warned.specs.CoreSide.{side_seen}
-use Rattle.lrc_named_warned.specs.Warned.{context_of}
 use Rattle.lrc_named_warned.proofs.Contexts.{tells_same}
 use Rattle.lrc_named_warned.proofs.warned.push_both.Goals as goal
 
 pub returns : goal.returns
 returns c =
     let t = map located_of c.args.tokens.now in
-    let tree = program_of c.args.program.now in
     let declared = declared_of c.args.names.now in
-    let side = side_seen c.args.side.now in
     on_ok_weaker c.push_told.result
-    (λ h. tells_same c.args.file.now _ (context_of t tree declared (map origin_of c.args.origins.now) side) _ side.warned c.args.out.now.items c.push_told.new.out.items
+    (λ h. tells_same c.args.file.now (map origin_of c.args.origins.now) _ _ _ _ _ _ _ _ _ _ _ _ _ _ c.args.out.now.items c.push_told.new.out.items
     (c.deref-3.ensures.value ∙ c.in_ok-spots.ensures)
-    refl
     c.deref-4.ensures.value
     (ap (map (λ name. name.now)) c.deref-5.ensures.value)
     (ap (map label_seen) c.deref-6.ensures.value)
