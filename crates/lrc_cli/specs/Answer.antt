@@ -19,7 +19,8 @@ use Rattle.lrc_judge_text.specs.PairsTold.{HasItsRaces, told_text}
 use Rattle.lrc_judge_text.specs.declared.memory.ExactMemory.{ExactMemory}
 use Rattle.lrc_page.specs.Page.{words_of}
 use Rattle.lrc_named.specs.Named.{IsReadAsNamed}
-use Rattle.lrc_named_linted.specs.Linted.{IsUntold, TellsNamed}
+use Rattle.lrc_named_linted.specs.Linted.{HasUntoldFault, TellsNamed}
+use Rattle.lrc_named_warned.specs.Warned.{WarnsNamed}
 use Rattle.lrc_lint_fault.specs.Told.{TellsNoProgram}
 use Rattle.lrc_lint.specs.Linted.{LintsProgram}
 use Rattle.lrc_why_text.specs.Answers.{AnswersActs, RefusesActs}
@@ -173,14 +174,18 @@ IsShown None exploring text program out status = IsSaid exploring text program o
 abbrev pub IsExploration : Exploring → ReadText → Program → List ℕ → ℕ → Type 0
 IsExploration exploring text program out status = IsShown exploring.events exploring text program out status
 
--- the text and the status are what `lint` says of a text of this file that is read as a named program and has a fault: where the first one
--- is, and how it may be mended
-abbrev pub IsLintedAsNamed : List ℕ → List ℕ → List ℕ → ℕ → Type 0
-IsLintedAsNamed file text out status = IsReadAsNamed text × TellsNamed file text out × (status ≡ 1)
+-- What is told of a named program: of one with a fault where the first one is, and how it may be mended, with status 1; of one without a fault
+-- exactly its warnings, with status 0.
+abbrev pub IsToldAsNamed : List ℕ → List ℕ → List ℕ → ℕ → Type 0
+IsToldAsNamed file text out status = (TellsNamed file text out × (status ≡ 1)) ⊎ (WarnsNamed file text out × (status ≡ 0))
 
--- the text is of the core, or a named program without a fault or with one of which no hint is told
+-- the text and the status are what `lint` says of a text of this file that is read as a named program
+abbrev pub IsLintedAsNamed : List ℕ → List ℕ → List ℕ → ℕ → Type 0
+IsLintedAsNamed file text out status = IsReadAsNamed text × IsToldAsNamed file text out status
+
+-- the text is of the core, or a named program with a fault of which no hint is told
 abbrev pub IsNotTold : List ℕ → Type 0
-IsNotTold text = (¬ IsReadAsNamed text) ⊎ IsUntold text
+IsNotTold text = (¬ IsReadAsNamed text) ⊎ HasUntoldFault text
 
 -- of a text of the core: that it is no program, or its warnings
 abbrev pub IsLintedAsCore : List ℕ → List ℕ → List ℕ → ℕ → Type 0

@@ -1,0 +1,3 @@
+pub mod Contexts
+pub mod Sides
+pub mod Telling

@@ -1,0 +1,4 @@
+pub mod CoreSide
+pub mod Places
+pub mod Side
+pub mod Warned

@@ -1,0 +1,4 @@
+lock m;
+with m {
+  barrier;
+}

@@ -1,0 +1,3 @@
+nodes 2;
+x = 1 * (not 2);
+print x;

@@ -1,0 +1,3 @@
+shared a;
+a = me;
+print a;
