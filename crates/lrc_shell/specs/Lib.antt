@@ -1,1 +1,3 @@
+pub mod More
+pub mod Outlet
 pub mod Plays

@@ -2,6 +2,8 @@
 //! that they name, carries out the request, and returns the exit status.
 #![tactic(auto)]
 
+mod more;
+mod outlet;
 mod played;
 mod progress;
 mod races;
@@ -13,6 +15,7 @@ mod topic;
 mod watched;
 
 pub use lrc_shell_sources::sources::{Sources, System, read_up_to};
+pub use outlet::{Kept, Outlet};
 pub use played::play;
 pub use progress::{Late, LateLine, Watch};
 pub use starting::start;
