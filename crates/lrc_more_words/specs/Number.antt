@@ -1,6 +1,6 @@
 -- The options of the command line whose numbers have ranges, and which of them is out of its range.
 use Rattle.std.specs.Prelude.{ℕ, ◌*◌, ◌+◌, ◌-◌, ◌||◌, Bool, false, List, [], ◌∷◌, Option, Some, None, codes, drop, if◌then◌else◌, length, min, nat_eq, nat_lt, take, fold}
-use Rattle.std.specs.List.{pointwise}
+use Rattle.std.specs.Cmp.Lexicographic.{pointwise}
 use Rattle.std.specs.Option.{option_or}
 use Rattle.std.specs.Str.{bytes_eq}
 use Rattle.lrc_more_words.specs.declared.number.Numbered.{Numbered}

@@ -7,7 +7,8 @@ use Rattle.lrc_cli_answer.specs.declared.fault.Fault.{Fault}
 use Rattle.lrc_cli_answer.specs.declared.fault.Fault.TheVariants.{Text, Names, Events, NoMemory}
 use Rattle.lrc_cli_args.specs.Files.{file_of, starts_threads}
 use Rattle.lrc_cli_args.specs.declared.choice.Choice.{Choice}
-use Rattle.lrc_more_words.specs.Lines.{long_events_line, no_thread_line, output_lines}
+use Rattle.lrc_more_words.specs.Lines.{file_lines, long_events_line, no_thread_line, output_lines}
+use Rattle.lrc_shell.specs.declared.reading.Unread.{Unread}
 use Rattle.lrc_shell_sources.specs.Lines.{IsTold, memory_line}
 
 -- On a terminal these lines are written, or that there was no memory for them, and elsewhere nothing.
@@ -43,3 +44,12 @@ IsMoreOf choice text events _ lines = lines ≡ []
 abbrev pub failure_lines : Option Error → List ℕ
 failure_lines (Some error) = output_lines error
 failure_lines None = []
+
+-- a file that could not be read, and why
+abbrev pub unread_seen : Option Unread → Option (List ℕ × Error)
+unread_seen (Some unread) = Some (unread.path.now, unread.error)
+unread_seen None = None
+
+abbrev pub unread_lines : Option (List ℕ × Error) → List ℕ
+unread_lines (Some unread) = file_lines unread.0 unread.1
+unread_lines None = []

@@ -1,5 +1,5 @@
 -- What the program does with its words and the files that they name.
-use Rattle.std.specs.Prelude.{◌≡◌, ◌≢◌, ◌⊎◌, ℕ, Bool, true, false, List, Option, None, Some, Result, Ok, Err, codes, drop}
+use Rattle.std.specs.Prelude.{◌≡◌, ◌≢◌, ◌⊎◌, ℕ, Bool, true, false, List, Option, None, Some, Result, Ok, Err, IfSome, codes, drop}
 use Rattle.std.specs.Io.KnownBytes.{Keeps}
 use Rattle.std.specs.IoError.{error_kind}
 use Rattle.std.specs.declared.io.Error.{Error}
@@ -41,7 +41,7 @@ use Rattle.lrc_races_stream.specs.Why.{IsWhyPlayed}
 use Rattle.lrc_races_stream.specs.Witness.{IsWitnessPlayed}
 use Rattle.lrc_shell_sources.specs.Known.{IsCause, IsFront, Known}
 use Rattle.lrc_shell_sources.specs.Lines.{IsTold, memory_line, read_line}
-use Rattle.lrc_shell.specs.More.{IsMoreOf, IsMoreTold, IsToldMore, failure_lines}
+use Rattle.lrc_shell.specs.More.{IsMoreOf, IsMoreTold, IsToldMore, failure_lines, unread_lines}
 
 -- of a text one byte more than the longest has is read: of one of acts, or of a program,
 abbrev pub most_read : Bool → ℕ
@@ -156,6 +156,15 @@ IsRacingTold known racing Groups out out' err err' status =
 IsRacingTold known racing Locations out out' err err' status =
     IsLocationsPlayed known racing.file.now (form_of racing.form) racing.strict (sought_of racing.sure) (layout_of racing.json) out out' err err' status
 
+-- What comes of a trace, which may stand beside a report: what is told of it, and on a terminal why one of the two files could not be read. (No
+-- contract says why.)
+pub record IsTraced (terminal : Bool) (file report : List ℕ) (told : Option (List ℕ) → Type 0) (err' : Option (List ℕ)) : Type 0 where
+  pub between : Option (List ℕ)
+  pub tells : told between
+  pub unread : Option (List ℕ × Error)
+  pub named : IfSome unread (λ found. (found.0 ≡ file) ⊎ (found.0 ≡ report))
+  pub then : IsMoreTold terminal (λ lines. lines ≡ unread_lines unread) between err'
+
 -- What comes of the words, where standard error is a terminal or not: they ask for nothing, and nothing is printed, or what comes of the
 -- topic, the trace or the choice that they ask for.
 pub data Plays (known : Known) (terminal : Bool) (words : List Text) (out out' err err' : Option (List ℕ)) (status : ℕ) : Type 0 where
@@ -163,16 +172,16 @@ pub data Plays (known : Known) (terminal : Bool) (words : List Text) (out out' e
       → Plays known terminal words out out' err err' status
   spoken : (topic : Topic) → Chooses words (Ok (About topic)) → IsTopicTold out out' err err' status → Plays known terminal words out out' err err' status
   raced : (racing : Racing) → Chooses words (Ok (Races racing))
-      → IsRacingTold known racing racing.grouping out out' err err' status → Plays known terminal words out out' err err' status
+      → IsTraced terminal racing.file.now racing.file.now (λ between. IsRacingTold known racing racing.grouping out out' err between status) err' → Plays known terminal words out out' err err' status
   witnessed : (witnessing : Witnessing) → Chooses words (Ok (Witness witnessing))
-      → IsWitnessPlayed known witnessing.file.now (form_of witnessing.form) witnessing.strict witnessing.lines.first witnessing.lines.second
-      out out' err err' status → Plays known terminal words out out' err err' status
+      → IsTraced terminal witnessing.file.now witnessing.file.now (λ between. IsWitnessPlayed known witnessing.file.now (form_of witnessing.form)
+      witnessing.strict witnessing.lines.first witnessing.lines.second out out' err between status) err' → Plays known terminal words out out' err err' status
   reasoned : (reasoning : Reasoning) → Chooses words (Ok (Reasons reasoning))
-      → IsWhyPlayed known reasoning.file.now (form_of reasoning.form) reasoning.strict reasoning.lines.first reasoning.lines.second
-      out out' err err' status → Plays known terminal words out out' err err' status
+      → IsTraced terminal reasoning.file.now reasoning.file.now (λ between. IsWhyPlayed known reasoning.file.now (form_of reasoning.form)
+      reasoning.strict reasoning.lines.first reasoning.lines.second out out' err between status) err' → Plays known terminal words out out' err err' status
   scored : (scoring : Scoring) → Chooses words (Ok (Score scoring))
-      → IsScorePlayed known scoring.file.now scoring.report.now (form_of scoring.form) scoring.strict (sought_of scoring.sure)
-      out out' err err' status → Plays known terminal words out out' err err' status
+      → IsTraced terminal scoring.file.now scoring.report.now (λ between. IsScorePlayed known scoring.file.now scoring.report.now
+      (form_of scoring.form) scoring.strict (sought_of scoring.sure) out out' err between status) err' → Plays known terminal words out out' err err' status
   played : (choice : Choice) → Chooses words (Ok (Answer choice)) → IsPlayed known terminal choice out out' err err' status
       → Plays known terminal words out out' err err' status
 

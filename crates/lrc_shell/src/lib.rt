@@ -3,6 +3,7 @@
 #![tactic(auto)]
 
 mod more;
+mod noting;
 mod outlet;
 mod played;
 mod progress;
@@ -12,6 +13,7 @@ mod refusal;
 mod scoring;
 mod starting;
 mod topic;
+mod tracing;
 mod watched;
 
 pub use lrc_shell_sources::sources::{Sources, System, read_up_to};

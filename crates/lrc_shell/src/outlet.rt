@@ -23,7 +23,7 @@ pub trait Outlet {
 /// tried again.
 #[derive(Drop)]
 pub struct Kept<W> {
-    writer: W,
+    pub writer: W,
     failure: Option<io::Error>,
 }
 

@@ -8,11 +8,10 @@ ghost use Rattle.lrc_shell.specs.Plays.{IsPerformed, IsPlayed, Plays};
 
 use crate::more::tell_more;
 use crate::progress::Late;
-use crate::races::{tell_racing, tell_reasons, tell_witness};
 use crate::reading::read;
 use crate::refusal::{refuse, refuse_unread, tell_fault};
-use crate::scoring::tell_score;
 use crate::topic::tell_topic;
+use crate::tracing::{trace_racing, trace_reasons, trace_score, trace_witness};
 use crate::watched::answer_watched;
 use lrc_cli::answer::Answered;
 use lrc_cli::{answer_any, tell};
@@ -69,14 +68,18 @@ where
         Ok(Request::Answer(choice)) => {
             play_choice(rt, terminal, &choice, sources, late, out, err)
         }
-        Ok(Request::Races(racing)) => tell_racing(rt.alloc(), &racing, sources, out, err),
+        Ok(Request::Races(racing)) => {
+            trace_racing(rt.alloc(), terminal, &racing, sources, out, err)
+        }
         Ok(Request::Witness(witnessing)) => {
-            tell_witness(rt.alloc(), &witnessing, sources, out, err)
+            trace_witness(rt.alloc(), terminal, &witnessing, sources, out, err)
         }
         Ok(Request::Reasons(reasoning)) => {
-            tell_reasons(rt.alloc(), &reasoning, sources, out, err)
+            trace_reasons(rt.alloc(), terminal, &reasoning, sources, out, err)
         }
-        Ok(Request::Score(scoring)) => tell_score(rt.alloc(), &scoring, sources, out, err),
+        Ok(Request::Score(scoring)) => {
+            trace_score(rt.alloc(), terminal, &scoring, sources, out, err)
+        }
         Ok(Request::About(topic)) => tell_topic(rt.alloc(), &topic, out, err),
         Err(fault) => refuse(rt.alloc(), terminal, &fault, words, err),
     }

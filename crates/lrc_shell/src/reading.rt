@@ -1,6 +1,6 @@
 // What a choice names: the text of its FILE, and that of its events.
 
-ghost use Rattle.std.specs.Prelude.{◌≡◌, ◌×◌, IfErr, IfOk, Some, is_some, option_map};
+ghost use Rattle.std.specs.Prelude.{◌≡◌, IfErr, IfOk, Some, is_some, option_map};
 ghost use Rattle.std.specs.IoError.{error_kind};
 ghost use Rattle.lrc_cli_args.specs.Files.{events_of, file_of, names_events, reads_acts};
 ghost use Rattle.lrc_shell.specs.Plays.{AreEventsRead, IsTextCause, IsTextRead, IsUnread, most_read};
