@@ -61,11 +61,7 @@ pub fn output_lines(alloc: Global, error: &io::Error) -> Result<Vec<u8>, AllocEr
 }
 
 // The same by the kind of the error.
-fn output_lines_of(
-    alloc: Global,
-    kind: ErrorKind,
-    error: &io::Error,
-) -> Result<Vec<u8>, AllocError>
+fn output_lines_of(alloc: Global, kind: ErrorKind, error: &io::Error) -> Result<Vec<u8>, AllocError>
     ensures { IfOk result (λ lines. lines.items ≡ output_lines_of kind error.now) }
 {
     match kind {

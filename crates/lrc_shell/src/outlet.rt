@@ -78,11 +78,7 @@ fn failure_after(before: Option<io::Error>, answer: &io::Result<usize>) -> Optio
 }
 
 // The same behind an error of this kind.
-fn failure_kept(
-    kind: ErrorKind,
-    before: Option<io::Error>,
-    error: io::Error,
-) -> Option<io::Error>
+fn failure_kept(kind: ErrorKind, before: Option<io::Error>, error: io::Error) -> Option<io::Error>
     ensures { result ≡ failure_kept kind before error }
 {
     match kind {

@@ -148,7 +148,16 @@ where
         Some(late) => answer_watched(rt, choice, text, events, late),
         None => answer_any(rt, rt.alloc(), choice, text, events),
     };
-    tell_answered(rt.alloc(), terminal, choice, text, events, answered, out, err)
+    tell_answered(
+        rt.alloc(),
+        terminal,
+        choice,
+        text,
+        events,
+        answered,
+        out,
+        err,
+    )
 }
 
 // Writes the answer to a choice, or the line of its fault and what says more of it.

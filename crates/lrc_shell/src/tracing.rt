@@ -40,7 +40,12 @@ pub(crate) fn trace_racing<F: Sources, W: Write, E: Write>(
         note: &note,
     };
     let status = tell_racing(alloc, racing, &noting, out, err);
-    tell_unread(alloc, terminal, unread(note.get(), racing.file, racing.file), err);
+    tell_unread(
+        alloc,
+        terminal,
+        unread(note.get(), racing.file, racing.file),
+        err,
+    );
     status
 }
 

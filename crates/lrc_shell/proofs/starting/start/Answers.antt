@@ -11,7 +11,7 @@ returns g c =
       between = between;
       begins = c.begin-status.ensures;
       more = subst (λ (terminal : Bool). IsMoreTold terminal (λ lines. lines ≡ failure_lines (g.W.Outlet.failure_of c.begin-status.new.out)) between err')
-        c.is_some-terminal.ensures
-        (subst (λ (failure : Option Error). IsMoreTold c.is_some-terminal.result (λ lines. lines ≡ failure_lines failure) between err') c.failure.ensures
-        c.tell_failure.ensures);
+          c.is_some-terminal.ensures
+          (subst (λ (failure : Option Error). IsMoreTold c.is_some-terminal.result (λ lines. lines ≡ failure_lines failure) between err') c.failure.ensures
+          c.tell_failure.ensures);
     }
