@@ -1,1 +1,2 @@
+pub mod MoreLemmas
 pub mod PlayLemmas

@@ -9,10 +9,9 @@ ghost use Rattle.lrc_shell.specs.More.{IsToldMore};
 ghost use Rattle.lrc_shell.specs.Plays.{IsRefusal, argument_line, argument_status};
 ghost use Rattle.lrc_shell_sources.specs.Lines.{IsTold, read_line};
 
-use crate::more::tell_lines;
+use crate::more::{tell_file, tell_number};
 use lrc_cli_answer::fault::{Fault, line_of};
 use lrc_cli_args::choice::ChooseFault;
-use lrc_more_words::{file_lines, number_lines};
 use lrc_shell_sources::refusal::{FAULT, NO_MEMORY, refuse_file, refuse_memory, tell_line};
 use std::alloc::Global;
 use std::convert::AsStr;
@@ -87,9 +86,7 @@ fn refuse_number<S: AsStr, E: Write>(alloc: Global, terminal: bool, words: &[S],
         (E.contents err.old) (E.contents err.new) }
 {
     tell_line(BAD_NUMBER, err);
-    if terminal {
-        tell_lines(number_lines(alloc, words), err);
-    }
+    tell_number(alloc, terminal, words, err);
 }
 
 /// Writes why a file cannot be read, on a terminal with its name and the system's reason, and returns the exit status.
@@ -106,9 +103,7 @@ pub(crate) fn refuse_unread<E: Write>(
     ensures status { result ≡ 1 }
 {
     let status = refuse_file(error, err);
-    if terminal {
-        tell_lines(file_lines(alloc, path, error), err);
-    }
+    tell_file(alloc, terminal, path, error, err);
     status
 }
 

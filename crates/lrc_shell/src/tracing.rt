@@ -1,21 +1,19 @@
 // What is asked of a trace, and behind what is told of it, on a terminal, why a file could not be read.
 
-ghost use Rattle.std.specs.Prelude.{◌≡◌, ◌⊎◌, IfOk, IfSome};
+ghost use Rattle.std.specs.Prelude.{◌≡◌, ◌⊎◌, IfSome};
 ghost use Rattle.lrc_races_stream.specs.Score.{IsScorePlayed};
 ghost use Rattle.lrc_races_stream.specs.Why.{IsWhyPlayed};
 ghost use Rattle.lrc_races_stream.specs.Witness.{IsWitnessPlayed};
-ghost use Rattle.lrc_shell.specs.More.{IsMoreTold, unread_lines, unread_seen};
 ghost use Rattle.lrc_shell.specs.Plays.{IsRacingTold, IsTraced, form_of, sought_of};
 
-use crate::more::tell_lines;
+use crate::more::tell_unread;
 use crate::noting::{Note, Noting};
 use crate::races::{tell_racing, tell_reasons, tell_witness};
 use crate::reading::Unread;
 use crate::scoring::tell_score;
 use lrc_cli_args::choice::{Racing, Reasoning, Scoring, Witnessing};
-use lrc_more_words::file_lines;
 use lrc_shell_sources::sources::Sources;
-use std::alloc::{AllocError, Global};
+use std::alloc::Global;
 use std::cell::Cell;
 use std::io::Write;
 
@@ -153,23 +151,4 @@ fn unread<'w>(note: Option<Note>, file: &'w str, report: &'w str) -> Option<Unre
         path,
         error: note.error,
     })
-}
-
-// Writes why a file could not be read, if one could not and standard error is a terminal.
-fn tell_unread<E: Write>(alloc: Global, terminal: bool, unread: Option<Unread<'_>>, err: &mut E)
-    ensures { IsMoreTold terminal (λ lines. lines ≡ unread_lines (unread_seen unread.entry))
-        (E.contents err.old) (E.contents err.new) }
-{
-    if terminal {
-        tell_lines(unread_lines(alloc, unread), err);
-    }
-}
-
-fn unread_lines(alloc: Global, unread: Option<Unread<'_>>) -> Result<Vec<u8>, AllocError>
-    ensures { IfOk result (λ lines. lines.items ≡ unread_lines (unread_seen unread.entry)) }
-{
-    match unread {
-        Some(unread) => file_lines(alloc, unread.path, &unread.error),
-        None => Ok(Vec::new(alloc)),
-    }
 }

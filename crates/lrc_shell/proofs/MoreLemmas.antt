@@ -1,0 +1,25 @@
+-- What says more behind the line of a fault.
+use Rattle.std.proofs.Common.{◌≡◌, ◌⊎◌, inl, inr, Bool, true, false, ℕ, List, Option, Some, None, Result, Ok, Err, Vec, IfOk, IfSome, OnErr, subst, sym}
+use Rattle.std.specs.declared.alloc.AllocError.{AllocError}
+use Rattle.std.specs.declared.alloc.Global.{Global}
+use Rattle.lrc_shell.specs.More.{IsMoreTold, unread_seen}
+use Rattle.lrc_shell.specs.declared.reading.Unread.{Unread}
+use Rattle.lrc_shell_sources.specs.Lines.{IsTold, memory_line}
+use Rattle.lrc_shell.proofs.PlayLemmas.{same}
+
+-- on a terminal these lines are written, or that there was no memory for them
+pub told_there : (terminal : Bool) (lines : Result (Vec ℕ Global) AllocError) (what : List ℕ) (err err' : Option (List ℕ)) → terminal ≡ true
+    → IfOk lines (λ lines. lines.items ≡ what) → IfOk lines (λ lines. IsTold err err' lines.items) → OnErr lines (IsTold err err' memory_line)
+    → IsMoreTold terminal (λ lines. lines ≡ what) err err'
+told_there true (Ok lines) what err err' there is told none = inr (lines.items, (is, told))
+told_there true (Err error) what err err' there is told none = inl none
+
+-- and elsewhere nothing
+pub told_elsewhere : (terminal : Bool) (what : List ℕ) (err : Option (List ℕ)) → terminal ≡ false → IsMoreTold terminal (λ lines. lines ≡ what) err err
+told_elsewhere false what err elsewhere = same err
+
+-- a file of which more is told is one of the two that were read
+pub named : (unread : Option Unread) (file report : List ℕ) → IfSome unread (λ unread. (unread.path.now ≡ file) ⊎ (unread.path.now ≡ report))
+    → IfSome (unread_seen unread) (λ found. (found.0 ≡ file) ⊎ (found.0 ≡ report))
+named (Some unread) file report is = is
+named None file report is = is
