@@ -1,2 +1,1 @@
-pub mod MoreLemmas
 pub mod PlayLemmas

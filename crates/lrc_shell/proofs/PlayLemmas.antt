@@ -1,6 +1,5 @@
 -- What comes of words and of the files that they name.
-use Rattle.std.proofs.Common.{◌≡◌, ◌⊎◌, inl, inr, Bool, ℕ, List, [], ◌∷◌, Option, Some, None, codes, refl, subst, sym}
-use Rattle.std.specs.Io.KnownBytes.{Keeps}
+use Rattle.std.proofs.Common.{◌≡◌, ◌⊎◌, inl, inr, Bool, ℕ, List, [], ◌∷◌, Option, codes, refl, subst, sym}
 use Rattle.clap.specs.Words.{Text}
 use Rattle.lrc_cli_args.specs.CommandLine.{words_meant}
 use Rattle.lrc_cli_args.specs.declared.choice.ChooseFault.{ChooseFault}
@@ -12,13 +11,8 @@ use Rattle.lrc_cli_answer.specs.declared.fault.Fault.{Fault}
 use Rattle.lrc_cli_answer.specs.declared.fault.Fault.TheVariants as faults
 use Rattle.lrc_more_words.specs.Lines.{number_lines}
 use Rattle.lrc_more_words.specs.Number.{misfit}
-use Rattle.lrc_shell.specs.More.{IsToldMore}
+use Rattle.lrc_shell_more.specs.More.{IsToldMore}
 use Rattle.lrc_shell.specs.Plays.{IsRefusal}
-
--- a writer to which nothing is written keeps its bytes
-pub same : (held : Option (List ℕ)) → Keeps held held
-same None = tt
-same (Some bytes) = refl
 
 -- no words, and the words that they stand for, have no number out of its range
 pub no_number : number_lines (words_meant []) ≡ number_lines []

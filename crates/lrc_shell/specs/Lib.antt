@@ -1,3 +1,2 @@
 pub mod More
-pub mod Outlet
 pub mod Plays

@@ -41,7 +41,8 @@ use Rattle.lrc_races_stream.specs.Why.{IsWhyPlayed}
 use Rattle.lrc_races_stream.specs.Witness.{IsWitnessPlayed}
 use Rattle.lrc_shell_sources.specs.Known.{IsCause, IsFront, Known}
 use Rattle.lrc_shell_sources.specs.Lines.{IsTold, memory_line, read_line}
-use Rattle.lrc_shell.specs.More.{IsMoreOf, IsMoreTold, IsToldMore, failure_lines, unread_lines}
+use Rattle.lrc_shell.specs.More.{IsMoreOf}
+use Rattle.lrc_shell_more.specs.More.{IsMoreTold, IsToldMore, failure_lines, unread_lines}
 
 -- of a text one byte more than the longest has is read: of one of acts, or of a program,
 abbrev pub most_read : Bool → ℕ
@@ -163,7 +164,7 @@ pub record IsTraced (terminal : Bool) (file report : List ℕ) (told : Option (L
   pub tells : told between
   pub unread : Option (List ℕ × Error)
   pub named : IfSome unread (λ found. (found.0 ≡ file) ⊎ (found.0 ≡ report))
-  pub then : IsMoreTold terminal (λ lines. lines ≡ unread_lines unread) between err'
+  pub behind : IsMoreTold terminal (λ lines. lines ≡ unread_lines unread) between err'
 
 -- What comes of the words, where standard error is a terminal or not: they ask for nothing, and nothing is printed, or what comes of the
 -- topic, the trace or the choice that they ask for.

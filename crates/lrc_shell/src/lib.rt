@@ -3,8 +3,6 @@
 #![tactic(auto)]
 
 mod more;
-mod noting;
-mod outlet;
 mod played;
 mod progress;
 mod races;
@@ -16,8 +14,8 @@ mod topic;
 mod tracing;
 mod watched;
 
+pub use lrc_shell_more::outlet::{Kept, Outlet};
 pub use lrc_shell_sources::sources::{Sources, System, read_up_to};
-pub use outlet::{Kept, Outlet};
 pub use played::play;
 pub use progress::{Late, LateLine, Watch};
 pub use starting::start;

@@ -1,25 +1,22 @@
 // What says more behind the line of a fault, where standard error is a terminal.
 
-ghost use Rattle.std.specs.Prelude.{◌≡◌, ℕ, IfOk, OnErr, map, option_map};
+ghost use Rattle.std.specs.Prelude.{◌≡◌, ℕ, IfOk, option_map};
 ghost use Rattle.lrc_cli.specs.Answer.{IsLinted};
 ghost use Rattle.lrc_cli_args.specs.Files.{is_on_threads, starts_threads};
-ghost use Rattle.lrc_more_words.specs.Lines.{file_lines, number_lines};
 ghost use Rattle.lrc_text.specs.Parts.{whole_text};
-ghost use Rattle.lrc_shell.specs.More.{IsMoreOf, IsMoreTold, events_lines, failure_lines, threads_lines, unread_lines, unread_seen};
-ghost use Rattle.lrc_shell_sources.specs.Lines.{IsTold, memory_line};
+ghost use Rattle.lrc_shell.specs.More.{IsMoreOf, events_lines, threads_lines};
+ghost use Rattle.lrc_shell_more.specs.More.{IsMoreTold};
+ghost use Rattle.lrc_shell_sources.specs.Lines.{IsTold};
 
-use crate::reading::Unread;
 use lrc_cli::answer::{Answered, answer};
 use lrc_cli_answer::fault::Fault;
 use lrc_cli_answer::printout::in_one;
 use lrc_cli_args::choice::{Choice, Way};
 use lrc_events::events::MOST_BYTES;
-use lrc_more_words::{LONG_EVENTS, NO_THREAD, file_lines, number_lines, output_lines};
+use lrc_more_words::{LONG_EVENTS, NO_THREAD};
 use lrc_report::output::{Output, put_parts};
 use lrc_shell_sources::refusal::{NO_MEMORY, tell_line};
 use std::alloc::{AllocError, Global};
-use std::convert::AsStr;
-use std::io;
 use std::io::Write;
 
 /// Writes what says more of the fault of a choice, if standard error is a terminal.
@@ -135,95 +132,5 @@ fn is_on_threads(way: Way<'_>) -> bool
     match way {
         Way::Threads(_) => true,
         _ => false,
-    }
-}
-
-// Writes these lines, or that there was no memory for them.
-fn tell_lines<E: Write>(lines: Result<Vec<u8>, AllocError>, err: &mut E)
-    ensures ok { IfOk lines (λ lines. IsTold (E.contents err.old) (E.contents err.new) lines.items) }
-    ensures err { OnErr lines (IsTold (E.contents err.old) (E.contents err.new) memory_line) }
-{
-    match lines {
-        Ok(lines) => tell_line(&lines, err),
-        Err(_) => tell_line(NO_MEMORY, err),
-    }
-}
-
-/// Writes which file cannot be read, and why, if standard error is a terminal.
-pub(crate) fn tell_file<E: Write>(
-    alloc: Global,
-    terminal: bool,
-    path: &str,
-    error: &io::Error,
-    err: &mut E,
-)
-    ensures { IsMoreTold terminal (λ lines. lines ≡ file_lines path.now error.now)
-        (E.contents err.old) (E.contents err.new) }
-{
-    if terminal {
-        tell_lines(file_lines(alloc, path, error), err);
-    }
-}
-
-/// Writes which number of these words is out of its range, if standard error is a terminal.
-pub(crate) fn tell_number<S: AsStr, E: Write>(
-    alloc: Global,
-    terminal: bool,
-    words: &[S],
-    err: &mut E,
-)
-    ensures { IsMoreTold terminal (λ lines. lines ≡ number_lines (map S.text words.now))
-        (E.contents err.old) (E.contents err.new) }
-{
-    if terminal {
-        tell_lines(number_lines(alloc, words), err);
-    }
-}
-
-/// Writes which file of a trace could not be read, and why, if one could not and standard error is a terminal.
-pub(crate) fn tell_unread<E: Write>(
-    alloc: Global,
-    terminal: bool,
-    unread: Option<Unread<'_>>,
-    err: &mut E,
-)
-    ensures { IsMoreTold terminal (λ lines. lines ≡ unread_lines (unread_seen unread.entry))
-        (E.contents err.old) (E.contents err.new) }
-{
-    if terminal {
-        tell_lines(unread_lines(alloc, unread), err);
-    }
-}
-
-fn unread_lines(alloc: Global, unread: Option<Unread<'_>>) -> Result<Vec<u8>, AllocError>
-    ensures { IfOk result (λ lines. lines.items ≡ unread_lines (unread_seen unread.entry)) }
-{
-    match unread {
-        Some(unread) => file_lines(alloc, unread.path, &unread.error),
-        None => Ok(Vec::new(alloc)),
-    }
-}
-
-/// Writes by which error the output ended early, if one did and standard error is a terminal.
-pub(crate) fn tell_failure<E: Write>(
-    alloc: Global,
-    terminal: bool,
-    failure: Option<io::Error>,
-    err: &mut E,
-)
-    ensures { IsMoreTold terminal (λ lines. lines ≡ failure_lines failure)
-        (E.contents err.old) (E.contents err.new) }
-{
-    if terminal {
-        tell_lines(failure_lines(alloc, failure), err);
-    }
-}
-
-fn failure_lines(alloc: Global, failure: Option<io::Error>) -> Result<Vec<u8>, AllocError>
-    ensures { IfOk result (λ lines. lines.items ≡ failure_lines failure) }
-{
-    match failure {
-        Some(error) => output_lines(alloc, &error),
-        None => Ok(Vec::new(alloc)),
     }
 }

@@ -7,6 +7,7 @@ ghost use Rattle.lrc_shell.specs.Plays.{AreEventsRead, IsTextCause, IsTextRead, 
 ghost use Rattle.lrc_shell_sources.specs.Known.{IsCause};
 
 use lrc_cli_args::choice::Choice;
+use lrc_shell_more::more::Unread;
 use lrc_shell_sources::sources::Sources;
 use std::alloc::Global;
 use std::io;
@@ -33,13 +34,6 @@ pub(crate) struct Texts {
     pub text: Vec<u8>,
     /// The text of the events, if the choice names a file of them.
     pub events: Option<Vec<u8>>,
-}
-
-/// A file that cannot be read, and why.
-#[derive(Clone, Copy)]
-pub(crate) struct Unread<'w> {
-    pub path: &'w str,
-    pub error: io::Error,
 }
 
 /// Reads the texts that a choice names. It fails if one of them cannot be read.

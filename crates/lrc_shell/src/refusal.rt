@@ -5,13 +5,13 @@ ghost use Rattle.std.specs.IoError.{error_kind};
 ghost use Rattle.lrc_cli_answer.specs.FaultLine.{fault_line};
 ghost use Rattle.lrc_cli_answer.specs.declared.fault.Fault.TheVariants.{NoMemory};
 ghost use Rattle.lrc_more_words.specs.Lines.{file_lines, number_lines};
-ghost use Rattle.lrc_shell.specs.More.{IsToldMore};
 ghost use Rattle.lrc_shell.specs.Plays.{IsRefusal, argument_line, argument_status};
+ghost use Rattle.lrc_shell_more.specs.More.{IsToldMore};
 ghost use Rattle.lrc_shell_sources.specs.Lines.{IsTold, read_line};
 
-use crate::more::{tell_file, tell_number};
 use lrc_cli_answer::fault::{Fault, line_of};
 use lrc_cli_args::choice::ChooseFault;
+use lrc_shell_more::more::{tell_file, tell_number};
 use lrc_shell_sources::refusal::{FAULT, NO_MEMORY, refuse_file, refuse_memory, tell_line};
 use std::alloc::Global;
 use std::convert::AsStr;

@@ -6,11 +6,11 @@ ghost use Rattle.std.specs.String.{string_bytes};
 ghost use Rattle.std.specs.Result.{result_map_both};
 ghost use Rattle.lrc_shell.specs.Plays.{Begins, Starts};
 
-use crate::more::tell_failure;
-use crate::outlet::Outlet;
 use crate::played::play;
 use crate::progress::Late;
 use crate::refusal::refuse_arguments;
+use lrc_shell_more::more::tell_failure;
+use lrc_shell_more::outlet::Outlet;
 use lrc_shell_sources::sources::Sources;
 use std::io;
 use std::io::Write;

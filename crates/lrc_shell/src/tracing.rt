@@ -1,17 +1,15 @@
 // What is asked of a trace, and behind what is told of it, on a terminal, why a file could not be read.
 
-ghost use Rattle.std.specs.Prelude.{◌≡◌, ◌⊎◌, IfSome};
 ghost use Rattle.lrc_races_stream.specs.Score.{IsScorePlayed};
 ghost use Rattle.lrc_races_stream.specs.Why.{IsWhyPlayed};
 ghost use Rattle.lrc_races_stream.specs.Witness.{IsWitnessPlayed};
 ghost use Rattle.lrc_shell.specs.Plays.{IsRacingTold, IsTraced, form_of, sought_of};
 
-use crate::more::tell_unread;
-use crate::noting::{Note, Noting};
 use crate::races::{tell_racing, tell_reasons, tell_witness};
-use crate::reading::Unread;
 use crate::scoring::tell_score;
 use lrc_cli_args::choice::{Racing, Reasoning, Scoring, Witnessing};
+use lrc_shell_more::more::tell_unread;
+use lrc_shell_more::noting::{Noting, unread};
 use lrc_shell_sources::sources::Sources;
 use std::alloc::Global;
 use std::cell::Cell;
@@ -138,17 +136,4 @@ pub(crate) fn trace_score<F: Sources, W: Write, E: Write>(
         err,
     );
     status
-}
-
-// The file that could not be read, by a note, if there is one.
-fn unread<'w>(note: Option<Note>, file: &'w str, report: &'w str) -> Option<Unread<'w>>
-    ensures { IfSome result (λ unread. (unread.path.now ≡ file.now)
-        ⊎ (unread.path.now ≡ report.now)) }
-{
-    let note = note?;
-    let path = if note.is_report { report } else { file };
-    Some(Unread {
-        path,
-        error: note.error,
-    })
 }

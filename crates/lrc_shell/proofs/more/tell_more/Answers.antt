@@ -1,7 +1,8 @@
 -- On a terminal the lines, and elsewhere nothing.
 use Rattle.std.proofs.Common.{Bool, option_map, subst, sym}
-use Rattle.lrc_shell.specs.More.{IsMoreOf, IsMoreTold}
-use Rattle.lrc_shell.proofs.PlayLemmas.{same}
+use Rattle.lrc_shell.specs.More.{IsMoreOf}
+use Rattle.lrc_shell_more.specs.More.{IsMoreTold}
+use Rattle.lrc_shell_more.proofs.MoreLemmas.{same}
 use Rattle.lrc_shell.proofs.more.tell_more.Goals as goal
 
 pub returns-then-terminal : goal.returns-then-terminal

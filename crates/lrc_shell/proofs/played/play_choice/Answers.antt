@@ -1,7 +1,7 @@
 use Rattle.std.proofs.Common.{option_map, subst, sym}
 use Rattle.lrc_cli_args.specs.Files.{events_of, file_of, reads_acts}
 use Rattle.lrc_shell.specs.Plays.{AreEventsRead, IsTextRead, most_read, performed, unread}
-use Rattle.lrc_shell.proofs.PlayLemmas.{same}
+use Rattle.lrc_shell_more.proofs.MoreLemmas.{same}
 use Rattle.lrc_shell.proofs.played.play_choice.Goals as goal
 
 pub returns-in-Ok : goal.returns-in-Ok

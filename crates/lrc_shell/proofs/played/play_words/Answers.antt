@@ -5,7 +5,8 @@ use Rattle.lrc_cli_args.specs.declared.choice.ChooseFault.{ChooseFault}
 use Rattle.lrc_cli_args.specs.declared.choice.Request.{Request}
 use Rattle.lrc_cli_args.specs.declared.choice.Request.TheVariants.{About, Races, Reasons, Score, Witness, Answer}
 use Rattle.lrc_shell.specs.Plays.{IsRefusal, played, raced, reasoned, refused, scored, spoken, witnessed}
-use Rattle.lrc_shell.proofs.PlayLemmas.{refused_meant, same}
+use Rattle.lrc_shell_more.proofs.MoreLemmas.{same}
+use Rattle.lrc_shell.proofs.PlayLemmas.{refused_meant}
 use Rattle.lrc_shell.proofs.played.play_words.Goals as goal
 
 pub returns-in-Ok-Answer : goal.returns-in-Ok-Answer

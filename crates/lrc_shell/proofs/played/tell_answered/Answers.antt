@@ -5,7 +5,8 @@ use Rattle.lrc_cli.specs.Answer.{Answers}
 use Rattle.lrc_cli.specs.declared.answer.Answered.{Answered}
 use Rattle.lrc_cli_answer.specs.declared.fault.Fault.{Fault}
 use Rattle.lrc_shell.specs.Plays.{answers, faults}
-use Rattle.lrc_shell.proofs.PlayLemmas.{same, told_fault}
+use Rattle.lrc_shell_more.proofs.MoreLemmas.{same}
+use Rattle.lrc_shell.proofs.PlayLemmas.{told_fault}
 use Rattle.lrc_shell.proofs.played.tell_answered.Goals as goal
 
 pub tell-requires : goal.tell-requires
@@ -26,5 +27,5 @@ returns-in-Err g c =
     let is = subst (λ (r : Result Answered Fault). Answers c.args.choice.now c.args.text.now events r) c.in-Err.is c.requires in
     faults c.tell_fault-told.result
     (told_fault c.args.choice.now c.args.text.now events c.in-Err.fault c.tell_fault-told.result is c.tell_fault-told.ensures.told)
-    (record { between = g.E.Write.contents c.tell_fault-told.new.err; told = c.tell_fault-told.ensures.line; then = c.tell_more.ensures })
+    (record { between = g.E.Write.contents c.tell_fault-told.new.err; told = c.tell_fault-told.ensures.line; behind = c.tell_more.ensures })
     (same (g.W.Write.contents c.args.out.now)) refl

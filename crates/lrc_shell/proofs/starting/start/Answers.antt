@@ -1,6 +1,6 @@
 use Rattle.std.proofs.Common.{◌≡◌, Bool, Option, subst}
 use Rattle.std.specs.declared.io.Error.{Error}
-use Rattle.lrc_shell.specs.More.{IsMoreTold, failure_lines}
+use Rattle.lrc_shell_more.specs.More.{IsMoreTold, failure_lines}
 use Rattle.lrc_shell.proofs.starting.start.Goals as goal
 
 pub returns : goal.returns

@@ -1,6 +1,6 @@
 -- What is told of the trace, and what says more of a file that could not be read.
-use Rattle.lrc_shell.specs.More.{unread_seen}
-use Rattle.lrc_shell.proofs.MoreLemmas.{named}
+use Rattle.lrc_shell_more.specs.More.{unread_seen}
+use Rattle.lrc_shell_more.proofs.MoreLemmas.{named}
 use Rattle.lrc_shell.proofs.tracing.trace_witness.Goals as goal
 
 pub returns : goal.returns
@@ -9,5 +9,5 @@ returns g c = record {
   tells = c.tell_witness-status.ensures;
   unread = unread_seen c.unread.result;
   named = named c.unread.result c.args.witnessing.now.file.now c.args.witnessing.now.file.now c.unread.ensures;
-  then = c.tell_unread.ensures;
+  behind = c.tell_unread.ensures;
 }

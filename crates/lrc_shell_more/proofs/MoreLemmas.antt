@@ -1,11 +1,16 @@
 -- What says more behind the line of a fault.
-use Rattle.std.proofs.Common.{◌≡◌, ◌⊎◌, inl, inr, Bool, true, false, ℕ, List, Option, Some, None, Result, Ok, Err, Vec, IfOk, IfSome, OnErr, subst, sym}
+use Rattle.std.proofs.Common.{◌≡◌, ◌⊎◌, inl, inr, Bool, true, false, ℕ, List, Option, Some, None, Result, Ok, Err, Vec, IfOk, IfSome, OnErr, refl}
+use Rattle.std.specs.Io.KnownBytes.{Keeps}
 use Rattle.std.specs.declared.alloc.AllocError.{AllocError}
 use Rattle.std.specs.declared.alloc.Global.{Global}
-use Rattle.lrc_shell.specs.More.{IsMoreTold, unread_seen}
-use Rattle.lrc_shell.specs.declared.reading.Unread.{Unread}
+use Rattle.lrc_shell_more.specs.More.{IsMoreTold, unread_seen}
+use Rattle.lrc_shell_more.specs.declared.more.Unread.{Unread}
 use Rattle.lrc_shell_sources.specs.Lines.{IsTold, memory_line}
-use Rattle.lrc_shell.proofs.PlayLemmas.{same}
+
+-- a writer to which nothing is written keeps its bytes
+pub same : (held : Option (List ℕ)) → Keeps held held
+same None = tt
+same (Some bytes) = refl
 
 -- on a terminal these lines are written, or that there was no memory for them
 pub told_there : (terminal : Bool) (lines : Result (Vec ℕ Global) AllocError) (what : List ℕ) (err err' : Option (List ℕ)) → terminal ≡ true

@@ -1,9 +1,10 @@
 // Files that note why one of them could not be read.
 
-ghost use Rattle.std.specs.Prelude.{◌≡◌, ◌<◌, ◌≤◌, IfErr, IfOk, length, take};
+ghost use Rattle.std.specs.Prelude.{◌≡◌, ◌<◌, ◌≤◌, ◌⊎◌, IfErr, IfOk, IfSome, length, take};
 ghost use Rattle.std.specs.IoError.{error_kind};
 ghost use Rattle.lrc_shell_sources.specs.Known.{IsAtEnd, IsCause, IsFront, IsReadOff};
 
+use crate::more::Unread;
 use lrc_shell_sources::blocks::Blocks;
 use lrc_shell_sources::sources::Sources;
 use std::alloc::Global;
@@ -12,14 +13,14 @@ use std::io;
 
 /// Why a file could not be read, and whether it is the report of a detector.
 #[derive(Clone, Copy)]
-pub(crate) struct Note {
+pub struct Note {
     pub is_report: bool,
     pub error: io::Error,
 }
 
 /// The files of a source. Why one of them could not be read last is noted. No contract says what a note holds.
 #[derive(Drop)]
-pub(crate) struct Noting<'s, F> {
+pub struct Noting<'s, F> {
     pub sources: &'s F,
     /// The file of a report, if one is read.
     pub report: Option<&'s str>,
@@ -28,7 +29,7 @@ pub(crate) struct Noting<'s, F> {
 
 /// A file of such a source.
 #[derive(Drop)]
-pub(crate) struct NotingFile<'s, B> {
+pub struct NotingFile<'s, B> {
     file: B,
     is_report: bool,
     note: &'s Cell<Option<Note>>,
@@ -98,4 +99,17 @@ fn take_note<T>(note: &Cell<Option<Note>>, is_report: bool, answer: &io::Result<
             error: *error,
         }));
     }
+}
+
+/// Returns the file that could not be read, by a note, if there is one.
+pub fn unread<'w>(note: Option<Note>, file: &'w str, report: &'w str) -> Option<Unread<'w>>
+    ensures { IfSome result (λ unread. (unread.path.now ≡ file.now)
+        ⊎ (unread.path.now ≡ report.now)) }
+{
+    let note = note?;
+    let path = if note.is_report { report } else { file };
+    Some(Unread {
+        path,
+        error: note.error,
+    })
 }

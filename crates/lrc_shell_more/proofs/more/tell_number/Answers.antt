@@ -1,8 +1,8 @@
 -- On a terminal the lines, and elsewhere nothing.
 use Rattle.std.proofs.Common.{map}
 use Rattle.lrc_more_words.specs.Lines.{number_lines}
-use Rattle.lrc_shell.proofs.MoreLemmas.{told_elsewhere, told_there}
-use Rattle.lrc_shell.proofs.more.tell_number.Goals as goal
+use Rattle.lrc_shell_more.proofs.MoreLemmas.{told_elsewhere, told_there}
+use Rattle.lrc_shell_more.proofs.more.tell_number.Goals as goal
 
 pub returns-then-terminal : goal.returns-then-terminal
 returns-then-terminal g c =

@@ -1,7 +1,7 @@
 -- On a terminal the lines, and elsewhere nothing.
-use Rattle.lrc_shell.specs.More.{unread_lines, unread_seen}
-use Rattle.lrc_shell.proofs.MoreLemmas.{told_elsewhere, told_there}
-use Rattle.lrc_shell.proofs.more.tell_unread.Goals as goal
+use Rattle.lrc_shell_more.specs.More.{unread_lines, unread_seen}
+use Rattle.lrc_shell_more.proofs.MoreLemmas.{told_elsewhere, told_there}
+use Rattle.lrc_shell_more.proofs.more.tell_unread.Goals as goal
 
 pub returns-then-terminal : goal.returns-then-terminal
 returns-then-terminal g c =

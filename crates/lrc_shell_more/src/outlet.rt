@@ -4,7 +4,7 @@ ghost use Rattle.std.specs.Prelude.{◌≡◌, None, Option};
 ghost use Rattle.std.specs.Io.{WritesAtMost};
 ghost use Rattle.std.specs.Io.KnownBytes.{WriteAppends};
 ghost use Rattle.std.specs.declared.io.Error.{Error};
-ghost use Rattle.lrc_shell.specs.Outlet.{failure_after, failure_kept};
+ghost use Rattle.lrc_shell_more.specs.Outlet.{failure_after, failure_kept};
 
 use std::io;
 use std::io::{ErrorKind, Write};
