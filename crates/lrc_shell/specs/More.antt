@@ -8,8 +8,11 @@ use Rattle.lrc_cli_args.specs.declared.choice.Choice.{Choice}
 use Rattle.lrc_more_words.specs.Lines.{long_events_line, no_thread_line}
 
 -- where the text of events is too long
+abbrev pub length_lines : ℕ → List ℕ
+length_lines bytes = if nat_lt 16777216 bytes then long_events_line else []
+
 abbrev pub events_lines : Option (List ℕ) → List ℕ
-events_lines (Some events) = if nat_lt 16777216 (length events) then long_events_line else []
+events_lines (Some events) = length_lines (length events)
 events_lines None = []
 
 -- where memory ran out, and threads were started or not

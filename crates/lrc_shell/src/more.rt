@@ -4,7 +4,7 @@ ghost use Rattle.std.specs.Prelude.{◌≡◌, ℕ, IfOk, option_map};
 ghost use Rattle.lrc_cli.specs.Answer.{IsLinted};
 ghost use Rattle.lrc_cli_args.specs.Files.{is_on_threads, starts_threads};
 ghost use Rattle.lrc_text.specs.Parts.{whole_text};
-ghost use Rattle.lrc_shell.specs.More.{IsMoreOf, events_lines, threads_lines};
+ghost use Rattle.lrc_shell.specs.More.{IsMoreOf, events_lines, length_lines, threads_lines};
 ghost use Rattle.lrc_shell_more.specs.More.{IsMoreTold};
 ghost use Rattle.lrc_shell_sources.specs.Lines.{IsTold};
 
@@ -80,13 +80,17 @@ fn more_of(
     match fault {
         Fault::Text(_, _) => linted(alloc, choice.file(), text),
         Fault::Names(_, _) => linted(alloc, choice.file(), text),
-        Fault::Events(_) => in_one(alloc, Vec::from_slice(alloc, events_lines(events))?),
-        Fault::NoMemory => in_one(
-            alloc,
-            Vec::from_slice(alloc, threads_lines(starts_threads(choice)))?,
-        ),
-        _ => Ok(Vec::new(alloc)),
+        Fault::Events(_) => said(alloc, events_lines(events)),
+        Fault::NoMemory => said(alloc, threads_lines(starts_threads(choice))),
+        _ => said(alloc, b""),
     }
+}
+
+// These lines, in one part.
+fn said(alloc: Global, lines: &[u8]) -> Result<Vec<Vec<u8>>, AllocError>
+    ensures { IfOk result (λ parts. whole_text parts.items ≡ lines.now) }
+{
+    in_one(alloc, Vec::from_slice(alloc, lines)?)
 }
 
 // What `lint` says of a text.
@@ -105,8 +109,18 @@ fn events_lines(events: Option<&[u8]>) -> &'static [u8]
     ensures { result.now ≡ events_lines (option_map (λ e. e.now) events.entry) }
 {
     match events {
-        Some(events) if events.len() > MOST_BYTES => LONG_EVENTS,
-        _ => b"",
+        Some(events) => length_lines(events.len()),
+        None => b"",
+    }
+}
+
+fn length_lines(length: usize) -> &'static [u8]
+    ensures { result.now ≡ length_lines length }
+{
+    if length > MOST_BYTES {
+        LONG_EVENTS
+    } else {
+        b""
     }
 }
 
