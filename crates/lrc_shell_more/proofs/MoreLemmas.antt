@@ -16,7 +16,7 @@ same (Some bytes) = refl
 told_on : (lines : Result (Vec ℕ Global) AllocError) (what : List ℕ) (err err' : Option (List ℕ)) → IfOk lines (λ lines. lines.items ≡ what)
     → IfOk lines (λ lines. IsTold err err' lines.items) → OnErr lines (IsTold err err' memory_line)
     → IsMoreTold true (λ lines. lines ≡ what) err err'
-told_on (Ok lines) what err err' is told none = inr (lines.items, (is, told))
+told_on (Ok lines) what err err' is told none = inr (lines.items, is, told)
 told_on (Err error) what err err' is told none = inl none
 
 pub told_there : (terminal : Bool) (lines : Result (Vec ℕ Global) AllocError) (what : List ℕ) (err err' : Option (List ℕ)) → terminal ≡ true

@@ -9,11 +9,9 @@ pub returns-in-Ok : goal.returns-in-Ok
 returns-in-Ok g c =
     inr (
       whole_text c.in-Ok.lines.items,
-      (
-        c.in-Ok.ensures,
-        subst (λ (parts : List (Vec ℕ Global)). IsTold (g.E.Write.contents c.args.err.now) (g.E.Write.contents c.tell_parts.new.err) (whole_text parts))
-            c.deref.ensures.value c.tell_parts.ensures,
-      ),
+      c.in-Ok.ensures,
+      subst (λ (parts : List (Vec ℕ Global)). IsTold (g.E.Write.contents c.args.err.now) (g.E.Write.contents c.tell_parts.new.err) (whole_text parts))
+          c.deref.ensures.value c.tell_parts.ensures,
     )
 
 pub returns-in-Err : goal.returns-in-Err
