@@ -1,2 +1,1 @@
-pub mod More
 pub mod Plays
