@@ -8,9 +8,9 @@ use Rattle.lrc_named_warned.specs.Warned.{HasFault, WarnsNamed}
 use Rattle.lrc_named_warned.proofs.Telling.{not_faulty}
 use Rattle.lrc_cli.specs.Answer.{IsLinted, IsLintedAsCore, IsLintedAsNamed, IsNotTold, IsToldAsNamed}
 
-pub none_case : {A P : Type 0} {Q : A → Type 0} (o : Option A) → o ≡ None → MatchOption o P Q → P
-none_case None e h = h
-none_case (Some a) e h = absurd (cc)
+pub none_case : {A : Type 0} (P : Type 0) (Q : A → Type 0) (o : Option A) → o ≡ None → MatchOption o P Q → P
+none_case P Q None e h = h
+none_case P Q (Some a) e h = absurd (cc)
 
 -- what is told of a first fault
 pub fault_told : (file text : List ℕ) (linted : Linted) → TellsNamed file text (whole_text linted.parts.items) × (linted.status ≡ 1)

@@ -7,4 +7,4 @@ returns-in-Some c =
     fault_told c.args.file.now c.args.text.now c.in-Some.linted (some_case _ _ c.in_ok-linted.field-0 c.in-Some.linted c.in-Some.is c.in_ok-linted.ensures)
 
 pub returns-in-None : goal.returns-in-None
-returns-in-None c = sound_told c.args.file.now c.args.text.now c.lint_sound.result (none_case _ c.in-None.is c.in_ok-linted.ensures) c.lint_sound.ensures
+returns-in-None c = sound_told c.args.file.now c.args.text.now c.lint_sound.result (none_case _ _ c.in_ok-linted.field-0 c.in-None.is c.in_ok-linted.ensures) c.lint_sound.ensures
