@@ -129,7 +129,23 @@ fn put_while(
         (expression_of condition.now) (deeds_in (block_of inside.now))) }
 {
     let deeds = deeds_in(alloc, inside)?;
-    if waits(names, tokens, condition, &deeds) {
+    put_if_waits(loops, names, tokens, at, condition, &deeds)
+}
+
+// Adds a loop with this condition, in which these deeds are done, if it is such a one.
+fn put_if_waits(
+    loops: &mut Vec<u32>,
+    names: &Names<'_, '_>,
+    tokens: &[Located<'_>],
+    at: u32,
+    condition: &Expression<'_>,
+    deeds: &[Deed<'_>],
+) -> Result<(), AllocError>
+    ensures { OnOk result (loops.new.items ≡ loops.old.items
+        ++ waits_at (declared_of names.now) (map located_of tokens.now) at
+        (expression_of condition.now) (map deed_seen deeds.now)) }
+{
+    if waits(names, tokens, condition, deeds) {
         loops.push(at)?;
     }
     Ok(())
