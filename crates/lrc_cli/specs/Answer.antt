@@ -19,7 +19,7 @@ use Rattle.lrc_judge_text.specs.PairsTold.{HasItsRaces, told_text}
 use Rattle.lrc_judge_text.specs.declared.memory.ExactMemory.{ExactMemory}
 use Rattle.lrc_page.specs.Page.{words_of}
 use Rattle.lrc_named.specs.Named.{IsReadAsNamed}
-use Rattle.lrc_named_linted.specs.Linted.{HasUntoldFault, TellsNamed}
+use Rattle.lrc_named_linted.specs.Linted.{TellsNamed}
 use Rattle.lrc_named_warned.specs.Warned.{WarnsNamed}
 use Rattle.lrc_lint_fault.specs.Told.{TellsNoProgram}
 use Rattle.lrc_lint.specs.Linted.{LintsProgram}
@@ -183,10 +183,6 @@ IsToldAsNamed file text out status = (TellsNamed file text out × (status ≡ 1)
 abbrev pub IsLintedAsNamed : List ℕ → List ℕ → List ℕ → ℕ → Type 0
 IsLintedAsNamed file text out status = IsReadAsNamed text × IsToldAsNamed file text out status
 
--- the text is of the core, or a named program with a fault of which no hint is told
-abbrev pub IsNotTold : List ℕ → Type 0
-IsNotTold text = (¬ IsReadAsNamed text) ⊎ HasUntoldFault text
-
 -- of a text of the core: that it is no program, or its warnings
 abbrev pub IsLintedAsCore : List ℕ → List ℕ → List ℕ → ℕ → Type 0
 IsLintedAsCore file text out status = (TellsNoProgram file text out × (status ≡ 1)) ⊎ (LintsProgram file text out × (status ≡ 0))
@@ -194,7 +190,7 @@ IsLintedAsCore file text out status = (TellsNoProgram file text out × (status �
 -- of any text
 abbrev pub IsLinted : List ℕ → List ℕ → List ℕ → ℕ → Type 0
 IsLinted file text out status =
-    IsLintedAsNamed file text out status ⊎ (IsNotTold text × IsLintedAsCore file text out status)
+    IsLintedAsNamed file text out status ⊎ ((¬ IsReadAsNamed text) × IsLintedAsCore file text out status)
 
 -- how many nodes acts from anywhere are of, where that is said
 abbrev pub foreign_nodes : ForeignActs → Option ℕ
