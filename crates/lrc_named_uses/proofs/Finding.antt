@@ -8,42 +8,34 @@ pub any_seen : {A B : Type 0} (seen : A → B) (test : B → Bool) (items : List
 any_seen seen test [] = refl
 any_seen seen test (item ∷ others) = ap (λ (b : Bool). test (seen item) || b) (any_seen seen test others)
 
-module _ {A S : Type 0} (seen : A → S) (test : S → Bool) (items : List A) where
-  from_here : (i : ℕ) (x : A) → i < length items → x ≡ get_or items i x
-      → list_any test (map seen (drop i items)) ≡ (test (seen x) || list_any test (map seen (drop (i + 1) items)))
-  from_here i x lt here =
-      ap (λ (l : List A). list_any test (map seen l)) (drop_more items i x lt)
-      ∙ ap (λ (y : A). test (seen y) || list_any test (map seen (drop (i + 1) items))) (sym here)
+module _ {A S : Type 0} (seen : A → S) (test : S → Bool) (items : List A) (i : ℕ) where
+  from_here : (d : A) → i < length items
+      → list_any test (map seen (drop i items)) ≡ (test (seen (get_or items i d)) || list_any test (map seen (drop (i + 1) items)))
+  from_here d lt = ap (λ (l : List A). list_any test (map seen l)) (drop_more items i d lt)
 
-  pub any_here : (i : ℕ) (x : A) (all : Bool) → i < length items → x ≡ get_or items i x → all ≡ list_any test (map seen (drop i items))
-      → test (seen x) ≡ true → true ≡ all
-  any_here i x all lt here is holds =
-      sym (is ∙ from_here i x lt here ∙ ap (λ (b : Bool). b || list_any test (map seen (drop (i + 1) items))) holds)
+  pub any_here : (d : A) (all : Bool) → i < length items → all ≡ list_any test (map seen (drop i items)) → test (seen (get_or items i d)) ≡ true → true ≡ all
+  any_here d all lt is holds = sym (is ∙ from_here d lt ∙ ap (λ (b : Bool). b || list_any test (map seen (drop (i + 1) items))) holds)
 
-  pub any_later : (i : ℕ) (x : A) (all : Bool) → i < length items → x ≡ get_or items i x → all ≡ list_any test (map seen (drop i items))
-      → test (seen x) ≡ false → all ≡ list_any test (map seen (drop (i + 1) items))
-  any_later i x all lt here is fails =
-      is ∙ from_here i x lt here ∙ ap (λ (b : Bool). b || list_any test (map seen (drop (i + 1) items))) fails
+  pub any_later : (d : A) (all : Bool) → i < length items → all ≡ list_any test (map seen (drop i items)) → test (seen (get_or items i d)) ≡ false
+      → all ≡ list_any test (map seen (drop (i + 1) items))
+  any_later d all lt is fails = is ∙ from_here d lt ∙ ap (λ (b : Bool). b || list_any test (map seen (drop (i + 1) items))) fails
 
-  pub any_nowhere : (i : ℕ) (all : Bool) → length items ≤ i → all ≡ list_any test (map seen (drop i items)) → false ≡ all
-  any_nowhere i all past is = sym (is ∙ ap (λ (l : List A). list_any test (map seen l)) (drop_all items i past))
+  pub any_nowhere : (all : Bool) → length items ≤ i → all ≡ list_any test (map seen (drop i items)) → false ≡ all
+  any_nowhere all past is = sym (is ∙ ap (λ (l : List A). list_any test (map seen l)) (drop_all i items past))
 
 -- the same, of items with their numbers
-module _ {A S : Type 0} (seen : A → S) (test : ℕ × S → Bool) (items : List A) where
-  abbrev rest_of : ℕ → Bool
-  rest_of i = list_any test (enumerate_from i (map seen (drop i items)))
+module _ {A S : Type 0} (seen : A → S) (test : ℕ × S → Bool) (items : List A) (i : ℕ) where
+  abbrev rest_from : ℕ → Bool
+  rest_from k = list_any test (enumerate_from k (map seen (drop k items)))
 
-  numbered_here : (i : ℕ) (x : A) → i < length items → x ≡ get_or items i x → rest_of i ≡ (test (i, seen x) || rest_of (i + 1))
-  numbered_here i x lt here =
-      ap (λ (l : List A). list_any test (enumerate_from i (map seen l))) (drop_more items i x lt)
-      ∙ ap (λ (y : A). test (i, seen y) || rest_of (i + 1)) (sym here)
+  numbered_here : (d : A) → i < length items → rest_from i ≡ (test (i, seen (get_or items i d)) || rest_from (i + 1))
+  numbered_here d lt = ap (λ (l : List A). list_any test (enumerate_from i (map seen l))) (drop_more items i d lt)
 
-  pub some_here : (i : ℕ) (x : A) (all : Bool) → i < length items → x ≡ get_or items i x → all ≡ rest_of i → test (i, seen x) ≡ true → true ≡ all
-  some_here i x all lt here is holds = sym (is ∙ numbered_here i x lt here ∙ ap (λ (b : Bool). b || rest_of (i + 1)) holds)
+  pub some_here : (d : A) (all : Bool) → i < length items → all ≡ rest_from i → test (i, seen (get_or items i d)) ≡ true → true ≡ all
+  some_here d all lt is holds = sym (is ∙ numbered_here d lt ∙ ap (λ (b : Bool). b || rest_from (i + 1)) holds)
 
-  pub some_later : (i : ℕ) (x : A) (all : Bool) → i < length items → x ≡ get_or items i x → all ≡ rest_of i → test (i, seen x) ≡ false
-      → all ≡ rest_of (i + 1)
-  some_later i x all lt here is fails = is ∙ numbered_here i x lt here ∙ ap (λ (b : Bool). b || rest_of (i + 1)) fails
+  pub some_later : (d : A) (all : Bool) → i < length items → all ≡ rest_from i → test (i, seen (get_or items i d)) ≡ false → all ≡ rest_from (i + 1)
+  some_later d all lt is fails = is ∙ numbered_here d lt ∙ ap (λ (b : Bool). b || rest_from (i + 1)) fails
 
-  pub some_nowhere : (i : ℕ) (all : Bool) → length items ≤ i → all ≡ rest_of i → false ≡ all
-  some_nowhere i all past is = sym (is ∙ ap (λ (l : List A). list_any test (enumerate_from i (map seen l))) (drop_all items i past))
+  pub some_nowhere : (all : Bool) → length items ≤ i → all ≡ rest_from i → false ≡ all
+  some_nowhere all past is = sym (is ∙ ap (λ (l : List A). list_any test (enumerate_from i (map seen l))) (drop_all i items past))

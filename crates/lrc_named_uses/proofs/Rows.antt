@@ -1,5 +1,5 @@
 -- Lists that have a piece for each statement, and for each `else if`; and places with indices or without.
-use Rattle.std.proofs.Common.{◌≡◌, ◌≤◌, ℕ, List, [], ◌∷◌, ◌++◌, length, refl, sym, ap, append-nil, arith}
+use Rattle.std.proofs.Common.{◌≡◌, ◌≤◌, List, [], ◌∷◌, ◌++◌, length, refl, sym, ap, append-nil, arith}
 use Rattle.lrc_named_tree.specs.declared.tree.Arm.{Arm}
 use Rattle.lrc_named_tree.specs.declared.tree.Expression as code_expression
 use Rattle.lrc_named_tree.specs.declared.tree.Statement.{Statement}

@@ -2,7 +2,7 @@
 
 ghost use Rattle.std.specs.Prelude.{◌≡◌, ◌++◌, [], ◌∷◌, IfOk, OnOk, map};
 ghost use Rattle.lrc_named_tree.specs.Tree.{no_arm};
-ghost use Rattle.lrc_named_tree.specs.View.{block_of, named_of, place_of, statement_of};
+ghost use Rattle.lrc_named_tree.specs.View.{block_of, place_of, statement_of};
 ghost use Rattle.lrc_named_statement_faults.specs.Parts.{arms_of, with_arm};
 ghost use Rattle.lrc_named_uses.specs.Deeds.{deed_seen, deeds_in, deeds_of, deeds_of_arms, sets_place};
 

@@ -31,7 +31,7 @@ pub fn loops_in(
         (map located_of tokens.now) (block_of statements.now)) }
 {
     let mut loops = Vec::new(alloc);
-    put_block(&mut loops, alloc, names, tokens, statements)?;
+    put_block(&mut loops, alloc, statements, names, tokens)?;
     Ok(loops)
 }
 
@@ -39,15 +39,15 @@ pub fn loops_in(
 fn put_block(
     loops: &mut Vec<u32>,
     alloc: Global,
+    block: &[Statement<'_>],
     names: &Names<'_, '_>,
     tokens: &[Located<'_>],
-    block: &[Statement<'_>],
 ) -> Result<(), AllocError>
     ensures { OnOk result (loops.new.items ≡ loops.old.items
         ++ loops_in (declared_of names.now) (map located_of tokens.now) (block_of block.now)) }
 {
     for statement in block {
-        put_statement(loops, alloc, names, tokens, statement)?;
+        put_statement(loops, alloc, statement, names, tokens)?;
     }
     Ok(())
 }
@@ -57,9 +57,9 @@ fn put_block(
 fn put_statement(
     loops: &mut Vec<u32>,
     alloc: Global,
+    statement: &Statement<'_>,
     names: &Names<'_, '_>,
     tokens: &[Located<'_>],
-    statement: &Statement<'_>,
 ) -> Result<(), AllocError>
     ensures { OnOk result (loops.new.items ≡ loops.old.items
         ++ loops_of (declared_of names.now) (map located_of tokens.now)
@@ -68,17 +68,17 @@ fn put_statement(
     match statement {
         Statement::Assign(..) | Statement::Acquire(..) | Statement::Release(..) => Ok(()),
         Statement::Barrier(_) | Statement::Print(..) | Statement::Assert(..) => Ok(()),
-        Statement::With(_, _, inside, _) => put_block(loops, alloc, names, tokens, inside),
+        Statement::With(_, _, inside, _) => put_block(loops, alloc, inside, names, tokens),
         Statement::If(_, _, then, others, otherwise) => {
-            put_block(loops, alloc, names, tokens, then)?;
-            put_arms(loops, alloc, names, tokens, others)?;
-            put_block(loops, alloc, names, tokens, otherwise)
+            put_block(loops, alloc, then, names, tokens)?;
+            put_arms(loops, alloc, others, names, tokens)?;
+            put_block(loops, alloc, otherwise, names, tokens)
         }
         Statement::While(at, condition, inside) => {
             put_while(loops, alloc, names, tokens, *at, condition, inside)?;
-            put_block(loops, alloc, names, tokens, inside)
+            put_block(loops, alloc, inside, names, tokens)
         }
-        Statement::For(_, _, _, _, inside) => put_block(loops, alloc, names, tokens, inside),
+        Statement::For(_, _, _, _, inside) => put_block(loops, alloc, inside, names, tokens),
     }
 }
 
@@ -86,15 +86,15 @@ fn put_statement(
 fn put_arms(
     loops: &mut Vec<u32>,
     alloc: Global,
+    arms: &[Arm<'_>],
     names: &Names<'_, '_>,
     tokens: &[Located<'_>],
-    arms: &[Arm<'_>],
 ) -> Result<(), AllocError>
     ensures { OnOk result (loops.new.items ≡ loops.old.items
         ++ loops_of_arms (declared_of names.now) (map located_of tokens.now) (arms_of arms.now)) }
 {
     for arm in arms {
-        put_arm(loops, alloc, names, tokens, arm)?;
+        put_arm(loops, alloc, arm, names, tokens)?;
     }
     Ok(())
 }
@@ -103,15 +103,15 @@ fn put_arms(
 fn put_arm(
     loops: &mut Vec<u32>,
     alloc: Global,
+    arm: &Arm<'_>,
     names: &Names<'_, '_>,
     tokens: &[Located<'_>],
-    arm: &Arm<'_>,
 ) -> Result<(), AllocError>
     ensures { OnOk result (loops.new.items ≡ loops.old.items
         ++ loops_of_arms (declared_of names.now) (map located_of tokens.now)
         (with_arm arm.now no_arm)) }
 {
-    put_block(loops, alloc, names, tokens, &arm.block)
+    put_block(loops, alloc, &arm.block, names, tokens)
 }
 
 // Adds a loop with this condition and this block, if it is such a one.
@@ -129,7 +129,23 @@ fn put_while(
         (expression_of condition.now) (deeds_in (block_of inside.now))) }
 {
     let deeds = deeds_in(alloc, inside)?;
-    if waits(names, tokens, condition, &deeds) {
+    put_if_waits(loops, names, tokens, at, condition, &deeds)
+}
+
+// Adds a loop with this condition, in which these deeds are done, if it is such a one.
+fn put_if_waits(
+    loops: &mut Vec<u32>,
+    names: &Names<'_, '_>,
+    tokens: &[Located<'_>],
+    at: u32,
+    condition: &Expression<'_>,
+    deeds: &[Deed<'_>],
+) -> Result<(), AllocError>
+    ensures { OnOk result (loops.new.items ≡ loops.old.items
+        ++ waits_at (declared_of names.now) (map located_of tokens.now) at
+        (expression_of condition.now) (map deed_seen deeds.now)) }
+{
+    if waits(names, tokens, condition, deeds) {
         loops.push(at)?;
     }
     Ok(())

@@ -1,10 +1,10 @@
 // Names by which shared items are read.
 
-ghost use Rattle.std.specs.Prelude.{◌≡◌, map};
+ghost use Rattle.std.specs.Prelude.{◌≡◌, Some, map};
 ghost use Rattle.lrc_named_tokens.specs.View.{lexeme_of, located_of};
 ghost use Rattle.lrc_named_tree.specs.View.{expression_of, named_of};
-ghost use Rattle.lrc_named_names.specs.View.{declared_of};
-ghost use Rattle.lrc_named_uses.specs.Shared.{has_shared, is_shared, is_shared_in, some_shared};
+ghost use Rattle.lrc_named_names.specs.View.{declared_of, meaning_seen};
+ghost use Rattle.lrc_named_uses.specs.Shared.{has_shared, is_read, is_shared, is_shared_in, some_shared};
 ghost use Rattle.lrc_named_constants.specs.Well.{bytes_of};
 
 use crate::names::tokens_in;
@@ -40,17 +40,28 @@ fn is_shared(names: &Names<'_, '_>, tokens: &[Located<'_>], depth: usize, name: 
         return false;
     }
     match names.meaning(names.place(name)) {
-        Some(Meaning::Shared(_)) => true,
-        Some(Meaning::Function(parameters, body)) => {
-            some_shared(
-                names,
-                tokens,
-                depth - 1,
-                parameters,
-                tokens_in(tokens, body),
-            )
+        Some(meaning) => is_read(names, tokens, depth - 1, meaning),
+        None => false,
+    }
+}
+
+// Whether what is meant is a shared item, or a function in whose body some name but its parameters is such a one.
+#[cycle(shared)]
+fn is_read(
+    names: &Names<'_, '_>,
+    tokens: &[Located<'_>],
+    depth: usize,
+    meaning: &Meaning<'_, '_>,
+) -> bool
+    ensures { result ≡ is_read (is_shared (declared_of names.now) (map located_of tokens.now) depth)
+        (map located_of tokens.now) (Some (meaning_seen meaning.now)) }
+{
+    match meaning {
+        Meaning::Shared(_) => true,
+        Meaning::Function(parameters, body) => {
+            some_shared(names, tokens, depth, parameters, tokens_in(tokens, body))
         }
-        Some(Meaning::Constant(_)) | Some(Meaning::Lock(_)) | None => false,
+        Meaning::Constant(_) | Meaning::Lock(_) => false,
     }
 }
 

@@ -1,9 +1,8 @@
 // Declared names that nothing uses.
 
-ghost use Rattle.std.specs.Prelude.{◌≡◌, ◌++◌, IfOk, OnOk, filter, if◌then◌else◌, map, not, [], ◌∷◌};
-ghost use Rattle.std.specs.List.{list_any};
+ghost use Rattle.std.specs.Prelude.{◌≡◌, ◌++◌, IfOk, OnOk, map};
 ghost use Rattle.lrc_named_tokens.specs.View.{lexeme_of, located_of};
-ghost use Rattle.lrc_named_tree.specs.View.{declaration_of, expression_of, named_of, program_of};
+ghost use Rattle.lrc_named_tree.specs.View.{declaration_of, expression_of, named_of};
 ghost use Rattle.lrc_named_entries.specs.Entry.{belongs, entries_of};
 ghost use Rattle.lrc_named_entries.specs.View.{entry_seen};
 ghost use Rattle.lrc_named_uses.specs.Unused.{is_parameter, is_parameter_of, is_use, is_used, unless_used, unused_of};

@@ -1,6 +1,6 @@
 // The lines of warnings, each once.
 
-ghost use Rattle.std.specs.Prelude.{◌≡◌, ◌++◌, ◌<◌, IfOk, OnOk, length, map, slice_index_or, take};
+ghost use Rattle.std.specs.Prelude.{◌≡◌, ◌++◌, IfOk, OnOk, map};
 ghost use Rattle.std.specs.List.{flat_map, list_any};
 ghost use Rattle.lrc_named_warnings.specs.Context.{context_seen};
 ghost use Rattle.lrc_named_warnings.specs.Lines.{firsts, is_same, line_of, line_text, unless_told};

@@ -3,7 +3,6 @@
 ghost use Rattle.std.specs.Prelude.{◌≡◌, ◌++◌, OnOk};
 ghost use Rattle.lrc_named_warnings.specs.Context.{context_seen};
 ghost use Rattle.lrc_named_warnings.specs.Told.{Tells, told_text};
-ghost use Rattle.lrc_named_warnings.specs.Lines.{lines_text};
 
 use crate::context::Context;
 use crate::lines::{firsts, lines_of, push_lines};

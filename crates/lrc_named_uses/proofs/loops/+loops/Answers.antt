@@ -1,5 +1,5 @@
 -- The list grows by the loops in each form of a statement.
-use Rattle.std.proofs.Common.{◌≡◌, [], ◌∷◌, ◌++◌, append-nil, map, sym, ap, ◌∙◌}
+use Rattle.std.proofs.Common.{◌≡◌, ◌++◌, append-nil, map, sym, ap, ◌∙◌}
 use Rattle.lrc_named_tokens.specs.View.{located_of}
 use Rattle.lrc_named_tree.specs.Tree.{no_arm}
 use Rattle.lrc_named_tree.specs.View.{arm_row, block_of, block_row, expression_of, statement_of}

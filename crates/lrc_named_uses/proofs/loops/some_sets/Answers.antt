@@ -6,13 +6,13 @@ use Rattle.lrc_named_uses.proofs.loops.some_sets.Goals as goal
 
 pub loop-deed-preserved : goal.loop-deed-preserved
 loop-deed-preserved c =
-    any_later deed_seen (sets_name c.args.name.now) c.args.deeds.now c.loop-deed.deed-index c.deed-item.result _ c.loop-deed-test.true c.deed-item.is
-    c.loop-deed.invariant (sym c.sets_name.ensures ∙ c.if-sets_name.false)
+    any_later deed_seen (sets_name c.args.name.now) c.args.deeds.now c.loop-deed.deed-index _ _ c.loop-deed-test.true c.loop-deed.invariant
+    (sym c.sets_name.ensures ∙ c.if-sets_name.false)
 
 pub returns-then-sets_name : goal.returns-then-sets_name
 returns-then-sets_name c =
-    any_here deed_seen (sets_name c.args.name.now) c.args.deeds.now c.loop-deed.deed-index c.deed-item.result _ c.loop-deed-test.true c.deed-item.is
-    c.loop-deed.invariant (sym c.sets_name.ensures ∙ c.if-sets_name.true)
+    any_here deed_seen (sets_name c.args.name.now) c.args.deeds.now c.loop-deed.deed-index _ _ c.loop-deed-test.true c.loop-deed.invariant
+    (sym c.sets_name.ensures ∙ c.if-sets_name.true)
 
 pub returns : goal.returns
 returns c =

@@ -13,10 +13,13 @@ invariant-some_shared-loop-found l =
     ≡ some_shared (declared_of l.names) (map located_of l.tokens) l.depth (bytes_of (map named_of l.parameters)) (map located_of (drop l.found-index l.some))
 
 abbrev pub decreases-is_shared : goal.decreases-is_shared
-decreases-is_shared l = 3 * l.depth
+decreases-is_shared l = 4 * l.depth
 
 abbrev pub decreases-is_shared_in : goal.decreases-is_shared_in
-decreases-is_shared_in l = 3 * l.depth + 1
+decreases-is_shared_in l = 4 * l.depth + 1
 
 abbrev pub decreases-some_shared : goal.decreases-some_shared
-decreases-some_shared l = 3 * l.depth + 2
+decreases-some_shared l = 4 * l.depth + 2
+
+abbrev pub decreases-is_read : goal.decreases-is_read
+decreases-is_read l = 4 * l.depth + 3

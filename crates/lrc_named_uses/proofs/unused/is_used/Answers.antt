@@ -9,12 +9,12 @@ use Rattle.lrc_named_uses.proofs.unused.is_used.Goals as goal
 pub loop-i-preserved : goal.loop-i-preserved
 loop-i-preserved c =
     some_later located_of (λ (at : ℕ × Located). is_use (map declaration_of c.args.declarations.now) (named_of c.args.name) at.0 at.1.lexeme) c.args.tokens.now
-    c.loop-i.i c.index-tokens-i.result _ c.loop-i-test.true c.index-tokens-i.is c.loop-i.invariant (sym c.is_use.ensures ∙ c.if-is_use.false)
+    c.loop-i.i _ _ c.loop-i-test.true c.loop-i.invariant (sym c.is_use.ensures ∙ c.if-is_use.false)
 
 pub returns-then-is_use : goal.returns-then-is_use
 returns-then-is_use c =
     some_here located_of (λ (at : ℕ × Located). is_use (map declaration_of c.args.declarations.now) (named_of c.args.name) at.0 at.1.lexeme) c.args.tokens.now
-    c.loop-i.i c.index-tokens-i.result _ c.loop-i-test.true c.index-tokens-i.is c.loop-i.invariant (sym c.is_use.ensures ∙ c.if-is_use.true)
+    c.loop-i.i _ _ c.loop-i-test.true c.loop-i.invariant (sym c.is_use.ensures ∙ c.if-is_use.true)
 
 pub returns : goal.returns
 returns c =

@@ -10,4 +10,4 @@ use Rattle.lrc_named_uses.proofs.unused.unused_of.Given as goal
 abbrev pub invariant-loop-entry : goal.invariant-loop-entry
 invariant-loop-entry l =
     map entry_seen l.unused.items
-    ≡ flat_map (unless_used (map located_of l.tokens) (map declaration_of l.declarations)) (map entry_seen (take l.entry-index l.entries.items))
+    ≡ flat_map (unless_used (map located_of l.tokens) (map declaration_of l.declarations)) (map entry_seen (take l.entry-index l.entry-items))
