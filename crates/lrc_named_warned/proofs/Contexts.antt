@@ -14,27 +14,27 @@ use Rattle.lrc_named_warnings.specs.Told.{Tells}
 use Rattle.lrc_named_warned.specs.Side.{IsCoreSide, Side}
 use Rattle.lrc_named_warned.specs.Warned.{TellsCore, TellsOf}
 
-abbrev pub made : List Spot → List Origin → List ℕ → List (List ℕ) → List Label → List ℕ → List Entry → Context
+abbrev made : List Spot → List Origin → List ℕ → List (List ℕ) → List Label → List ℕ → List Entry → Context
 made spots origins begins names labels loops unused =
     record { spots = spots; origins = origins; begins = begins; names = names; labels = labels; loops = loops; unused = unused }
 
-made_same : (origins : List Origin) (s z : List Spot) (b c : List ℕ) (n m : List (List ℕ)) (l k : List Label) (p q : List ℕ) (u v : List Entry) → s ≡ z → b ≡ c
-    → n ≡ m → l ≡ k → p ≡ q → u ≡ v → made s origins b n l p u ≡ made z origins c m k q v
-made_same origins s z b c n m l k p q u v es eb en el ep eu =
-    ap (λ x. made x origins b n l p u) es
-    ∙ ap (λ x. made z origins x n l p u) eb
-    ∙ ap (λ x. made z origins c x l p u) en
-    ∙ ap (λ x. made z origins c m x p u) el
-    ∙ ap (λ x. made z origins c m k x u) ep
-    ∙ ap (λ x. made z origins c m k q x) eu
+same_context : (one other : Context) → one.spots ≡ other.spots → one.origins ≡ other.origins → one.begins ≡ other.begins → one.names ≡ other.names
+    → one.labels ≡ other.labels → one.loops ≡ other.loops → one.unused ≡ other.unused → one ≡ other
+same_context one other s o b n l p u =
+    ap (λ x. made x one.origins one.begins one.names one.labels one.loops one.unused) s
+    ∙ ap (λ x. made other.spots x one.begins one.names one.labels one.loops one.unused) o
+    ∙ ap (λ x. made other.spots other.origins x one.names one.labels one.loops one.unused) b
+    ∙ ap (λ x. made other.spots other.origins other.begins x one.labels one.loops one.unused) n
+    ∙ ap (λ x. made other.spots other.origins other.begins other.names x one.loops one.unused) l
+    ∙ ap (λ x. made other.spots other.origins other.begins other.names other.labels x one.unused) p
+    ∙ ap (λ x. made other.spots other.origins other.begins other.names other.labels other.loops x) u
 
-pub tells_same : (file : List ℕ) (origins : List Origin) (s z : List Spot) (b c : List ℕ) (n m : List (List ℕ)) (l k : List Label) (p q : List ℕ)
-    (u v : List Entry) (warned same : List Warning) (before printed : List ℕ) → s ≡ z → b ≡ c → n ≡ m → l ≡ k → p ≡ q → u ≡ v → warned ≡ same
-    → before ≡ [] → Tells file (made s origins b n l p u) warned before printed → Tells file (made z origins c m k q v) same [] printed
-tells_same file origins s z b c n m l k p q u v warned same before printed es eb en el ep eu ew e h =
-    subst (λ x. Tells file (made z origins c m k q v) same x printed) e
-    (subst (λ x. Tells file (made z origins c m k q v) x before printed) ew
-    (subst (λ x. Tells file x warned before printed) (made_same origins s z b c n m l k p q u v es eb en el ep eu) h))
+pub tells_same : (file : List ℕ) (one other : Context) (warned same : List Warning) (before printed : List ℕ) → one.spots ≡ other.spots
+    → one.origins ≡ other.origins → one.begins ≡ other.begins → one.names ≡ other.names → one.labels ≡ other.labels → one.loops ≡ other.loops
+    → one.unused ≡ other.unused → warned ≡ same → before ≡ [] → Tells file one warned before printed → Tells file other same [] printed
+tells_same file one other warned same before printed s o b n l p u w e h =
+    subst (λ x. Tells file other same x printed) e
+    (subst (λ x. Tells file other x before printed) w (subst (λ x. Tells file x warned before printed) (same_context one other s o b n l p u) h))
 
 pub core_told : (file : List ℕ) (t : List Located) (tree : NamedTree) (declared : List Declared) (core : List ℕ) (origins : List Origin) (printed : List ℕ)
     (program : ProgramTree) (side : Side) → IsCoreSide core program side → TellsOf file t tree declared origins side printed

@@ -35,7 +35,7 @@ pub(crate) fn core_side<'t>(
     core: &'t [u8],
     program: &Program,
 ) -> Result<CoreSide<'t>, AllocError>
-    requires { IsText core.entry.now (program_of program.now) }
+    requires { IsText core.now (program_of program.now) }
     ensures { IfOk result (λ side. IsCoreSide core.entry.now (program_of program.now)
         (side_seen side)) }
 {

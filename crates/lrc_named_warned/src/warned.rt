@@ -21,7 +21,9 @@ use lrc_lang::parse as parse_core;
 use lrc_lang::program::Program;
 use lrc_lint_fault::Linted;
 use lrc_named_check::names_of;
+use lrc_lint_warnings::warning::Spot;
 use lrc_named_core::tree::Origin;
+use lrc_named_entries::entry::Entry;
 use lrc_named_faults::layout::Layout;
 use lrc_named_faults::values::Found;
 use lrc_named_names::names::Names;
@@ -77,13 +79,13 @@ fn lint_parsed(
 }
 
 // The same, of a program whose names have no fault.
-fn lint_clean(
+fn lint_clean<'p>(
     alloc: Global,
     file: &[u8],
     text: &[u8],
     tokens: &[Located<'_>],
-    program: &NamedProgram<'_>,
-    layout: &Layout<'_, '_>,
+    program: &NamedProgram<'p>,
+    layout: &Layout<'_, 'p>,
 ) -> Result<Option<Linted>, AllocError>
     requires parsed { IsNamed text.now (map located_of tokens.now) (program_of program.now) }
     requires clean { IsClean (program_of program.now) layout.now }
@@ -187,14 +189,33 @@ fn push_both(
     let spots = spots_of(alloc, tokens)?;
     let loops = loops_in(alloc, names, tokens, &program.statements)?;
     let unused = unused_of(alloc, tokens, &program.declarations)?;
-    let context = Context {
-        spots: &spots,
+    let context = context_by(&spots, origins, side, &loops, &unused);
+    push_told(out, alloc, file, &context, &side.warned)
+}
+
+// What the warnings are told by.
+fn context_by<'c>(
+    spots: &'c [Spot],
+    origins: &'c [Origin<'c>],
+    side: &'c CoreSide<'c>,
+    loops: &'c [u32],
+    unused: &'c [Entry<'c>],
+) -> Context<'c>
+    ensures spots { result.spots.now ≡ spots.entry.now }
+    ensures origins { result.origins.now ≡ origins.entry.now }
+    ensures begins { result.begins.now ≡ side.entry.now.begins.items }
+    ensures names { result.names.now ≡ side.entry.now.names.items }
+    ensures labels { result.labels.now ≡ side.entry.now.labels.said.items }
+    ensures loops { result.loops.now ≡ loops.entry.now }
+    ensures unused { result.unused.now ≡ unused.entry.now }
+{
+    Context {
+        spots,
         origins,
         begins: &side.begins,
         names: &side.names,
         labels: &side.labels.said,
-        loops: &loops,
-        unused: &unused,
-    };
-    push_told(out, alloc, file, &context, &side.warned)
+        loops,
+        unused,
+    }
 }
