@@ -2,19 +2,11 @@
 
 ghost use Rattle.std.specs.Prelude.{◌≡◌, ◌≤◌, ◌<◌, ◌+◌, ◌^◌, map};
 ghost use Rattle.std.specs.Option.{option_map};
-ghost use Rattle.lrc_named_name_hints.specs.Owner.{bracket_of, bracket_of_sign, is_outside, open_before, owner_before};
+ghost use Rattle.lrc_named_name_hints.specs.Owner.{closes, is_outside, open_before, opens, owner_before};
 ghost use Rattle.lrc_named_tokens.specs.View.{lexeme_of, located_of};
 
 use crate::seen::name_of;
 use lrc_named_tokens::token::{Lexeme, Located, Sign, Token};
-
-/// Whether a token opens or closes a part in brackets or parentheses.
-#[derive(Clone, Copy)]
-pub enum Bracket {
-    Opens,
-    Closes,
-    Neither,
-}
 
 /// Returns the name that stands before a token outside brackets, of which so many are open at the token.
 pub(crate) fn owner<'t>(tokens: &[Located<'t>], at: usize, open: usize) -> Option<&'t [u8]>
@@ -36,42 +28,40 @@ pub(crate) fn owner<'t>(tokens: &[Located<'t>], at: usize, open: usize) -> Optio
 
 // Whether a token stands outside brackets, where so many are open behind it.
 fn is_outside(lexeme: Lexeme<'_>, depth: usize) -> bool
-    ensures { result ≡ is_outside (bracket_of (lexeme_of lexeme.entry)) depth }
+    ensures { result ≡ is_outside (lexeme_of lexeme.entry) depth }
 {
-    match bracket_of(lexeme) {
-        Bracket::Neither => depth == 0,
-        Bracket::Opens | Bracket::Closes => false,
-    }
+    depth == 0 && !opens(lexeme) && !closes(lexeme)
 }
 
 // How many brackets are open before a token, where so many are open behind it.
 fn open_before(lexeme: Lexeme<'_>, depth: usize) -> usize
     requires { depth < 2 ^ 63 }
-    ensures depth { result ≡ open_before (bracket_of (lexeme_of lexeme.entry)) depth }
+    ensures depth { result ≡ open_before (lexeme_of lexeme.entry) depth }
     ensures few { result ≤ depth + 1 }
 {
-    match bracket_of(lexeme) {
-        Bracket::Opens => depth.saturating_sub(1),
-        Bracket::Closes => depth + 1,
-        Bracket::Neither => depth,
+    if opens(lexeme) {
+        depth.saturating_sub(1)
+    } else if closes(lexeme) {
+        depth + 1
+    } else {
+        depth
     }
 }
 
-fn bracket_of(lexeme: Lexeme<'_>) -> Bracket
-    ensures { result ≡ bracket_of (lexeme_of lexeme.entry) }
+fn opens(lexeme: Lexeme<'_>) -> bool
+    ensures { result ≡ opens (lexeme_of lexeme.entry) }
 {
-    match lexeme {
-        Lexeme::Token(Token::Sign(sign)) => bracket_of_sign(sign),
-        _ => Bracket::Neither,
-    }
+    matches!(
+        lexeme,
+        Lexeme::Token(Token::Sign(Sign::OpenBracket | Sign::OpenParenthesis))
+    )
 }
 
-fn bracket_of_sign(sign: Sign) -> Bracket
-    ensures { result ≡ bracket_of_sign sign }
+fn closes(lexeme: Lexeme<'_>) -> bool
+    ensures { result ≡ closes (lexeme_of lexeme.entry) }
 {
-    match sign {
-        Sign::OpenBracket | Sign::OpenParenthesis => Bracket::Opens,
-        Sign::CloseBracket | Sign::CloseParenthesis => Bracket::Closes,
-        _ => Bracket::Neither,
-    }
+    matches!(
+        lexeme,
+        Lexeme::Token(Token::Sign(Sign::CloseBracket | Sign::CloseParenthesis))
+    )
 }
