@@ -139,8 +139,8 @@ IsUnknownHint s (Some name) hint = IsUnknownHintBy (declared_place s name) (is_t
 -- ---- wrong numbers of indices and arguments
 
 -- the name that indices (arguments) belong to of which the token at fault is one too many, or behind which it stands
-abbrev pub owner_in : Seen → (open : ℕ) → Option (List ℕ)
-owner_in s open = owner_before s.tokens s.at open
+abbrev pub owner_in : Seen → (opened : ℕ) → Option (List ℕ)
+owner_in s opened = owner_before s.tokens s.at opened
 
 -- how many indices or arguments there are of what is declared so
 abbrev pub count_of_entry : Option Entry → ℕ

@@ -9,13 +9,13 @@ use crate::seen::name_of;
 use lrc_named_tokens::token::{Lexeme, Located, Sign, Token};
 
 /// Returns the name that stands before a token outside brackets, of which so many are open at the token.
-pub(crate) fn owner<'t>(tokens: &[Located<'t>], at: usize, open: usize) -> Option<&'t [u8]>
-    requires { open ≤ 1 }
+pub(crate) fn owner<'t>(tokens: &[Located<'t>], at: usize, opened: usize) -> Option<&'t [u8]>
+    requires { opened ≤ 1 }
     ensures { option_map (λ name. name.now) result
-        ≡ owner_before (map located_of tokens.now) at open }
+        ≡ owner_before (map located_of tokens.now) at opened }
 {
     let count = at.min(tokens.len());
-    let mut depth = open;
+    let mut depth = opened;
     for back in 0..count {
         let lexeme = tokens[count - 1 - back].lexeme;
         if is_outside(lexeme, depth) {

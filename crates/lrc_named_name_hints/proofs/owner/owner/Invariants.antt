@@ -6,6 +6,6 @@ use Rattle.lrc_named_name_hints.proofs.owner.owner.Given as goal
 
 abbrev pub invariant-loop-back : goal.invariant-loop-back
 invariant-loop-back l = record {
-  same : owner (map located_of l.tokens) (l.count - l.back) l.depth ≡ owner (map located_of l.tokens) l.count l.fn.open;
+  same : owner (map located_of l.tokens) (l.count - l.back) l.depth ≡ owner (map located_of l.tokens) l.count l.fn.opened;
   few : l.depth ≤ 1 + l.back;
 }
