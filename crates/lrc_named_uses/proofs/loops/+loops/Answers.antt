@@ -1,7 +1,7 @@
 -- The list grows by the loops in each form of a statement.
 use Rattle.std.proofs.Common.{◌≡◌, ◌++◌, append-nil, map, sym, ap, ◌∙◌}
 use Rattle.lrc_named_tokens.specs.View.{located_of}
-use Rattle.lrc_named_tree.specs.Tree.{no_arm}
+use Rattle.lrc_named_tree.specs.Tree.{Block, no_arm}
 use Rattle.lrc_named_tree.specs.View.{arm_row, block_of, block_row, expression_of, statement_of}
 use Rattle.lrc_named_tree.specs.declared.tree.Statement.TheBlock.{hidden-the_row-Statement-0, hidden-the_row-Arm-1}
 use Rattle.lrc_named_names.specs.View.{declared_of}
@@ -84,7 +84,7 @@ put_statement-returns-in_ok-put_while-in-While t c =
     let old = c.args.loops.now.items in
     let one = c.put_while.new.loops.items in
     let new = c.put_block-in-While.new.loops.items in
-    let waits = λ b. waits_at d ts c.in-While.at (expression_of c.in-While.condition) (deeds_in b) in
+    let waits = λ (b : Block). waits_at d ts c.in-While.at (expression_of c.in-While.condition) (deeds_in b) in
     let block = block_row (hidden-the_row-Statement-0 c.in-While.inside) in
     let inside = loops_in d ts (block_of c.deref-in-While-2.result.now) in
     let first : block ≡ block_of c.deref-in-While.result.now = block_row_hidden c.in-While.inside ∙ ap block_of (sym c.deref-in-While.ensures.value) in
