@@ -1,4 +1,4 @@
-use Rattle.std.proofs.Common.{◌∙◌, ℕ, List, ap, ap₂, map, refl}
+use Rattle.std.proofs.Common.{◌∙◌, ℕ, List, [], ap, ap₂, map, refl}
 use Rattle.lrc_lang.specs.declared.positions.Located as code_located
 use Rattle.lrc_lang.specs.declared.program.Statement.{Statement}
 use Rattle.lrc_lang.specs.declared.token.Token as code_token
@@ -51,7 +51,7 @@ returns c =
     ∙ ap (λ t. statements_at t (block_of c.deref-5.result.now)) tokens
     ∙ ap (λ (l : List Statement). statements_at (tokens_of all) (block_of l)) c.deref-5.ensures.value in
     side_is core p _ all c.requires c.in_ok-all.ensures
-    (these_are p _ _ _ _ _ _ c.in_ok-warned.warned.items (c.deref-4.ensures.value ∙ spots) (ap (map token_of) c.deref-3.ensures.value ∙ tokens) refl
+    (these_are p _ _ _ _ [] [] c.in_ok-warned.warned.items (c.deref-4.ensures.value ∙ spots) (ap (map token_of) c.deref-3.ensures.value ∙ tokens) refl
     c.in_ok-warned.ensures.these)
     (c.in_ok-begins.ensures ∙ ap (λ (l : List code_statement.StatementAt). begins_in (map statement_seen l)) c.deref-7.ensures.value ∙ ap begins_in statements)
     c.in_ok-names.ensures

@@ -11,8 +11,8 @@ use Rattle.lrc_named_written.specs.Written.{IsWritten}
 use Rattle.lrc_named_warned.proofs.Telling.{long_faulty, over_faulty, told_same, warned}
 use Rattle.lrc_named_warned.proofs.warned.lint_clean.Goals as goal
 
-pub returns-in_ok-linted-in-Core : goal.returns-in_ok-linted-in-Core
-returns-in_ok-linted-in-Core c =
+pub returns-in-Core : goal.returns-in-Core
+returns-in-Core c =
     let t = map located_of c.args.tokens.now in
     let tree = program_of c.args.program.now in
     let layout = c.args.layout.now in
@@ -36,8 +36,8 @@ returns-in-Over c =
     (subst (IsWritten (declared_of layout.names) (lines_of t) tree) c.in-Over.is
     (subst (λ lines. IsWritten (declared_of layout.names) lines tree c.in_ok-written.written) (c.deref.ensures.value ∙ c.in_ok-lines.ensures) c.in_ok-written.ensures))
 
-pub returns-in-TooLong : goal.returns-in-TooLong
-returns-in-TooLong c =
+pub returns : goal.returns
+returns c =
     let t = map located_of c.args.tokens.now in
     let tree = program_of c.args.program.now in
     let layout = c.args.layout.now in
