@@ -1,4 +1,4 @@
-use Rattle.std.proofs.Common.{◌≡◌, ◌≤◌, ap, arith, ◌∙◌, ◌++◌, ◌∷◌, [], length, map, sym}
+use Rattle.std.proofs.Common.{◌≡◌, ap, arith, ◌∙◌, ◌++◌, ◌∷◌, [], length, map, sym}
 use Rattle.std.specs.List.{range_with_len}
 use Rattle.std.proofs.lemmas.List.{length-map}
 use Rattle.std.proofs.lemmas.List.FromFn.{map-range_with_len_more}
