@@ -1,7 +1,8 @@
 -- Where every order of the other nodes leads them.
 use Rattle.std.proofs.Common.{◌≡◌, ◌<◌, ◌∙◌, ℕ, List, [], inl, inr, Bool, false, length, get_or, refl, sym, ap, subst}
-use Rattle.std.specs.Prelude.{Option, Some}
-use Rattle.std.proofs.lemmas.Option.{same_Some, slice_get-get_or}
+use Rattle.std.specs.Prelude.{Option, Some, IfSome, Vec}
+use Rattle.std.specs.declared.alloc.Global.{Global}
+use Rattle.std.proofs.lemmas.Option.{get_or_from_slice_get, same_Some, slice_get-get_or}
 use Rattle.lrc_lang.specs.declared.program.Program.{Program}
 use Rattle.lrc_trace.specs.declared.act.Act.{Act}
 use Rattle.lrc_trace.specs.declared.act.Deed.{Deed}
@@ -24,20 +25,35 @@ use Rattle.lrc_orders_live.specs.Like.{AreLike}
 use Rattle.lrc_orders_live.proofs.Like.{partner}
 use Rattle.lrc_orders_undisputed.specs.Undisputed.{Conflicts, read_and_written, written_and_read, written_twice, acquired_twice, IsUndisputed}
 use Rattle.lrc_orders_disputes.proofs.Following.{Possible, undisputed_by}
-use Rattle.lrc_orders_reach.specs.declared.ahead.Follower.{Follower}
 use Rattle.lrc_orders_reach.specs.declared.standing.Standing.{Standing}
-use Rattle.lrc_orders_reach.specs.Standing.{ComesTo, there, IsOpen, IsReach}
+use Rattle.lrc_orders_reach.specs.Standing.{ComesTo, there, IsOpen, IsReachOf, StandsIn}
 use Rattle.lrc_orders_reach.proofs.Coming.{comes_on}
-use Rattle.lrc_orders_away.specs.Away.{AreAway}
 use Rattle.lrc_orders_away.specs.Undisputed.{IsUndisputedAt, KeepsAway, StaysAway}
 use Rattle.lrc_orders_away.proofs.Conflicting.{waits_away}
 
-pub keeps_away : (follower : Follower) (spot : Spot) (all : List Standing) (deed : Deed) → IsReach follower spot all → AreAway follower all deed
-    → KeepsAway follower.flat spot follower.blocked.now deed
-keeps_away follower spot all deed reach away first thread begins comes conflicts = elim (reach first thread begins comes) [
+-- a node whose text was followed to standings that are about to make no act that conflicts keeps away
+pub keeps_away : (flat : Flat) (spot : Spot) (blocked : List Bool) (all : List Standing) (deed : Deed) → IsReachOf flat spot.me blocked spot all
+    → ((thread : Thread) → StandsIn flat spot.me all thread → Conflicts deed (next_of thread) → ⊥) → KeepsAway flat spot blocked deed
+keeps_away flat spot blocked all deed reach away first thread begins comes conflicts = elim (reach first thread begins comes) [
   | inl waits ↦ waits_away deed thread waits conflicts
   | inr stands ↦ away thread stands conflicts
 ]
+
+pub keeps_found : (flat : Flat) (spot : Spot) (blocked : List Bool) (found : Option (Vec Standing Global)) (all : Vec Standing Global) (list : List Standing)
+    (deed : Deed) → IfSome found (λ v. IsReachOf flat spot.me blocked spot v.items) → found ≡ Some all → list ≡ all.items
+    → ((thread : Thread) → StandsIn flat spot.me list thread → Conflicts deed (next_of thread) → ⊥) → KeepsAway flat spot blocked deed
+keeps_found flat spot blocked found all list deed reach is items away =
+    keeps_away flat spot blocked list deed
+    (subst (λ l. IsReachOf flat spot.me blocked spot l) (sym items)
+    (subst (λ (o : Option (Vec Standing Global)). IfSome o (λ v. IsReachOf flat spot.me blocked spot v.items)) is reach)) away
+
+-- the two spots of a state are those that are read
+pub stays_by : (flat : Flat) (state : State) (node other : ℕ) (deed : Deed) (own spot : Spot) → own ≡ get_or state.spots.items node own
+    → spot ≡ get_or state.spots.items other spot → KeepsAway flat spot own.held deed → StaysAway flat state node deed other
+stays_by flat state node other deed own spot own_is spot_is keeps own_too spot_too apart at at_other =
+    let first : own ≡ own_too = own_is ∙ get_or_from_slice_get state.spots.items node own_too own at in
+    let second : spot ≡ spot_too = spot_is ∙ get_or_from_slice_get state.spots.items other spot_too spot at_other in
+    subst (λ (x : Spot). KeepsAway flat x own_too.held deed) second (subst (λ (x : Spot). KeepsAway flat spot x.held deed) first keeps)
 
 -- what other nodes can do where a node holds these locks
 is_open : (thread : Thread) (blocked : List Bool) (deed : Deed) → thread.held ≡ blocked → Possible thread (λ w v. Unit {0}) deed → IsOpen blocked deed

@@ -1,21 +1,24 @@
--- Statements whose acts do not conflict with a deed.
-use Rattle.std.proofs.Common.{◌≡◌, ℕ, List, ◌∷◌, Bool, true, false, refl, sym, ap, ◌∙◌, subst}
-use Rattle.std.specs.Prelude.{Option, Some, None, if◌then◌else◌, nat_lt}
-use Rattle.std.proofs.lemmas.Bool.{cases_eq}
+-- Statements whose acts do not conflict with a deed, and places where they come next.
+use Rattle.std.proofs.Common.{◌≡◌, ℕ, ◌<◌, ◌⊎◌, List, [], ◌∷◌, Bool, true, false, length, refl, sym, ap, ◌∙◌, subst}
+use Rattle.std.specs.Prelude.{Option, Some, None, if◌then◌else◌, nat_lt, slice_get}
+use Rattle.std.proofs.lemmas.Option.{slice_get_within}
 use Rattle.lrc_lang.specs.declared.program.Expression.{Expression}
 use Rattle.lrc_lang.specs.declared.program.Statement.{Statement}
 use Rattle.lrc_lang.specs.declared.program.Statement.TheVariants.{Assign, Read, Write, Acquire, Release, Barrier, Print, If', While'}
 use Rattle.lrc_trace.specs.declared.act.Cause.{Cause}
 use Rattle.lrc_trace.specs.declared.act.Deed.{Deed}
 use Rattle.lrc_trace.specs.declared.act.Deed.TheVariants as deeds
-use Rattle.lrc_exec.specs.Meaning.{Setting, Thread, Next, quiet, prints, reads, writes, acquires, releases, arrives, departs, traps, ends, next_of}
+use Rattle.lrc_exec.specs.Flat.{rest_at}
+use Rattle.lrc_exec.specs.Meaning.{Setting, Thread, Next, reads, writes, acquires, traps, ends, next_of}
 use Rattle.lrc_exec.specs.Meaning.{first_act, holds, if_below, next_of_statement, or_trap, value_in, value_of}
 use Rattle.lrc_orders_undisputed.specs.Undisputed.{Conflicts, read_and_written, written_and_read, written_twice, acquired_twice}
 use Rattle.lrc_ranges.specs.declared.range.Range.{Range}
 use Rattle.lrc_orders_reach.specs.declared.ahead.Follower.{Follower}
+use Rattle.lrc_orders_reach.specs.declared.standing.Standing.{Standing}
 use Rattle.lrc_orders_reach.specs.Standing.{IsAmong, setting_of}
-use Rattle.lrc_orders_away.specs.Away.{IsAway, IsAwayBy}
 use Rattle.lrc_orders_reach.proofs.Afterwards.{next_going, next_waiting}
+use Rattle.lrc_orders_reach.proofs.Placed.{rest_none}
+use Rattle.lrc_orders_away.specs.Away.{AreAway, IsAway, IsAwayAt, IsAwayBy, IsNever, IsNoAcquire, IsNoRead, IsNoWrite}
 
 -- a deed does not conflict with what comes next
 abbrev pub IsCalm : Deed → Next → Type 0
@@ -78,8 +81,71 @@ away_by follower statement names deed away rest thread at among conflicts =
     calm (subst (Conflicts deed) next conflicts) (calm_by follower rest names deed thread among statement away)
 
 -- the end, and a barrier that a thread waits at, conflict with nothing
-pub ends_away : {deed : Deed} {next : Next} → next ≡ ends → Conflicts deed next → ⊥
-ends_away {deed} is conflicts = calm (subst (Conflicts deed) is conflicts) tt
+ends_away : (deed : Deed) (next : Next) → next ≡ ends → Conflicts deed next → ⊥
+ends_away deed next is conflicts = calm (subst (Conflicts deed) is conflicts) tt
 
 pub waits_away : (deed : Deed) (thread : Thread) → thread.arrived ≡ true → Conflicts deed (next_of thread) → ⊥
 waits_away deed thread waits conflicts = calm (subst (Conflicts deed) (next_waiting thread waits) conflicts) tt
+
+-- so do a statement at a place that does not, and a place where none is left
+pub away_there : (follower : Follower) (standing : Standing) (statement : Statement) (rest : List Statement) (deed : Deed)
+    → rest_at follower.flat.code.now standing.place ≡ statement ∷ rest → IsAwayBy follower standing.names deed statement → IsAwayAt follower standing deed
+away_there follower standing statement rest deed at away thread stands =
+    away_by follower statement standing.names deed away rest thread (stands.rest_is ∙ at) stands.among
+
+pub none_there : (follower : Follower) (standing : Standing) (deed : Deed) → (standing.place ≡ 0) ⊎ (length follower.flat.code.now < standing.place)
+    → IsAwayAt follower standing deed
+none_there follower standing deed where_is thread stands conflicts =
+    let none : thread.rest ≡ [] = stands.rest_is ∙ rest_none follower.flat.code.now standing.place where_is in
+    ends_away deed (next_of thread) (next_going thread stands.among.going ∙ ap (first_act thread) none) conflicts
+
+pub away_all : (follower : Follower) (all : List Standing) (deed : Deed)
+    → ((k : ℕ) (standing : Standing) → k < length all → slice_get all k ≡ Some standing → IsAwayAt follower standing deed) → AreAway follower all deed
+away_all follower all deed each thread is_in =
+    each is_in.place is_in.standing (slice_get_within all is_in.place is_in.standing is_in.there) is_in.there thread is_in.stands
+
+-- ---- by what the deed is
+
+pub others_away : (follower : Follower) (names : List Range) (deed : Deed) (statement : Statement)
+    → ((name : _) (e : _) → statement ≡ Read name e → ⊥) → ((e f : _) → statement ≡ Write e f → ⊥) → ((e : _) → statement ≡ Acquire e → ⊥)
+    → IsAwayBy follower names deed statement
+others_away follower names deed (Read name e) no_read no_write no_acquire = absurd (no_read name e refl)
+others_away follower names deed (Write e f) no_read no_write no_acquire = absurd (no_write e f refl)
+others_away follower names deed (Acquire e) no_read no_write no_acquire = absurd (no_acquire e refl)
+others_away follower names deed _ no_read no_write no_acquire = tt
+
+module _ (follower : Follower) (e : Expression) (names : List Range) (deed : Deed) where
+  pub never_read : (word value number : ℕ) → deed ≡ deeds.Read word value → number ≡ word → IsNever follower e names number → IsNoRead follower e names deed
+  never_read word value number is from never w v also =
+      let both : deeds.Read word value ≡ deeds.Read w v = sym is ∙ also in
+      let same : number ≡ w = cc in
+      subst (λ x. IsNever follower e names x) same never
+
+  pub never_written : (word value number : ℕ) → deed ≡ deeds.Write word value → number ≡ word → IsNever follower e names number
+      → IsNoWrite follower e names deed
+  never_written word value number is from never w v also =
+      let both : deeds.Write word value ≡ deeds.Write w v = sym is ∙ also in
+      let same : number ≡ w = cc in
+      subst (λ x. IsNever follower e names x) same never
+
+  pub never_acquired : (lock number : ℕ) → deed ≡ deeds.Acquire lock → number ≡ lock → IsNever follower e names number → IsNoAcquire follower e names deed
+  never_acquired lock number is from never l also =
+      let both : deeds.Acquire lock ≡ deeds.Acquire l = sym is ∙ also in
+      let same : number ≡ l = cc in
+      subst (λ x. IsNever follower e names x) same never
+
+  pub not_read : ((w v : ℕ) → deed ≡ deeds.Read w v → ⊥) → IsNoRead follower e names deed
+  not_read none w v is = absurd (none w v is)
+
+  pub not_written : ((w v : ℕ) → deed ≡ deeds.Write w v → ⊥) → IsNoWrite follower e names deed
+  not_written none w v is = absurd (none w v is)
+
+  pub not_acquired : ((l : ℕ) → deed ≡ deeds.Acquire l → ⊥) → IsNoAcquire follower e names deed
+  not_acquired none l is = absurd (none l is)
+
+  -- a read is no write
+  pub read_not_written : (word value : ℕ) → deed ≡ deeds.Read word value → IsNoWrite follower e names deed
+  read_not_written word value is = not_written (λ w v also. let both : deeds.Read word value ≡ deeds.Write w v = sym is ∙ also in cc)
+
+  pub written_not_read : (word value : ℕ) → deed ≡ deeds.Write word value → IsNoRead follower e names deed
+  written_not_read word value is = not_read (λ w v also. let both : deeds.Write word value ≡ deeds.Read w v = sym is ∙ also in cc)

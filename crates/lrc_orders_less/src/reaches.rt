@@ -1,5 +1,10 @@
 // What is known of pairs of threads.
 
+ghost use Rattle.std.specs.Prelude.{◌≡◌, ◌<◌, Some, length, slice_get};
+ghost use Rattle.lrc_orders_table.specs.Tables.{next_of};
+ghost use Rattle.lrc_orders_less.specs.Clash.{clash_by};
+ghost use Rattle.lrc_orders_less.specs.Reaches.{IsThread};
+
 use crate::clash::{clash_by, is_contended_next};
 use indexmap::IndexMap;
 use lrc_exec::spot::{Flat, Spot};
@@ -42,6 +47,7 @@ impl Reaches {
     ghost use Rattle.lrc_exec.specs.Spots.{IsFlat};
     ghost use Rattle.lrc_orders_away.specs.Undisputed.{KeepsAway};
     ghost use Rattle.lrc_orders_less.specs.contracts.reaches.PairPartialEq.TheImpl.{eq-value as pair_eq};
+    ghost use Rattle.lrc_orders_less.specs.contracts.reaches.TextPartialEq.TheImpl.{eq-value as text_eq};
     ghost use Rattle.lrc_exec.specs.declared.spot.Flat.{Flat as TheFlat};
     ghost use Rattle.lrc_exec.specs.declared.spot.Spot.{Spot as TheSpot};
     ghost use Rattle.lrc_orders.specs.declared.noted.Noted.{Noted as Key};
@@ -169,15 +175,7 @@ impl Reaches {
         if let Some(place) = self.pairs.get_index_of(&pair) {
             return Ok(self.pairs[place]);
         }
-        let blocked = table.rows.threads[pair.acting as usize].held;
-        let deed = clash_by(table.nexts[pair.acting as usize]);
-        let spot = table.rows.threads[pair.other as usize];
-        let text = Text {
-            thread: pair.other,
-            blocked,
-        };
-        let place = self.text(alloc, &means.flat, text, &spot)?;
-        let clear = self.is_clear(&means.flat, place, text, &spot, deed);
+        let clear = self.is_clear_pair(alloc, means, table, pair)?;
         self.keep_pair(pair, clear)?;
         Ok(clear)
     }
@@ -190,6 +188,36 @@ impl Reaches {
     {
         self.pairs.insert(pair, clear)?;
         Ok(())
+    }
+
+    // Follows the text of the other thread of a pair, or finds what it was followed to: whether that comes to no act that
+    // conflicts.
+    fn is_clear_pair(
+        &mut self,
+        alloc: Global,
+        means: &Means<'_>,
+        table: &Table,
+        pair: Pair,
+    ) -> Result<bool, AllocError>
+        requires means { AreMeans means.now }
+        requires table { IsTable means.now table.now }
+        requires texts { AreTexts means.now.flat table.now.rows.threads.keys self.old.texts.entries }
+        requires acting { IsThread table.now pair.acting }
+        requires other { IsThread table.now pair.other }
+        ensures pairs { self.new.pairs ≡ self.old.pairs }
+        ensures texts { OnOk result (AreTexts means.now.flat table.now.rows.threads.keys self.new.texts.entries) }
+        ensures clear { IfOk result (λ known. known ≡ true
+            → IsClearPair means.now.flat table.now.rows.threads.keys pair) }
+    {
+        let acting = thread_of(table, pair.acting);
+        let other = thread_of(table, pair.other);
+        let deed = clash_of(table, pair.acting);
+        let text = Text {
+            thread: pair.other,
+            blocked: acting.held,
+        };
+        let place = self.text(alloc, &means.flat, text, &other)?;
+        Ok(self.is_clear(&means.flat, place, text, &other, deed))
     }
 
     // The place of what the text of a thread was followed to.
@@ -216,6 +244,16 @@ impl Reaches {
             blocked: &text.blocked,
         };
         let found = follow(alloc, &follower, spot)?;
+        self.keep_text(text, found)
+    }
+
+    // Keeps what the text of a thread was followed to: its place.
+    fn keep_text(&mut self, text: Text, found: Option<Vec<Standing>>) -> Result<usize, AllocError>
+        requires { get text_eq.it self.old.texts text ≡ None }
+        ensures pairs { self.new.pairs ≡ self.old.pairs }
+        ensures entries { OnOk result (self.new.texts.entries ≡ self.old.texts.entries ++ (text, found) ∷ []) }
+        ensures there { IfOk result (λ place. HasText self.new.texts.entries text place) }
+    {
         let place = self.texts.len();
         self.texts.insert(text, found)?;
         Ok(place)
@@ -239,4 +277,20 @@ impl Reaches {
             None => false,
         }
     }
+}
+
+// The thread of a number.
+fn thread_of(table: &Table, number: u32) -> Spot
+    requires { IsThread table.now number }
+    ensures { slice_get table.now.rows.threads.keys number ≡ Some result }
+{
+    table.rows.threads[number as usize]
+}
+
+// A deed that conflicts with what the thread of a number conflicts with next.
+fn clash_of(table: &Table, number: u32) -> Deed
+    requires { number < length table.now.nexts.items }
+    ensures { result ≡ clash_by (next_of table.now number) }
+{
+    clash_by(table.nexts[number as usize])
 }

@@ -19,10 +19,14 @@ use Rattle.lrc_orders_reach.specs.declared.standing.Standing.{Standing}
 use Rattle.lrc_orders_reach.specs.Standing.{IsAmong, IsLed, IsOpen, IsPast, IsPut, IsStep, LeadsOn, Stands, StandsSome, setting_at, setting_of}
 use Rattle.lrc_orders_reach.proofs.Afterwards.{no_act_after, next_going}
 
--- past the code nothing is still to do
+-- at the end of the code, and past it, nothing is still to do
 rest_past : (code : List Instruction) (place : ℕ) → length code < place → rest_at code place ≡ []
 unfolding rest_at
 rest_past code place past = get_or_past (rests_from ([] ∷ []) code) place [] (omega (arith, past, length-rests_from ([] ∷ []) code))
+
+pub rest_none : (code : List Instruction) (place : ℕ) → (place ≡ 0) ⊎ (length code < place) → rest_at code place ≡ []
+rest_none code place (inl at_end) = ap (rest_at code) at_end ∙ rest_at-end code
+rest_none code place (inr past) = rest_past code place past
 
 -- where nothing is still to do, nothing comes
 nothing_comes : (flat : Flat) (me : ℕ) (standing : Standing) (before after : Thread) (deed : Deed) → rest_at flat.code.now standing.place ≡ []
@@ -33,12 +37,8 @@ nothing_comes flat me standing before after deed is stands goes =
 
 pub no_step : (follower : Follower) (standing : Standing) → (standing.place ≡ 0) ⊎ (length follower.flat.code.now < standing.place)
     → IsStep follower standing None None
-no_step follower standing where_is before after deed stands goes may = absurd (elim where_is [
-  | inl at_end ↦
-      nothing_comes follower.flat follower.me standing before after deed (ap (rest_at follower.flat.code.now) at_end ∙ rest_at-end follower.flat.code.now) stands
-      goes
-  | inr past ↦ nothing_comes follower.flat follower.me standing before after deed (rest_past follower.flat.code.now standing.place past) stands goes
-])
+no_step follower standing where_is before after deed stands goes may =
+    absurd (nothing_comes follower.flat follower.me standing before after deed (rest_none follower.flat.code.now standing.place where_is) stands goes)
 
 -- a thread that has come to a place stands there
 put_stands : (flat : Flat) (me place : ℕ) (names : Option (List Range)) (result : Option Standing) (rest : List Statement) (thread : Thread)
