@@ -1,5 +1,5 @@
 -- Where every order of the other nodes leads them.
-use Rattle.std.proofs.Common.{◌≡◌, ◌<◌, ◌∙◌, ℕ, List, [], inl, inr, Bool, false, length, get_or, refl, sym, ap, subst}
+use Rattle.std.proofs.Common.{◌≡◌, ◌<◌, ◌∙◌, ℕ, List, [], inl, inr, Bool, true, false, length, get_or, refl, sym, ap, subst}
 use Rattle.std.specs.Prelude.{Option, Some, IfSome, Vec}
 use Rattle.std.specs.declared.alloc.Global.{Global}
 use Rattle.std.proofs.lemmas.Option.{get_or_from_slice_get, same_Some, slice_get-get_or}

@@ -2,7 +2,6 @@
 
 ghost use Rattle.std.specs.Prelude.{◌≡◌, ◌<◌, IfOk, length, true};
 ghost use Rattle.lrc_exec.specs.Spots.{IsFlat};
-ghost use Rattle.lrc_exec.specs.States.{IsStateOf};
 ghost use Rattle.lrc_orders_away.specs.Undisputed.{IsUndisputedAt, KeepsAway, StaysAway};
 
 use crate::conflict::may_conflict;

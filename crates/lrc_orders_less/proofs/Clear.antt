@@ -1,8 +1,8 @@
 -- Where every other node stays clear of what a node does next, its act is undisputed.
 use Rattle.std.proofs.Common.{◌≡◌, ◌<◌, ◌∙◌, ℕ, Bool, true, false, length, get_or, refl, sym, ap, subst}
-use Rattle.std.specs.Prelude.{Option, Some, [], slice_get, if◌then◌else◌}
+use Rattle.std.specs.Prelude.{Option, [], if◌then◌else◌}
 use Rattle.std.proofs.lemmas.Bool.{true≢false}
-use Rattle.std.proofs.lemmas.Option.{same_Some, slice_get-get_or}
+use Rattle.std.proofs.lemmas.Option.{slice_get-get_or}
 use Rattle.lrc_trace.specs.declared.act.Deed.{Deed}
 use Rattle.lrc_trace.specs.declared.act.Deed.TheVariants as deeds
 use Rattle.lrc_exec.specs.declared.spot.Flat.{Flat}
@@ -11,7 +11,7 @@ use Rattle.lrc_exec.specs.declared.state.State.{State}
 use Rattle.lrc_exec.specs.Ask.{ask_of}
 use Rattle.lrc_exec.specs.Meaning.{Thread, Next, quiet, prints, reads, writes, acquires, releases, arrives, departs, traps, ends, next_of}
 use Rattle.lrc_exec.specs.Plain.{thread_in}
-use Rattle.lrc_exec.specs.Spots.{spot_thread, thread_at}
+use Rattle.lrc_exec.specs.Spots.{thread_at}
 use Rattle.lrc_exec.specs.States.{plain_at}
 use Rattle.lrc_exec.proofs.Spots.{node_within, stands_at, thread_there}
 use Rattle.lrc_consistency_laws.specs.Follows.{Goes, quietly, printing, reading, writing, acquiring, releasing, arriving, departing, trapping, ending}
@@ -22,7 +22,7 @@ use Rattle.lrc_orders_laws.specs.Names.{AgreeWhereItMatters}
 use Rattle.lrc_orders_laws.proofs.Mattering.{go_on}
 use Rattle.lrc_orders_laws.proofs.Parts.{stepped}
 use Rattle.lrc_orders_live.proofs.Like.{partner}
-use Rattle.lrc_orders_undisputed.specs.Undisputed.{Conflicts, read_and_written, written_and_read, written_twice, acquired_twice}
+use Rattle.lrc_orders_undisputed.specs.Undisputed.{Conflicts, read_and_written}
 use Rattle.lrc_orders_reach.proofs.Afterwards.{next_waiting}
 use Rattle.lrc_orders_table.specs.declared.next.Next.TheVariants.{Stopped, Waits}
 use Rattle.lrc_orders_table.specs.Nexts.{next_by, next_in}

@@ -1,5 +1,5 @@
 -- What is known of pairs of threads, and of the acts of states.
-use Rattle.std.specs.Prelude.{◌≡◌, ℕ, ◌<◌, true, Bool, List, Option, Some, IfSome, length, slice_get}
+use Rattle.std.specs.Prelude.{◌≡◌, ℕ, true, Bool, List, Option, Some, IfSome, slice_get}
 use Rattle.lrc_trace.specs.declared.act.Deed.{Deed}
 use Rattle.lrc_exec.specs.declared.spot.Flat.{Flat}
 use Rattle.lrc_exec.specs.declared.spot.Spot.{Spot}

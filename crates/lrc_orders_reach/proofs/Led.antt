@@ -1,6 +1,6 @@
 -- What comes of a statement's act, where values lie in ranges.
-use Rattle.std.proofs.Common.{◌≡◌, ◌<◌, ◌⊎◌, ℕ, zero, suc, List, ◌∷◌, ◌++◌, inl, inr, Bool, true, false, length, set, refl, sym, ap, ◌∙◌, subst, arith}
-use Rattle.std.specs.Prelude.{Some, None}
+use Rattle.std.proofs.Common.{◌≡◌, ℕ, zero, suc, List, ◌∷◌, ◌++◌, inl, inr, Bool, true, false, set, refl, sym, ap, ◌∙◌, subst, arith}
+use Rattle.std.specs.Prelude.{Some}
 use Rattle.std.proofs.lemmas.List.{length-set}
 use Rattle.lrc_lang.specs.declared.program.Expression.{Expression}
 use Rattle.lrc_lang.specs.declared.program.Statement.{Statement}

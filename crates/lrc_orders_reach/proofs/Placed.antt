@@ -1,6 +1,6 @@
 -- What comes of threads that stand at places.
-use Rattle.std.proofs.Common.{◌≡◌, ℕ, suc, ◌+◌, ◌-◌, ◌<◌, ◌≤◌, ◌⊎◌, List, [], ◌∷◌, inl, inr, length, get_or, true, refl, sym, ap, ◌∙◌, subst, arith}
-use Rattle.std.specs.Prelude.{Option, Some, None, slice_get}
+use Rattle.std.proofs.Common.{◌≡◌, ℕ, ◌+◌, ◌-◌, ◌<◌, ◌⊎◌, List, [], ◌∷◌, inl, inr, length, get_or, refl, sym, ap, ◌∙◌, subst, arith}
+use Rattle.std.specs.Prelude.{Option, Some, None}
 use Rattle.std.proofs.lemmas.List.{get_or_past}
 use Rattle.std.proofs.lemmas.Option.{slice_get-get_or}
 use Rattle.lrc_lang.specs.declared.program.Statement.{Statement}
@@ -8,7 +8,7 @@ use Rattle.lrc_trace.specs.declared.act.Deed.{Deed}
 use Rattle.lrc_exec.specs.declared.code.Instruction.{Instruction}
 use Rattle.lrc_exec.specs.declared.spot.Flat.{Flat}
 use Rattle.lrc_exec.specs.Flat.{rest_at, rests_from, IsSoundAt, where_it_fails, where_it_holds}
-use Rattle.lrc_exec.specs.Meaning.{Setting, Thread, ends, first_act, next_of}
+use Rattle.lrc_exec.specs.Meaning.{Thread, ends, first_act, next_of}
 use Rattle.lrc_exec.specs.Spots.{IsFlat}
 use Rattle.lrc_exec.proofs.Flat.{length-rests_from, rest_at-end, rest_at-instruction}
 use Rattle.lrc_consistency_laws.specs.Follows.{Goes}
@@ -16,7 +16,7 @@ use Rattle.lrc_ranges.specs.declared.range.Range.{Range}
 use Rattle.lrc_orders_reach.specs.declared.ahead.Ahead.{Ahead}
 use Rattle.lrc_orders_reach.specs.declared.ahead.Follower.{Follower}
 use Rattle.lrc_orders_reach.specs.declared.standing.Standing.{Standing}
-use Rattle.lrc_orders_reach.specs.Standing.{IsAmong, IsLed, IsOpen, IsPast, IsPut, IsStep, LeadsOn, Stands, StandsSome, setting_at, setting_of}
+use Rattle.lrc_orders_reach.specs.Standing.{IsPast, IsPut, IsStep, LeadsOn, Stands, StandsSome, setting_at}
 use Rattle.lrc_orders_reach.proofs.Afterwards.{no_act_after, next_going}
 
 -- at the end of the code, and past it, nothing is still to do

@@ -1,6 +1,6 @@
 // What operators give of values in ranges.
 
-ghost use Rattle.std.specs.Prelude.{◌≡◌, ◌<◌, ◌≤◌, ◌+◌, ◌-◌, ◌*◌, ◌/◌, ◌%◌, ◌^◌, ℕ, Some, not, nat_eq, nat_lt, nat_le, true, Bool, false};
+ghost use Rattle.std.specs.Prelude.{◌≡◌, ◌<◌, ◌≤◌, ◌+◌, ◌-◌, ◌*◌, ◌/◌, ◌%◌, ◌^◌, ℕ, Some, not, nat_eq, nat_lt, nat_le, Bool};
 ghost use Rattle.lrc_exec.specs.Meaning.{operated, one_if};
 ghost use Rattle.lrc_ranges.specs.Ranges.{IsIn};
 

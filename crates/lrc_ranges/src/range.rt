@@ -8,7 +8,7 @@ pub struct Range {
 }
 
 impl Range {
-    ghost use Rattle.std.specs.Prelude.{◌≡◌, ◌≤◌, ◌<◌, ◌-◌, ◌^◌, ◌↔◌, ◌⊎◌, ℕ, IsTrue, true};
+    ghost use Rattle.std.specs.Prelude.{◌≡◌, ◌≤◌, ◌<◌, ◌-◌, ◌^◌, ◌↔◌, ℕ, IsTrue, true};
     ghost use Rattle.lrc_ranges.specs.Ranges.{IsIn, IsWithin};
     ghost use Rattle.lrc_ranges.specs.declared.range.Range.{Range as TheRange};
 

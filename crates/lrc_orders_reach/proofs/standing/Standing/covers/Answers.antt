@@ -1,4 +1,4 @@
-use Rattle.std.proofs.Common.{◌≡◌, length, subst, arith}
+use Rattle.std.proofs.Common.{◌≡◌, length, arith}
 use Rattle.lrc_orders_reach.proofs.Coming.{part_of}
 use Rattle.lrc_orders_reach.proofs.Values.{one_more_within}
 use Rattle.lrc_orders_reach.proofs.standing.Standing.covers.Goals as goal
