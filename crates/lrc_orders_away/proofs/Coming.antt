@@ -95,6 +95,13 @@ conflicts_too (reads r) written_and_read = written_and_read
 conflicts_too (writes r) read_and_written = read_and_written
 conflicts_too (writes r) written_twice = written_twice
 conflicts_too (acquires r) acquired_twice = acquired_twice
+conflicts_too (quiet r) c = elim c [ ]
+conflicts_too (prints r) c = elim c [ ]
+conflicts_too (releases r) c = elim c [ ]
+conflicts_too (arrives r) c = elim c [ ]
+conflicts_too (departs r) c = elim c [ ]
+conflicts_too traps c = elim c [ ]
+conflicts_too ends c = elim c [ ]
 
 -- a thread like one that another node comes to
 record Comes (like : Plain) (blocked : List Bool) (other : ℕ) (t : Thread) : Type 0 where

@@ -10,4 +10,4 @@ loop-other-preserved c =
 
 pub returns : goal.returns
 returns c = λ e. undisputed_state c.args.flat.now c.args.state.now c.args.node c.args.deed c.requires.node
-    (λ k lt. c.loop-other.invariant k (omega (arith, lt, c.loop-other-test.false)))
+    (λ k lt. c.loop-other.invariant k (omega (arith, lt, c.loop-other-test.false, c.len-other-end.ensures, c.args.state.now.spots.ok.0)))
