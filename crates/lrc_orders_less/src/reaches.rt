@@ -212,9 +212,10 @@ impl Reaches {
         let acting = thread_of(table, pair.acting);
         let other = thread_of(table, pair.other);
         let deed = clash_of(table, pair.acting);
+        let blocked = acting.held;
         let text = Text {
             thread: pair.other,
-            blocked: acting.held,
+            blocked,
         };
         let place = self.text(alloc, &means.flat, text, &other)?;
         Ok(self.is_clear(&means.flat, place, text, &other, deed))
