@@ -38,7 +38,7 @@ fn acts_on_words_of_ones_own_are_known(rt: HostRuntime) {
         b"words 2; locks 0; if me == 0 { [0] = 1; } else { barrier; [0] = 2; }",
     ];
     for text in texts {
-        assert!(is_known(alloc, text, 0).unwrap_or(false));
+        assert!(rt; is_known(alloc, text, 0).unwrap_or(false));
     }
 }
 
@@ -53,6 +53,6 @@ fn acts_that_others_may_come_to_are_not(rt: HostRuntime) {
         b"words 8; locks 0; i = 0; while i < 5 { [me * 4 + i] = i; i = i + 1; if i == 4 { x = [4 - me * 4]; } }",
     ];
     for text in texts {
-        assert!(!is_known(alloc, text, 0).unwrap_or(true));
+        assert!(rt; !is_known(alloc, text, 0).unwrap_or(true));
     }
 }
