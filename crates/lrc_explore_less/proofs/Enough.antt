@@ -18,13 +18,17 @@ use Rattle.lrc_orders_laws.proofs.Finishing.{finishes_by_rest}
 use Rattle.lrc_orders_laws.proofs.GoingOn.{state_fine}
 use Rattle.lrc_orders_laws.proofs.Settled.{outcomes as settled_outcomes}
 use Rattle.lrc_orders_live.proofs.Like.{meet_like, rest_like, stuck_like}
+use Rattle.lrc_orders_table.specs.Rows.{row_count}
+use Rattle.lrc_orders_table.proofs.RowLaws.{row_within}
 use Rattle.lrc_orders_undisputed.specs.Findings.{meeting, stuck, outcome, Shows}
 use Rattle.lrc_explore.specs.declared.task.Task.{Task}
+use Rattle.lrc_explore.specs.Answers.{AreSound}
+use Rattle.lrc_explore.specs.Ended.{HasNoEndBefore}
 use Rattle.lrc_explore.proofs.Reaching.{fine_key}
 use Rattle.lrc_explore_less.specs.declared.less.Less.{Less}
 use Rattle.lrc_explore_less.specs.Passing.{AreLess}
 use Rattle.lrc_explore_less.specs.Enough.{AreDone, AreOpenCalm, AreOpenGoing, HasBegun}
-use Rattle.lrc_explore_less.specs.Outcomes.{AreGathered, AreSound}
+use Rattle.lrc_explore_less.specs.Outcomes.{AreGathered}
 use Rattle.lrc_explore_less.proofs.Looked.{HasTrap, meeting_looked, outcome_looked, stuck_looked, trap_looked}
 use Rattle.lrc_explore_less.proofs.Onto.{Open, are_kept}
 use Rattle.lrc_explore_less.proofs.Reduced.{all_shown, may_finish}
@@ -69,6 +73,20 @@ module _ (task : Task) (less : Less) (is : AreLess task less) (begun : HasBegun 
       let still = rest_like there (plain_at task.flat s.key.state) (state_fine a.state) (fine_key task s.key reached) s.alike shows.0 in
       let has = gathered.gathered a.index a.place (slice_get_within less.opens.items a.index a.place a.is_open) a.is_open s.key s.there still in
       record { place = has.place; outcome = has.outcome; there = has.there; same = has.same ∙ sym (s.noted noting) ∙ shows.1 })
+      o.order o.acts o.machine o.led (o.still, o.are)
+
+  -- where no state that was found ends with these notes, they are of no outcome
+  pub no_outcome : (notes : List Act) → task.noting ≡ true → HasNoEndBefore task less.found notes (row_count less.found.table.rows)
+      → IsOutcome task.program.now task.flat.nodes notes → ⊥
+  no_outcome notes noting none o =
+      all_shown task.program.now task.flat.nodes (Open task less is begun done) (λ l m. Shows (outcome task.flat.nodes notes) l m)
+      (are_kept task less is begun done) (outcome_looked task.flat.nodes notes) ⊥ (may_finish (λ l m. Shows (outcome task.flat.nodes notes) l m))
+      (λ past there a shows.
+      let s = a.stood in
+      let still = rest_like there (plain_at task.flat s.key.state) (state_fine a.state)
+      (fine_key task s.key (is.sound.found.reached.each a.place s.key s.there)) s.alike shows.0 in
+      none a.place (row_within less.found.table.rows a.place s.key s.there)
+      (record { key = s.key; there = s.there; still = still; are = sym (s.noted noting) ∙ shows.1 }))
       o.order o.acts o.machine o.led (o.still, o.are)
 
   pub exact : (outcomes : List Outcome) → task.noting ≡ true → AreSound task outcomes → AreGathered task less outcomes (length less.opens.items)

@@ -87,12 +87,13 @@ trap_here node End more e = absurd (true≢false (sym e))
 
 made_of : (acts : List Act) → has_trap acts ≡ true → HasMade acts
 made_of [] e = absurd (true≢false (sym e))
-made_of (act ∷ acts) e = by_test (is_trap act.deed) refl e
+made_of (act ∷ acts) e = by_test (λ any. made_of acts any) (is_trap act.deed) refl e
   where
-    by_test : (b : Bool) → is_trap act.deed ≡ b → (is_trap act.deed || has_trap acts) ≡ true → HasMade (act ∷ acts)
-    by_test true here any = trap_here act.node act.deed acts here
-    by_test false here any =
-        let later = made_of acts (sym (ap (λ b. b || has_trap acts) here) ∙ any) in
+    by_test : (has_trap acts ≡ true → HasMade acts) → (b : Bool) → is_trap act.deed ≡ b → (is_trap act.deed || has_trap acts) ≡ true
+        → HasMade (act ∷ acts)
+    by_test more true here any = trap_here act.node act.deed acts here
+    by_test more false here any =
+        let later = more (sym (ap (λ b. b || has_trap acts) here) ∙ any) in
         record { node = later.node; cause = later.cause; made = inr later.made }
 
 or_right : (b : Bool) → (b || true) ≡ true

@@ -88,7 +88,7 @@ module _ (task : Task) (all : Rows) (calm : Bool) (reached : AreReached task all
           alike = like_on on.alike r.takes.alike;
           noted = λ e.
               notes_onward task.program.now task.flat.nodes past r.acts on.there later ∙ ap (λ n. notes_on n r.acts) (s.noted e ∙ copy.notes)
-              ∙ sym (r.noted e);
+              ∙ sym {A = List Act} (r.noted e);
         };
         trapless = λ e. r.shows ∙ p.trapless e;
       }
@@ -152,7 +152,7 @@ module _ (task : Task) (less : Less) (is : AreLess task less) (begun : HasBegun 
         alike = like_on (like_back on.alike) next.alike;
         noted = λ e.
             notes_onward task.program.now task.flat.nodes past acts after later ∙ ap (λ n. notes_on n acts) (s.noted e)
-            ∙ sym (next.noted e);
+            ∙ sym {A = List Act} (next.noted e);
       })
 
   begins_from : (acts : List Act) (machine : Plain) → Settles (plain_start task.program.now task.flat.nodes) acts machine → Onto Open acts machine

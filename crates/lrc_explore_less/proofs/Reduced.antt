@@ -25,7 +25,7 @@ use Rattle.lrc_orders_laws.proofs.Finishing.{AllFinish, all_may_finish, free_ste
 use Rattle.lrc_orders_laws.proofs.Settle.{settle, settling_free, along}
 use Rattle.lrc_orders_laws.proofs.Aligned as barriers
 use Rattle.lrc_orders_laws.proofs.Aligned.{aligned_at_start, at_barrier, all_wait, aligned_past}
-use Rattle.lrc_orders_laws.proofs.Onward.{Fine, contended_no_depart, fine_after, fine_settled, is_settled}
+use Rattle.lrc_orders_laws.proofs.Onward.{Fine, contended_no_depart, fine_after, fine_settled}
 use Rattle.lrc_orders_undisputed.specs.Undisputed.{Conflicts, read_and_written, written_and_read, written_twice, acquired_twice, IsUndisputed}
 use Rattle.lrc_orders_undisputed.specs.Searched.{Advances, arrived, further}
 
@@ -183,7 +183,7 @@ module _ (program : Program) (nodes : ℕ) (Open Good : List Act → Plain → T
   from_open (suc most) past machine is (x ∷ order) acts final le run good =
       let s = stepwise machine x order acts final run in
       let st = stepped machine x s.deed s.after s.first in
-      by_kind most (from_open most) past machine is x order acts final (omega (arith, le)) run s.deed s.after s.more s.first s.rest s.acts_are st good
+      by_kind most (λ p m o xs ks f l r g. from_open most p m o xs ks f l r g) past machine is x order acts final (omega (arith, le)) run s.deed s.after s.more s.first s.rest s.acts_are st good
       (is_contended s.deed) (is_free (next_of st.thread)) refl refl
 
   pub all_shown : (order : List ℕ) (acts : List Act) (final : Plain) → plain_from (plain_start program nodes) order ≡ Some (acts, final)

@@ -1,15 +1,36 @@
 -- Ways by undisputed steps, where states are added.
-use Rattle.std.proofs.Common.{◌≡◌, ℕ, ◌+◌, ◌<◌, ◌≤◌, List, Bool, true, false, inl, inr, sym, subst, ◌∙◌, arith}
-use Rattle.std.specs.Prelude.{slice_get, Some}
-use Rattle.std.proofs.lemmas.Bool.{cases_eq, cases_lt}
+use Rattle.std.proofs.Common.{◌≡◌, ℕ, List, Bool, true, refl}
+use Rattle.lrc_orders.specs.declared.noted.Noted.{Noted}
 use Rattle.lrc_orders.specs.Kept.{Grows}
-use Rattle.lrc_orders.proofs.Keeping.{stands_on}
+use Rattle.lrc_orders.proofs.Keeping.{grows_again, grows_not, stands_on}
+use Rattle.lrc_orders.proofs.Stores.{before}
+use Rattle.lrc_orders.proofs.Ways.{IsNotedCopy}
 use Rattle.lrc_orders_settling.specs.declared.step.Step.{Step}
 use Rattle.lrc_orders_table.specs.declared.rows.Rows.{Rows}
-use Rattle.lrc_orders_table.specs.Rows.{WidensRows}
-use Rattle.lrc_orders_table.proofs.RowLaws.{row_grown}
+use Rattle.lrc_orders_table.specs.Rows.{IsRowAt, IsRowPlace, WidensRows, row_count}
+use Rattle.lrc_orders_table.proofs.RowLaws.{row_grown, row_store, rows_not}
 use Rattle.lrc_explore.specs.declared.task.Task.{Task}
-use Rattle.lrc_explore_less.specs.Passing.{LeadsOpen, Passes, Reaches, Way, stays, passing}
+use Rattle.lrc_explore.proofs.Keys.{more_again}
+use Rattle.lrc_explore_less.specs.declared.less.Less.{Less}
+use Rattle.lrc_explore_less.specs.Passing.{LeadsOpen, Passes, Reaches, Way, Widens, stays, passing}
+
+-- what stands at a place that was full stood there
+pub was_at : (old new : Rows) (place : ℕ) (key : Noted) → WidensRows old new → IsRowPlace old place → IsRowAt new place key → IsRowAt old place key
+was_at old new place key w full at = before IsRowAt row_count WidensRows IsNotedCopy row_store old new place key w full at
+
+pub widens_not : (less : Less) → Widens less less
+widens_not less = record {
+  found = record { rows = rows_not less.found.table.rows; origins = grows_not less.found.origins.items less.found.origins.items refl };
+  opens = grows_not less.opens.items less.opens.items refl;
+  trap = λ e. e;
+}
+
+pub widens_again : {a b c : Less} → Widens a b → Widens b c → Widens a c
+widens_again v w = record {
+  found = more_again v.found w.found;
+  opens = grows_again v.opens w.opens;
+  trap = λ e. v.trap (w.trap e);
+}
 
 pub reaches_grown : (task : Task) (old new : Rows) (place : ℕ) (step : Step) (traps : Bool) (next : ℕ) → WidensRows old new
     → Reaches task old place step traps next → Reaches task new place step traps next
@@ -26,6 +47,7 @@ reaches_grown task old new place step traps next w r = record {
 
 module _ (task : Task) (old new : Rows) (calm calm' : Bool) (w : WidensRows old new) (less_calm : calm' ≡ true → calm ≡ true) where
   passes_grown : (place next : ℕ) → Passes task old calm place next → Passes task new calm' place next
+  unfolding reaches_grown
   passes_grown place next p = record {
     node = p.node;
     traps = p.traps;

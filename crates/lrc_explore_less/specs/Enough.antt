@@ -22,6 +22,7 @@ use Rattle.lrc_explore.specs.Traps.{ShowsTrapAt}
 use Rattle.lrc_explore_less.specs.declared.less.Less.{Less}
 use Rattle.lrc_explore_less.specs.declared.seek.Visit.{Visit}
 use Rattle.lrc_explore_less.specs.declared.seek.Visit.TheVariants as visit
+use Rattle.lrc_explore_less.specs.Passing.{AreLess}
 
 -- no node traps in a step from the state at a place
 abbrev pub IsTraplessAt : Task → Rows → (place : ℕ) → Type 0
@@ -62,16 +63,22 @@ pub record HasBegun (task : Task) (less : Less) : Type 0 where
   pub start : HasStart task less.found.table.rows
   pub trapless : is_none less.trap ≡ true → IsStartTrapless task
 
--- past all of them
-pub record IsThrough (task : Task) (less : Less) (races : Bool) (stuck : Option ℕ) (trap : Option Trapping) : Type 0 where
+-- so it is of all: the states are enough
+pub record AreEnough (task : Task) (less : Less) : Type 0 where
+  pub less_is : AreLess task less
+  pub begun : HasBegun task less
   pub done : AreDone task less (length less.opens.items)
-  pub calm : races ≡ true → AreOpenCalm task less (length less.opens.items)
+
+-- past all of them
+pub record IsThrough (task : Task) (less : Less) (stuck : Option ℕ) (trap : Option Trapping) : Type 0 where
+  pub done : AreDone task less (length less.opens.items)
   pub halted : IsStuckOpen task less (length less.opens.items) stuck
   pub trap_is : trap ≡ less.trap
 
+-- at a state where two nodes meet; or past all of them, where no two nodes meet if that is looked for
 abbrev pub IsEnd : Task → Less → (races : Bool) → End → Type 0
 IsEnd task less races (end.Meeting place p q) = MeetAt task less.found races place p q
-IsEnd task less races (end.Through stuck trap) = IsThrough task less races stuck trap
+IsEnd task less races (end.Through stuck trap) = IsThrough task less stuck trap × (races ≡ true → AreOpenCalm task less (length less.opens.items))
 
 -- what was seen at an open state, and that every step was taken from it
 pub record IsPast (task : Task) (less : Less) (place : ℕ) (races stuck : Bool) : Type 0 where

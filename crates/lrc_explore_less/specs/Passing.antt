@@ -1,9 +1,10 @@
 -- States from which one undisputed act is made, and those to which such acts lead.
-use Rattle.std.specs.Prelude.{◌≡◌, ℕ, ◌+◌, ◌<◌, ◌≤◌, Bool, true, false, List, Option, Some, None, if◌then◌else◌, is_none, length, nat_lt, slice_get}
+use Rattle.std.specs.Prelude.{◌≡◌, ℕ, ◌+◌, ◌<◌, ◌≤◌, Bool, true, false, List, [], Option, Some, None, if◌then◌else◌, is_none, length, nat_lt, slice_get}
 use Rattle.lrc_trace.specs.declared.act.Act.{Act}
+use Rattle.lrc_exec.specs.declared.spot.Spot.{Spot}
 use Rattle.lrc_exec.specs.States.{plain_at}
 use Rattle.lrc_orders.specs.declared.noted.Noted.{Noted}
-use Rattle.lrc_orders.specs.Kept.{IsAddedAt}
+use Rattle.lrc_orders.specs.Kept.{Grows, IsAddedAt}
 use Rattle.lrc_orders.specs.Traps.{has_trap}
 use Rattle.lrc_orders_settling.specs.declared.step.Step.{Step}
 use Rattle.lrc_orders_settling.specs.declared.step.Step.TheVariants.{Alone}
@@ -16,7 +17,7 @@ use Rattle.lrc_explore.specs.declared.task.Origin.{Origin}
 use Rattle.lrc_explore.specs.declared.task.Task.{Task}
 use Rattle.lrc_explore.specs.declared.task.Trapping.{Trapping}
 use Rattle.lrc_explore.specs.declared.task.Trapping.TheVariants as trapping
-use Rattle.lrc_explore.specs.Reached.{AreFound, CannotTakeAt}
+use Rattle.lrc_explore.specs.Reached.{AreFound, CannotTakeAt, IsMore}
 use Rattle.lrc_explore.specs.Traps.{IsTrapping}
 use Rattle.lrc_explore_less.specs.declared.less.Less.{Less}
 use Rattle.lrc_explore_less.specs.declared.less.Pass.{Pass}
@@ -74,6 +75,13 @@ pub record IsSound (task : Task) (less : Less) : Type 0 where
   pub reaches : AreReaches task.flat less.found.table.rows.threads.keys less.reaches
   pub trap : IsTrap task less.found.table.rows less.trap
 
+-- nothing was found yet, and nothing is known
+pub record IsNone (task : Task) (less : Less) : Type 0 where
+  pub found : AreFound task less.found
+  pub rows : row_count less.found.table.rows ≡ 0
+  pub opens : less.opens.items ≡ []
+  pub reaches : (threads : List Spot) → AreReaches task.flat threads less.reaches
+
 -- and from each state undisputed steps lead to one from which every step is taken
 pub record AreLess (task : Task) (less : Less) : Type 0 where
   pub sound : IsSound task less
@@ -91,6 +99,12 @@ pub record ArePassing (task : Task) (less : Less) (first : ℕ) : Type 0 where
   pub within : (index place : ℕ) → slice_get less.opens.items index ≡ Some place → place < first
   pub few : length less.opens.items ≤ first
   pub some : first < row_count less.found.table.rows
+
+-- what was found stays at its places, what is open stays open, and if no node is said to trap none was
+pub record Widens (old new : Less) : Type 0 where
+  pub found : IsMore old.found new.found
+  pub opens : Grows old.opens.items new.opens.items
+  pub trap : is_none new.trap ≡ true → is_none old.trap ≡ true
 
 -- these are the first so many places
 abbrev pub AreFirst : List ℕ → (count : ℕ) → Type 0
@@ -114,3 +128,7 @@ pub record HasNotTaken (task : Task) (old new : Less) (place : ℕ) (step : Step
   pub cannot : CannotTakeAt task new.found.table.rows place step
   pub rows : row_count new.found.table.rows ≡ row_count old.found.table.rows
   pub trap : new.trap ≡ old.trap
+
+abbrev pub IsTaken : Task → (old new : Less) → (place : ℕ) → Step → Option (ℕ × Bool) → Type 0
+IsTaken task old new place step None = HasNotTaken task old new place step
+IsTaken task old new place step (Some put) = HasTaken task old new place step put

@@ -10,10 +10,13 @@ ghost use Rattle.lrc_explore.specs.Answers.{IsAnswer, IsFault, IsFaultOf, MetToo
 ghost use Rattle.lrc_explore.specs.Reached.{IsTask};
 ghost use Rattle.lrc_explore.specs.Traps.{LeadIntoTrap, StartTraps};
 
+use crate::ended::all_ended;
 use crate::less::Less;
 use indexmap::IndexSet;
 use lrc_exec::code::Code;
-use lrc_explore::answers::{count_of, explore as explore_all, findings as findings_of_all, task_of};
+use lrc_explore::answers::{
+    count_of, explore as explore_all, findings as findings_of_all, task_of,
+};
 use lrc_explore::found::{settled_start, taken};
 use lrc_explore::task::{End, Origin, Task, Trapping};
 use lrc_lang::program::Program;
@@ -26,8 +29,8 @@ use std::alloc::{AllocError, Global};
 /// order races, and if none does, whether one gets stuck and whether a node traps in one. If there is something to tell,
 /// the order told is that of the search that makes no undisputed acts, unless that one gives up with `TooMany`. It fails
 /// with `BadNodes` exactly if the number of nodes is not 1 to 16. It gives up with `TooMany` only if there are more states
-/// to tell apart than `most`, or if a thread makes 1,000,000 + 20 * `most` free acts one after another. It fails if memory
-/// runs out.
+/// to tell apart than `most`, at none of which two nodes meet, or if a thread makes 1,000,000 + 20 * `most` free acts one
+/// after another. It fails if memory runs out.
 pub fn explore(
     alloc: Global,
     program: &Program,
@@ -37,7 +40,7 @@ pub fn explore(
     ensures answer { IfOk result (IsAnswer program.now nodes) }
     ensures bad_nodes { (result ≡ Err ExploreFault.BadNodes) ↔ (¬ AreNodes nodes) }
     ensures too_many { IfErr result (λ fault. fault ≡ ExploreFault.TooMany
-        → MetTooMany program.now nodes most false) }
+        → MetTooMany program.now nodes most false true) }
 {
     let count = count_of(nodes)?;
     let code = Code::new(alloc, program)?;
@@ -60,7 +63,7 @@ fn explore_code(
     most: usize,
 ) -> Result<Verdict, ExploreFault>
     ensures answer { IfOk result (IsAnswer code.now nodes) }
-    ensures faults { IfErr result (IsFaultOf code.now nodes most false) }
+    ensures faults { IfErr result (IsFaultOf code.now nodes most false true) }
 {
     let task = task_of(alloc, code, nodes, most, false)?;
     let mut less = Less::none(alloc, nodes as usize);
@@ -68,7 +71,7 @@ fn explore_code(
 }
 
 /// Searches as `explore` does, whether or not an order races, and tells whether one gets stuck and whether a node traps in
-/// one. It fails as `explore` does.
+/// one. It fails as `explore` does, but that two nodes may meet at these states.
 pub fn findings(
     alloc: Global,
     program: &Program,
@@ -78,7 +81,7 @@ pub fn findings(
     ensures findings { IfOk result (AreFindings program.now nodes) }
     ensures bad_nodes { (result ≡ Err ExploreFault.BadNodes) ↔ (¬ AreNodes nodes) }
     ensures too_many { IfErr result (λ fault. fault ≡ ExploreFault.TooMany
-        → MetTooMany program.now nodes most false) }
+        → MetTooMany program.now nodes most false false) }
 {
     let count = count_of(nodes)?;
     let code = Code::new(alloc, program)?;
@@ -101,7 +104,7 @@ fn findings_of(
     most: usize,
 ) -> Result<Findings, ExploreFault>
     ensures findings { IfOk result (AreFindings code.now nodes) }
-    ensures faults { IfErr result (IsFaultOf code.now nodes most false) }
+    ensures faults { IfErr result (IsFaultOf code.now nodes most false false) }
 {
     let task = task_of(alloc, code, nodes, most, false)?;
     let mut less = Less::none(alloc, nodes as usize);
@@ -109,7 +112,7 @@ fn findings_of(
 }
 
 /// Returns every outcome of the orders in which this many nodes can run a program, after which no node can make an act.
-/// It fails as `explore` does.
+/// It fails as `findings` does.
 pub fn outcomes(
     alloc: Global,
     program: &Program,
@@ -120,7 +123,7 @@ pub fn outcomes(
         → (HasOutcome found.keys notes ↔ IsOutcome program.now nodes notes)) }
     ensures bad_nodes { (result ≡ Err ExploreFault.BadNodes) ↔ (¬ AreNodes nodes) }
     ensures too_many { IfErr result (λ fault. fault ≡ ExploreFault.TooMany
-        → MetTooMany program.now nodes most true) }
+        → MetTooMany program.now nodes most true false) }
 {
     let count = count_of(nodes)?;
     let code = Code::new(alloc, program)?;
@@ -136,16 +139,11 @@ fn outcomes_of(
 ) -> Result<IndexSet<Outcome>, ExploreFault>
     ensures exact { IfOk result (λ found. (notes : List ActType)
         → (HasOutcome found.keys notes ↔ IsOutcome code.now nodes notes)) }
-    ensures faults { IfErr result (IsFaultOf code.now nodes most true) }
+    ensures faults { IfErr result (IsFaultOf code.now nodes most true false) }
 {
     let task = task_of(alloc, code, nodes, most, true)?;
-    let mut less = Less::none(alloc, nodes as usize);
-    let mut outcomes = IndexSet::new(alloc);
-    let all = less.all_outcomes(alloc, &task, &mut outcomes);
-    match all {
-        Ok(()) => Ok(outcomes),
-        Err(fault) => Err(fault),
-    }
+    let ended = all_ended(alloc, &task)?;
+    Ok(ended.outcomes)
 }
 
 // Whether a verdict names no order.
@@ -180,24 +178,21 @@ fn start_acts(alloc: Global, task: &Task<'_>) -> Result<Vec<Act>, ExploreFault>
 }
 
 impl Less {
-    ghost use Rattle.std.specs.Prelude.{◌≡◌, ◌↔◌, ℕ, [], IfErr, IfOk, List, OnOk, Option, false, option_map, true};
+    ghost use Rattle.std.specs.Prelude.{◌≡◌, IfErr, IfOk, false, length, option_map, true};
     ghost use Rattle.lrc_orders.specs.Verdict.{AreFindings, TellsStuck, TellsTrap};
-    ghost use Rattle.lrc_orders_table.specs.Rows.{row_count};
     ghost use Rattle.lrc_explore.specs.declared.task.Trapping.TheVariants.{Step};
-    ghost use Rattle.lrc_explore.specs.Answers.{IsAnswer, IsFault};
+    ghost use Rattle.lrc_explore.specs.Answers.{IsAnswer, IsFault, IsSearchFault};
     ghost use Rattle.lrc_explore.specs.Reached.{IsTask};
     ghost use Rattle.lrc_explore.specs.Traps.{IsTrapping, LeadIntoTrap};
-    ghost use Rattle.lrc_explore_less.specs.Passing.{AreLess, IsSound};
-    ghost use Rattle.lrc_explore_less.specs.Enough.{HasBegun, IsEnd, IsThrough};
+    ghost use Rattle.lrc_explore_less.specs.Passing.{AreLess, IsNone, IsSound};
+    ghost use Rattle.lrc_explore_less.specs.Enough.{AreDone, HasBegun, IsEnd, IsStuckOpen, IsThrough};
 
     // From the settled start on, where there are no states yet: what is answered.
     fn answer(&mut self, alloc: Global, task: &Task<'_>) -> Result<Verdict, ExploreFault>
         requires task { IsTask task.now }
-        requires sound { IsSound task.now self.old }
-        requires none { row_count self.old.found.table.rows ≡ 0 }
-        requires opens { self.old.opens.items ≡ [] }
+        requires none { IsNone task.now self.old }
         ensures answer { IfOk result (IsAnswer task.now.program.now task.now.flat.nodes) }
-        ensures faults { IfErr result (IsFault task.now) }
+        ensures faults { IfErr result (IsSearchFault task.now true) }
     {
         self.begin(alloc, task)?;
         let end = self.seek(alloc, task, true)?;
@@ -207,11 +202,9 @@ impl Less {
     // The same where races are not looked for.
     fn all_findings(&mut self, alloc: Global, task: &Task<'_>) -> Result<Findings, ExploreFault>
         requires task { IsTask task.now }
-        requires sound { IsSound task.now self.old }
-        requires none { row_count self.old.found.table.rows ≡ 0 }
-        requires opens { self.old.opens.items ≡ [] }
+        requires none { IsNone task.now self.old }
         ensures findings { IfOk result (AreFindings task.now.program.now task.now.flat.nodes) }
-        ensures faults { IfErr result (IsFault task.now) }
+        ensures faults { IfErr result (IsSearchFault task.now false) }
     {
         self.begin(alloc, task)?;
         let end = self.seek(alloc, task, false)?;
@@ -219,28 +212,6 @@ impl Less {
             End::Meeting { .. } => unreachable!(),
             End::Through { stuck, trap } => self.findings_told(alloc, task, stuck, trap),
         }
-    }
-
-    // From the settled start on, where there are no states yet: every outcome.
-    fn all_outcomes(
-        &mut self,
-        alloc: Global,
-        task: &Task<'_>,
-        outcomes: &mut IndexSet<Outcome>,
-    ) -> Result<(), ExploreFault>
-        requires task { IsTask task.now }
-        requires noting { task.now.noting ≡ true }
-        requires sound { IsSound task.now self.old }
-        requires none { row_count self.old.found.table.rows ≡ 0 }
-        requires opens { self.old.opens.items ≡ [] }
-        requires empty { outcomes.old.keys ≡ [] }
-        ensures exact { OnOk result ((notes : List ActType)
-            → (HasOutcome outcomes.new.keys notes
-            ↔ IsOutcome task.now.program.now task.now.flat.nodes notes)) }
-        ensures faults { IfErr result (IsFault task.now) }
-    {
-        self.begin(alloc, task)?;
-        self.gather(alloc, task, outcomes)
     }
 
     // What a search for races that ended so says.
@@ -272,7 +243,7 @@ impl Less {
         requires task { IsTask task.now }
         requires less { AreLess task.now self.now }
         requires begun { HasBegun task.now self.now }
-        requires through { IsThrough task.now self.now false stuck trap }
+        requires through { IsThrough task.now self.now stuck trap }
         ensures findings { IfOk result (AreFindings task.now.program.now task.now.flat.nodes) }
         ensures faults { IfErr result (IsFault task.now) }
     {
@@ -291,7 +262,8 @@ impl Less {
         requires task { IsTask task.now }
         requires less { AreLess task.now self.now }
         requires begun { HasBegun task.now self.now }
-        requires through { IsThrough task.now self.now false stuck self.now.trap }
+        requires done { AreDone task.now self.now (length self.now.opens.items) }
+        requires halted { IsStuckOpen task.now self.now (length self.now.opens.items) stuck }
         ensures stuck { IfOk result (λ order. TellsStuck task.now.program.now
             task.now.flat.nodes (option_map (λ nodes. nodes.items) order)) }
         ensures faults { IfErr result (IsFault task.now) }
@@ -314,7 +286,8 @@ impl Less {
         requires task { IsTask task.now }
         requires less { AreLess task.now self.now }
         requires begun { HasBegun task.now self.now }
-        requires through { (stuck : Option ℕ) × IsThrough task.now self.now false stuck trap }
+        requires done { AreDone task.now self.now (length self.now.opens.items) }
+        requires trap { trap ≡ self.now.trap }
         ensures trap { IfOk result (λ order. TellsTrap task.now.program.now task.now.flat.nodes
             (option_map (λ nodes. nodes.items) order)) }
         ensures faults { IfErr result (IsFault task.now) }

@@ -1,12 +1,12 @@
 // States that are found where undisputed acts are made at once.
 
-ghost use Rattle.std.specs.Prelude.{◌≡◌, ◌+◌, ◌<◌, ◌≤◌, IfErr, IfOk, MatchOption, OnOk};
+ghost use Rattle.std.specs.Prelude.{◌≡◌, ◌+◌, ◌<◌, ◌≤◌, [], IfErr, IfOk, MatchOption, OnOk};
 ghost use Rattle.lrc_orders_table.specs.Rows.{row_count};
 ghost use Rattle.lrc_orders_table.specs.Tables.{KeepsRows};
 ghost use Rattle.lrc_explore.specs.Answers.{IsFault};
 ghost use Rattle.lrc_explore.specs.Reached.{AreFound, CannotTakeAt, IsMeansOf, IsStepOf, IsTask, LeadsTo};
 ghost use Rattle.lrc_explore.specs.Traps.{ShowsTrapAt, led_traps, start_trap};
-ghost use Rattle.lrc_explore_less.specs.Passing.{pass_of, trap_then};
+ghost use Rattle.lrc_explore_less.specs.Passing.{AreFirst, pass_of, trap_then};
 
 use lrc_explore::task::{Found, Origin, Task, Trapping};
 use lrc_orders::search::ExploreFault;
@@ -27,9 +27,9 @@ pub struct Less {
     pub trap: Option<Trapping>,
 }
 
-/// Where the undisputed act of a state leads: to none, since none is known, or since it would lead back to a state that
+/// Where the undisputed act of a state leads: nowhere, since none is known, or since it would lead back to a state that
 /// was passed just now; to a state that was found earlier; or to a new one.
-#[derive(Clone, Copy, PartialEq, Eq)]
+#[derive(Clone, Copy)]
 pub enum Pass {
     Open,
     Joined,
@@ -42,7 +42,13 @@ fn trap_then(trap: Option<Trapping>, traps: bool, origin: Origin) -> Option<Trap
 {
     match trap {
         Some(first) => Some(first),
-        None => { if traps { Some(Trapping::Step(origin)) } else { None } }
+        None => {
+            if traps {
+                Some(Trapping::Step(origin))
+            } else {
+                None
+            }
+        }
     }
 }
 
@@ -65,11 +71,22 @@ fn means_of<'t>(task: &'t Task<'_>) -> Means<'t>
     }
 }
 
-// How many states may be kept: those from which every step is taken, and those that are passed.
-fn most_rows(task: &Task<'_>) -> usize
+/// How many states may be kept: those from which every step is taken, and those that are passed.
+pub(crate) fn most_rows(task: &Task<'_>) -> usize
     ensures { task.now.most ≤ result }
 {
     (task.looked as usize).saturating_add(task.most)
+}
+
+// Puts the first so many places into an empty list.
+fn first_places(places: &mut Vec<usize>, count: usize) -> Result<(), AllocError>
+    requires { places.old.items ≡ [] }
+    ensures { OnOk result (AreFirst places.new.items count) }
+{
+    for place in 0..count {
+        places.push(place)?;
+    }
+    Ok(())
 }
 
 // Returns the row that a step leads to from that at a place, and whether a node traps in it, if it can be taken. The rows
@@ -87,7 +104,7 @@ fn row_after(
     requires step { IsStepOf task.now step }
     ensures found { OnOk result (AreFound task.now found.new) }
     ensures keeps { OnOk result (KeepsRows found.old.table found.new.table) }
-    ensures origins { found.new.origins ≡ found.old.origins }
+    ensures origins { found.new.origins.items ≡ found.old.origins.items }
     ensures taken { IfOk result (λ after. MatchOption after
         (CannotTakeAt task.now found.new.table.rows place step)
         (λ led. LeadsTo task.now found.new.table.rows place step led.row)) }
@@ -104,25 +121,22 @@ fn row_after(
 }
 
 impl Less {
-    ghost use Rattle.std.specs.Prelude.{◌≡◌, ◌+◌, ◌<◌, ◌++◌, ◌∷◌, ℕ, IfErr, IfOk, IfSome, MatchOption, OnOk, None, [], false, is_none, true};
+    ghost use Rattle.std.specs.Prelude.{◌≡◌, ◌+◌, ◌-◌, ◌<◌, ◌++◌, ◌∷◌, IfErr, IfOk, IfSome, OnOk, [], false, is_none, true};
     ghost use Rattle.lrc_orders.specs.declared.noted.Noted.{Noted as Key};
-    ghost use Rattle.lrc_orders.specs.Kept.{Grows, IsAddedAt};
+    ghost use Rattle.lrc_orders.specs.Kept.{IsAddedAt};
     ghost use Rattle.lrc_orders_table.specs.Rows.{IsRowAt, StandsFor, row_count};
-    ghost use Rattle.lrc_orders_less.specs.Reaches.{AreReaches, IsAlwaysUndisputed};
+    ghost use Rattle.lrc_orders_less.specs.Reaches.{IsAlwaysUndisputed};
     ghost use Rattle.lrc_explore.specs.declared.task.Task.{Task as TheTask};
     ghost use Rattle.lrc_explore.specs.Answers.{IsFault};
-    ghost use Rattle.lrc_explore.specs.Reached.{AreFound, HasAfterAt, IsExpandedAt, IsMore, IsNext, IsStepOf, IsTask};
+    ghost use Rattle.lrc_explore.specs.Reached.{AreFound, HasAfterAt, IsMore, IsNext, IsStepOf, IsTask};
     ghost use Rattle.lrc_explore.specs.Traps.{ShowsTrapAt};
     ghost use Rattle.lrc_explore_less.specs.declared.less.Pass.TheVariants.{On};
-    ghost use Rattle.lrc_explore_less.specs.Passing.{AreFirst, AreLess, ArePassing, HasNotTaken, HasPassed, HasTaken, IsSound};
+    ghost use Rattle.lrc_explore_less.specs.Passing.{AreLess, ArePassing, HasPassed, IsNone, IsSound, IsTaken, Widens};
     ghost use Rattle.lrc_explore_less.specs.Enough.{HasBegun, IsDoneAt};
 
     /// Makes a list without states, for this many nodes.
     pub fn none(alloc: Global, nodes: usize) -> Less
-        ensures none { row_count result.found.table.rows ≡ 0 }
-        ensures trap { result.trap ≡ None }
-        ensures opens { result.opens.items ≡ [] }
-        ensures sound { (task : TheTask) → task.flat.nodes ≡ nodes → IsSound task result }
+        ensures { (task : TheTask) → task.flat.nodes ≡ nodes → IsNone task result }
     {
         Less {
             found: Found::none(alloc, nodes),
@@ -132,33 +146,20 @@ impl Less {
         }
     }
 
-    /// Adds the settled start, and passes on from it. There must be no states yet.
+    /// Finds the settled start, and passes on from it. There must be no states yet. It fails if memory runs out, or if a
+    /// node makes so many free acts that the limit is reached.
     pub fn begin(&mut self, alloc: Global, task: &Task<'_>) -> Result<(), ExploreFault>
         requires task { IsTask task.now }
-        requires sound { IsSound task.now self.old }
-        requires none { row_count self.old.found.table.rows ≡ 0 }
-        requires opens { self.old.opens.items ≡ [] }
+        requires none { IsNone task.now self.old }
         ensures less { OnOk result (AreLess task.now self.new) }
         ensures begun { OnOk result (HasBegun task.now self.new) }
         ensures faults { IfErr result (IsFault task.now) }
     {
         let traps = self.found.begin(alloc, task)?;
         self.trap = start_trap(traps);
-        self.open_first()?;
-        self.advance(alloc, task)
-    }
-
-    // Every step is to be taken from all states but the last. (There are none: the start alone was added.)
-    fn open_first(&mut self) -> Result<(), AllocError>
-        requires some { 0 < row_count self.old.found.table.rows }
-        requires opens { self.old.opens.items ≡ [] }
-        ensures opens { OnOk result ((last : ℕ) → last + 1 ≡ row_count self.old.found.table.rows
-            → AreFirst self.new.opens.items last) }
-        ensures others { self.new ≡ record self.old { opens = self.new.opens } }
-    {
-        for place in 0..self.found.table.rows.len() - 1 {
-            self.opens.push(place)?;
-        }
+        let last = self.found.table.rows.len() - 1;
+        first_places(&mut self.opens, last)?;
+        self.advance(alloc, task, last)?;
         Ok(())
     }
 
@@ -173,9 +174,7 @@ impl Less {
         requires less { AreLess task.now self.old }
         requires within { place < row_count self.old.found.table.rows }
         ensures less { OnOk result (AreLess task.now self.new) }
-        ensures more { OnOk result (IsMore self.old.found self.new.found) }
-        ensures opens { OnOk result (Grows self.old.opens.items self.new.opens.items) }
-        ensures trap { OnOk result (is_none self.new.trap ≡ true → is_none self.old.trap ≡ true) }
+        ensures widens { OnOk result (Widens self.old self.new) }
         ensures done { OnOk result (IsDoneAt task.now self.new.found.table.rows (is_none self.new.trap) place) }
         ensures faults { IfErr result (IsFault task.now) }
     {
@@ -199,37 +198,30 @@ impl Less {
         requires within { place < row_count self.old.found.table.rows }
         requires step { IsStepOf task.now step }
         ensures less { OnOk result (AreLess task.now self.new) }
-        ensures more { OnOk result (IsMore self.old.found self.new.found) }
-        ensures opens { OnOk result (Grows self.old.opens.items self.new.opens.items) }
-        ensures trap { OnOk result (is_none self.new.trap ≡ true → is_none self.old.trap ≡ true) }
+        ensures widens { OnOk result (Widens self.old self.new) }
         ensures after { OnOk result (HasAfterAt task.now self.new.found.table.rows place step) }
         ensures shows { OnOk result (is_none self.new.trap ≡ true
             → ShowsTrapAt task.now self.new.found.table.rows place step false) }
         ensures faults { IfErr result (IsFault task.now) }
     {
-        let Some((_next, added)) = self.take(alloc, task, place, step)? else {
+        let Some((next, added)) = self.take(alloc, task, place, step)? else {
             return Ok(());
         };
         if added {
-            self.advance(alloc, task)?;
+            self.advance(alloc, task, next)?;
         }
         Ok(())
     }
 
-    // From the last state, which is new: makes undisputed acts, up to a state of which none is known, or which was found
-    // before.
-    fn advance(&mut self, alloc: Global, task: &Task<'_>) -> Result<(), ExploreFault>
+    // From the last state: makes undisputed acts, up to a state of which none is known, or which was found before, or up
+    // to as many states as may be kept. The states from the first one on were passed just now.
+    fn advance(&mut self, alloc: Global, task: &Task<'_>, first: usize) -> Result<(), ExploreFault>
         requires task { IsTask task.now }
-        requires last { (last : ℕ) → last + 1 ≡ row_count self.old.found.table.rows
-            → ArePassing task.now self.old last }
-        requires some { 0 < row_count self.old.found.table.rows }
+        requires passing { ArePassing task.now self.old first }
         ensures less { OnOk result (AreLess task.now self.new) }
-        ensures more { OnOk result (IsMore self.old.found self.new.found) }
-        ensures opens { OnOk result (Grows self.old.opens.items self.new.opens.items) }
-        ensures trap { OnOk result (is_none self.new.trap ≡ true → is_none self.old.trap ≡ true) }
+        ensures widens { OnOk result (Widens self.old self.new) }
         ensures faults { IfErr result (IsFault task.now) }
     {
-        let first = self.found.table.rows.len() - 1;
         let most = most_rows(task);
         while self.found.table.rows.len() <= most {
             match self.pass(alloc, task, first)? {
@@ -238,7 +230,7 @@ impl Less {
                 Pass::Open => return Ok(self.keep_open()?),
             }
         }
-        Err(ExploreFault::TooMany)
+        Ok(self.keep_open()?)
     }
 
     // Makes an undisputed act of the last state, if one is known. The states from the first one on were passed just now.
@@ -248,16 +240,39 @@ impl Less {
         ensures passed { IfOk result (HasPassed task.now self.new first) }
         ensures on { IfOk result (λ pass. pass ≡ On
             → row_count self.new.found.table.rows ≡ row_count self.old.found.table.rows + 1) }
-        ensures more { OnOk result (IsMore self.old.found self.new.found) }
-        ensures opens { OnOk result (self.new.opens ≡ self.old.opens) }
-        ensures trap { OnOk result (is_none self.new.trap ≡ true → is_none self.old.trap ≡ true) }
+        ensures widens { OnOk result (Widens self.old self.new) }
         ensures faults { IfErr result (IsFault task.now) }
     {
-        let at = self.found.table.rows.len() - 1;
-        let Some(node) = self.undisputed(alloc, task, at)? else {
+        let last = self.found.table.rows.len() - 1;
+        let Some(node) = self.undisputed(alloc, task, last)? else {
             return Ok(Pass::Open);
         };
-        let Some((next, added)) = self.take(alloc, task, at, Step::Alone(node))? else {
+        let pass = self.pass_by(alloc, task, first, last, node)?;
+        Ok(pass)
+    }
+
+    // The same, by this node's act at the last state.
+    fn pass_by(
+        &mut self,
+        alloc: Global,
+        task: &Task<'_>,
+        first: usize,
+        last: usize,
+        node: u8,
+    ) -> Result<Pass, ExploreFault>
+        requires task { IsTask task.now }
+        requires passing { ArePassing task.now self.old first }
+        requires last { last + 1 ≡ row_count self.old.found.table.rows }
+        requires node { node < task.now.flat.nodes }
+        requires known { (key : Key) → IsRowAt self.old.found.table.rows last key
+            → IsAlwaysUndisputed task.now.flat key.state node }
+        ensures passed { IfOk result (HasPassed task.now self.new first) }
+        ensures on { IfOk result (λ pass. pass ≡ On
+            → row_count self.new.found.table.rows ≡ row_count self.old.found.table.rows + 1) }
+        ensures widens { OnOk result (Widens self.old self.new) }
+        ensures faults { IfErr result (IsFault task.now) }
+    {
+        let Some((next, added)) = self.take(alloc, task, last, Step::Alone(node))? else {
             return Ok(Pass::Open);
         };
         Ok(pass_of(next, added, first))
@@ -282,7 +297,9 @@ impl Less {
     {
         let row = self.found.table.rows.row(place);
         let means = means_of(task);
-        let found = self.reaches.undisputed_node(alloc, &means, &self.found.table, &row)?;
+        let found = self
+            .reaches
+            .undisputed_node(alloc, &means, &self.found.table, &row)?;
         match found {
             Some(node) => Ok(Some(node as u8)),
             None => Ok(None),
@@ -303,11 +320,9 @@ impl Less {
         requires within { place < row_count self.old.found.table.rows }
         requires step { IsStepOf task.now step }
         ensures sound { OnOk result (IsSound task.now self.new) }
-        ensures more { OnOk result (IsMore self.old.found self.new.found) }
-        ensures opens { OnOk result (self.new.opens ≡ self.old.opens) }
-        ensures taken { IfOk result (λ taken. MatchOption taken
-            (HasNotTaken task.now self.old self.new place step)
-            (HasTaken task.now self.old self.new place step)) }
+        ensures widens { OnOk result (Widens self.old self.new) }
+        ensures opens { OnOk result (self.new.opens.items ≡ self.old.opens.items) }
+        ensures taken { IfOk result (IsTaken task.now self.old self.new place step) }
         ensures faults { IfErr result (IsFault task.now) }
     {
         let Some(led) = row_after(&mut self.found, alloc, task, place, step)? else {
@@ -351,8 +366,8 @@ impl Less {
     // From the last state every step is to be taken.
     fn keep_open(&mut self) -> Result<(), AllocError>
         requires { 0 < row_count self.old.found.table.rows }
-        ensures opens { OnOk result ((last : ℕ) → last + 1 ≡ row_count self.old.found.table.rows
-            → self.new.opens.items ≡ self.old.opens.items ++ last ∷ []) }
+        ensures opens { OnOk result (self.new.opens.items
+            ≡ self.old.opens.items ++ (row_count self.old.found.table.rows - 1) ∷ []) }
         ensures others { self.new ≡ record self.old { opens = self.new.opens } }
     {
         let last = self.found.table.rows.len() - 1;

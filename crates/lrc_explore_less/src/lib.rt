@@ -4,5 +4,6 @@
 #![tactic(auto)]
 
 pub mod answers;
+pub mod ended;
 pub mod less;
 pub mod seek;

@@ -5,7 +5,7 @@ ghost use Rattle.lrc_orders.specs.Kept.{Grows};
 ghost use Rattle.lrc_orders.specs.Outcome.{HasOutcome};
 ghost use Rattle.lrc_explore.specs.Answers.{AddsOnly, first_stuck};
 
-use crate::less::Less;
+use crate::less::{Less, most_rows};
 use indexmap::IndexSet;
 use lrc_explore::task::{End, Task};
 use lrc_orders::outcomes::Outcome;
@@ -42,7 +42,7 @@ fn keep(outcomes: &mut IndexSet<Outcome>, notes: Vec<Act>) -> Result<(), AllocEr
 }
 
 impl Less {
-    ghost use Rattle.std.specs.Prelude.{◌≡◌, ◌<◌, ℕ, IfErr, IfOk, MatchOption, OnOk, Some, [], is_none, length, slice_get, true};
+    ghost use Rattle.std.specs.Prelude.{◌≡◌, ◌<◌, ◌≤◌, IfErr, IfOk, MatchOption, OnOk, [], false, is_none, length, true};
     ghost use Rattle.lrc_exec.specs.States.{plain_at};
     ghost use Rattle.lrc_orders.specs.declared.noted.Noted.{Noted as Key};
     ghost use Rattle.lrc_orders.specs.Kept.{Grows};
@@ -50,33 +50,30 @@ impl Less {
     ghost use Rattle.lrc_orders_table.specs.declared.known.Means.{Means as TheMeans};
     ghost use Rattle.lrc_orders_table.specs.Rows.{row_count};
     ghost use Rattle.lrc_orders_table.specs.Tables.{IsKnown, IsRowOf, IsTable};
-    ghost use Rattle.lrc_explore.specs.Answers.{IsFault};
-    ghost use Rattle.lrc_explore.specs.Reached.{IsMore, IsTask};
-    ghost use Rattle.lrc_explore_less.specs.Passing.{AreLess};
+    ghost use Rattle.lrc_explore.specs.Answers.{AreSound, IsFault, IsSearchFault};
+    ghost use Rattle.lrc_explore.specs.Reached.{AreFound, IsTask};
+    ghost use Rattle.lrc_explore_less.specs.Passing.{AreLess, Widens};
     ghost use Rattle.lrc_explore_less.specs.Enough.{HasBegun, IsEnd, IsVisit};
-    ghost use Rattle.lrc_explore_less.specs.Outcomes.{AreGathered, AreSound, IsGatheredAt};
+    ghost use Rattle.lrc_explore_less.specs.Outcomes.{AreGathered, IsGatheredAt};
 
     /// Looks for a state where two nodes meet, if `races` is true. If there is none, enough states are found, and the
     /// answer tells the first of them at which the program is stuck, if any, and where a node traps first, if one does.
-    pub fn seek(
-        &mut self,
-        alloc: Global,
-        task: &Task<'_>,
-        races: bool,
-    ) -> Result<End, ExploreFault>
+    /// Where it gives up for too many states, no two nodes meet at any of those that were found, if `races` is true.
+    pub fn seek(&mut self, alloc: Global, task: &Task<'_>, races: bool) -> Result<End, ExploreFault>
         requires task { IsTask task.now }
         requires less { AreLess task.now self.old }
         requires begun { HasBegun task.now self.old }
         ensures less { OnOk result (AreLess task.now self.new) }
         ensures begun { OnOk result (HasBegun task.now self.new) }
         ensures end { IfOk result (IsEnd task.now self.new races) }
-        ensures faults { IfErr result (IsFault task.now) }
+        ensures faults { IfErr result (IsSearchFault task.now races) }
     {
         let mut stuck = None;
         let mut index = 0;
         while index < self.opens.len() {
-            if self.opens.len() > task.most {
-                return Err(ExploreFault::TooMany);
+            let many = self.are_too_many(task);
+            if many {
+                return self.meeting_of_all(task, races);
             }
             let place = self.opens[index];
             match self.visit(alloc, task, place, races)? {
@@ -91,6 +88,33 @@ impl Less {
         })
     }
 
+    // Whether there are more states than may be: those from which every step is taken, or all that are kept.
+    fn are_too_many(&self, task: &Task<'_>) -> bool
+        requires few { length self.now.opens.items ≤ row_count self.now.found.table.rows }
+        ensures many { result ≡ true → task.now.most < row_count self.now.found.table.rows }
+        ensures fits { result ≡ false → length self.now.opens.items ≤ task.now.most }
+    {
+        self.opens.len() > task.most || self.found.table.rows.len() > most_rows(task)
+    }
+
+    // The first state where two nodes meet, if that is looked for, where there are more states than may be. If there is
+    // none, there are too many.
+    fn meeting_of_all(&self, task: &Task<'_>, races: bool) -> Result<End, ExploreFault>
+        requires found { AreFound task.now self.now.found }
+        requires many { task.now.most < row_count self.now.found.table.rows }
+        ensures end { IfOk result (IsEnd task.now self.now races) }
+        ensures faults { IfErr result (IsSearchFault task.now races) }
+    {
+        let _most = task.most;
+        for place in 0..self.found.table.rows.len() {
+            let row = self.found.table.rows.row(place);
+            if let Some((p, q)) = self.meeting(&row, races) {
+                return Ok(End::Meeting { place, p, q });
+            }
+        }
+        Err(ExploreFault::TooMany)
+    }
+
     // Looks at a state, and finds those to which steps lead from it, but where two nodes meet there and that is looked for.
     fn visit(
         &mut self,
@@ -103,9 +127,7 @@ impl Less {
         requires less { AreLess task.now self.old }
         requires within { place < row_count self.old.found.table.rows }
         ensures less { OnOk result (AreLess task.now self.new) }
-        ensures more { OnOk result (IsMore self.old.found self.new.found) }
-        ensures opens { OnOk result (Grows self.old.opens.items self.new.opens.items) }
-        ensures trap { OnOk result (is_none self.new.trap ≡ true → is_none self.old.trap ≡ true) }
+        ensures widens { OnOk result (Widens self.old self.new) }
         ensures visit { IfOk result (IsVisit task.now self.new place races) }
         ensures faults { IfErr result (IsFault task.now) }
     {
@@ -149,11 +171,12 @@ impl Less {
         ensures sound { OnOk result (AreSound task.now outcomes.new.keys) }
         ensures done { OnOk result (AreGathered task.now self.new outcomes.new.keys
             (length self.new.opens.items)) }
-        ensures faults { IfErr result (IsFault task.now) }
+        ensures faults { IfErr result (IsSearchFault task.now false) }
     {
         let mut index = 0;
         while index < self.opens.len() {
-            if self.opens.len() > task.most {
+            let many = self.are_too_many(task);
+            if many {
                 return Err(ExploreFault::TooMany);
             }
             let place = self.opens[index];
@@ -172,7 +195,6 @@ impl Less {
         place: usize,
         outcomes: &mut IndexSet<Outcome>,
     ) -> Result<(), AllocError>
-        requires task { IsTask task.now }
         requires less { AreLess task.now self.now }
         requires within { place < row_count self.now.found.table.rows }
         requires sound { AreSound task.now outcomes.old.keys }
@@ -182,7 +204,8 @@ impl Less {
     {
         let _most = task.most;
         let row = self.found.table.rows.row(place);
-        if self.found.table.is_still(&row) {
+        let still = self.found.table.is_still(&row);
+        if still {
             let key = self.found.table.rows.noted(alloc, place)?;
             keep(outcomes, key.notes)?;
         }

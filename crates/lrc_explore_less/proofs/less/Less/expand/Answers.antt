@@ -1,13 +1,13 @@
-use Rattle.std.proofs.Common.{◌+◌, sym, subst, arith}
-use Rattle.lrc_orders.proofs.Keeping.{grows_again}
+use Rattle.std.proofs.Common.{arith}
 use Rattle.lrc_orders_settling.specs.declared.step.Step.TheVariants.{Together}
-use Rattle.lrc_explore.proofs.Keys.{after_at_grown, each_more, expanded_at, more_again, within_more}
+use Rattle.lrc_explore.proofs.Keys.{after_at_grown, each_more, expanded_at, within_more}
 use Rattle.lrc_explore_less.proofs.Expanding.{trapless_all, trapless_first, trapless_more}
+use Rattle.lrc_explore_less.proofs.Ways.{widens_again}
 use Rattle.lrc_explore_less.proofs.less.Less.expand.Goals as goal
 
 pub expand_step-requires-in-loop-node-clause-within : goal.expand_step-requires-in-loop-node-clause-within
 expand_step-requires-in-loop-node-clause-within c =
-    within_more c.args.task.now c.args.self.now.found c.loop-node.self.found c.args.place c.requires.less.sound.found c.loop-node.invariant.more
+    within_more c.args.task.now c.args.self.now.found c.loop-node.self.found c.args.place c.requires.less.sound.found c.loop-node.invariant.widens.found
     c.requires.within
 
 pub loop-node-init : goal.loop-node-init
@@ -16,9 +16,7 @@ loop-node-init c =
     let e = c.in_ok-expand_step.ensures in
     record {
       less = e.less;
-      more = e.more;
-      opens = e.opens;
-      trap = e.trap;
+      widens = e.widens;
       all = e.after;
       each = λ k lt. absurd (omega (arith, lt));
       trapless = trapless_first task c.expand_step.new.self.found.table.rows _ c.args.place e.shows;
@@ -33,15 +31,15 @@ loop-node-preserved c =
     let new = c.expand_step-in-loop-node.new.self in
     let place = c.args.place in
     let e = c.in_ok-expand_step-in-loop-node.ensures in
-    let full = i.less.sound.found.reached.full place (within_more task first.found old.found place c.requires.less.sound.found i.more c.requires.within) in
+    let w = e.widens in
+    let full = i.less.sound.found.reached.full place
+    (within_more task first.found old.found place c.requires.less.sound.found i.widens.found c.requires.within) in
     record {
       less = e.less;
-      more = more_again i.more e.more;
-      opens = grows_again i.opens e.opens;
-      trap = λ calm. i.trap (e.trap calm);
-      all = after_at_grown task old.found.table.rows new.found.table.rows place Together e.more.rows full i.all;
-      each = each_more task old.found.table.rows new.found.table.rows place c.loop-node.node e.more.rows full i.each e.after;
-      trapless = trapless_more task old.found.table.rows new.found.table.rows _ _ place c.loop-node.node e.more.rows full e.trap i.trapless e.shows;
+      widens = widens_again i.widens w;
+      all = after_at_grown task old.found.table.rows new.found.table.rows place Together w.found.rows full i.all;
+      each = each_more task old.found.table.rows new.found.table.rows place c.loop-node.node w.found.rows full i.each e.after;
+      trapless = trapless_more task old.found.table.rows new.found.table.rows _ _ place c.loop-node.node w.found.rows full w.trap i.trapless e.shows;
     }
 
 pub returns-clause-done : goal.returns-clause-done

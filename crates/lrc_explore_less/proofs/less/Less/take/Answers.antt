@@ -1,5 +1,5 @@
 use Rattle.std.proofs.Common.{ℕ, ◌<◌, refl, sym, ap, ◌∙◌, subst, length}
-use Rattle.std.specs.Prelude.{Option, MatchOption}
+use Rattle.std.specs.Prelude.{MatchOption, Option}
 use Rattle.lrc_orders.specs.Kept.{IsAddedAt}
 use Rattle.lrc_orders.proofs.Keeping.{grows_not}
 use Rattle.lrc_orders_table.specs.declared.table.Led.{Led}
@@ -10,7 +10,7 @@ use Rattle.lrc_explore.specs.Traps.{ShowsTrapAt, led_traps}
 use Rattle.lrc_explore.proofs.Keys.{more_again}
 use Rattle.lrc_explore_less.specs.declared.less.Less.{Less}
 use Rattle.lrc_explore_less.specs.Passing.{IsTrap}
-use Rattle.lrc_explore_less.proofs.Steps.{reaches_of, sound_taken, trap_more, trap_taken}
+use Rattle.lrc_explore_less.proofs.Steps.{reaches_of, sound_taken, trap_more, trap_taken, widens_put, widens_same}
 use Rattle.lrc_explore_less.proofs.less.Less.take.Goals as goal
 
 pub put-requires-clause-next : goal.put-requires-clause-next
@@ -20,18 +20,26 @@ put-requires-clause-next c =
     let P : Option Led → Type 0 = λ o. MatchOption o (CannotTakeAt task all c.args.place c.args.step) (λ led. LeadsTo task all c.args.place c.args.step led.row) in
     subst P c.in-Some.is c.in_ok-led.ensures.taken
 
+-- ---- where it cannot be taken
+
 pub returns-in_default-clause-sound : goal.returns-in_default-clause-sound
 returns-in_default-clause-sound c =
     let task = c.args.task.now in
     let old = c.args.self.now in
     let mid = c.row_after.new.found in
     let e = c.in_ok-led.ensures in
-    record {
-      found = e.found;
-      reaches = (sound_taken task old (record old { found = mid }) mid old.trap c.requires.sound e.keeps.widens refl e.found (rows_not mid.table.rows)
-          (trap_more task old.found.table.rows mid.table.rows old.trap e.keeps.widens c.requires.sound.trap)).reaches;
-      trap = trap_more task old.found.table.rows mid.table.rows old.trap e.keeps.widens c.requires.sound.trap;
-    }
+    sound_taken task old (record old { found = mid }) mid old.trap c.requires.sound e.keeps.widens refl e.found (rows_not mid.table.rows)
+    (trap_more task old.found.table.rows mid.table.rows old.trap e.keeps.widens c.requires.sound.trap)
+
+pub returns-in_default-clause-widens : goal.returns-in_default-clause-widens
+returns-in_default-clause-widens c =
+    let old = c.args.self.now in
+    let mid = c.row_after.new.found in
+    let more : IsMore old.found mid = record {
+      rows = c.in_ok-led.ensures.keeps.widens;
+      origins = grows_not old.found.origins.items mid.origins.items c.row_after.ensures.origins;
+    } in
+    widens_same old (record old { found = mid }) more refl refl
 
 pub returns-in_default-clause-taken : goal.returns-in_default-clause-taken
 returns-in_default-clause-taken c =
@@ -39,6 +47,8 @@ returns-in_default-clause-taken c =
     let all = c.row_after.new.found.table.rows in
     let P : Option Led → Type 0 = λ o. MatchOption o (CannotTakeAt task all c.args.place c.args.step) (λ led. LeadsTo task all c.args.place c.args.step led.row) in
     record { cannot = subst P c.in_default.is c.in_ok-led.ensures.taken; rows = ap (λ l. length l) c.in_ok-led.ensures.keeps.rows; trap = refl }
+
+-- ---- where it is
 
 pub returns-clause-sound : goal.returns-clause-sound
 returns-clause-sound c =
@@ -76,13 +86,16 @@ returns-clause-taken c =
       trap = ap (λ (l : Less). l.trap) c.put.ensures.others ∙ c.trap_then.ensures;
     }
 
-pub returns-clause-more : goal.returns-clause-more
-returns-clause-more c =
-    let e = c.in_ok-led.ensures in
-    let old = c.args.self.now.found in
+pub returns-clause-opens : goal.returns-clause-opens
+returns-clause-opens c = ap (λ (l : Less). l.opens.items) c.put.ensures.others
+
+pub returns-clause-widens : goal.returns-clause-widens
+returns-clause-widens c =
+    let old = c.args.self.now in
     let mid = c.row_after.new.found in
-    let first : IsMore old mid = record {
-      rows = e.keeps.widens;
-      origins = grows_not old.origins.items mid.origins.items (ap (λ v. v.items) c.row_after.ensures.origins);
+    let first : IsMore old.found mid = record {
+      rows = c.in_ok-led.ensures.keeps.widens;
+      origins = grows_not old.found.origins.items mid.origins.items c.row_after.ensures.origins;
     } in
-    more_again first c.in_ok-put.ensures.more
+    widens_put old c.put.new.self c.in-Some.led.traps _ (more_again first c.in_ok-put.ensures.more) (ap (λ (l : Less). l.opens.items) c.put.ensures.others)
+    (ap (λ (l : Less). l.trap) c.put.ensures.others ∙ c.trap_then.ensures)

@@ -42,7 +42,7 @@ returns-clause-visit c =
     let e = c.in_ok-expand.ensures in
     record {
       key = key;
-      there = row_grown old.table.rows c.expand.new.self.found.table.rows place key e.more.rows (row_at task old place row f within there);
+      there = row_grown old.table.rows c.expand.new.self.found.table.rows place key e.widens.found.rows (row_at task old place row f within there);
       calm = c.in_default.ensures means key known of;
       halted = c.is_stuck-stuck.ensures means key known of;
       done = e.done;
