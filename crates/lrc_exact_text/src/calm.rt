@@ -6,7 +6,7 @@ ghost use Rattle.lrc_exec.specs.Nodes.{AreNodes};
 ghost use Rattle.lrc_exact_text.specs.Calm.{AreCalmOutcomes, IsCalmRun};
 
 use indexmap::IndexSet;
-use lrc_explore::answers::{explore, outcomes};
+use lrc_explore_less::answers::{explore, outcomes};
 use lrc_explore_text::outcome_run::outcome_run;
 use lrc_lang::program::Program;
 use lrc_orders::outcomes::Outcome;
@@ -35,7 +35,7 @@ pub fn calm_outcomes(
 ) -> Result<Option<IndexSet<Outcome>>, AllocError>
     requires { AreNodes nodes }
     ensures { IfOk result (λ found. IfSome found (λ set.
-        AreCalmOutcomes program.now nodes most set.keys)) }
+        AreCalmOutcomes program.now nodes set.keys)) }
 {
     if !is_calm(alloc, program, nodes, most)? {
         return Ok(None);
@@ -59,7 +59,7 @@ pub fn calm_run(
 ) -> Result<CalmRun, AllocError>
     requires nodes { AreNodes nodes }
     requires number { 1 ≤ number }
-    ensures { IfOk result (IsCalmRun program.now nodes most number) }
+    ensures { IfOk result (IsCalmRun program.now nodes number) }
 {
     if !is_calm(alloc, program, nodes, most)? {
         return Ok(CalmRun::Unknown);
