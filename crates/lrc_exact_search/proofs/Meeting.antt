@@ -17,7 +17,7 @@ use Rattle.lrc_exact.specs.Rule.{Shape}
 use Rattle.lrc_exact_laws.specs.Laws.{IsExactRun}
 use Rattle.lrc_exact_search.specs.declared.search.Met.{Met}
 use Rattle.lrc_exact_search.specs.contracts.search.MetPartialEq.TheImpl.{eq-value}
-use Rattle.lrc_exact_search.specs.Searching.{acts_in, AreInOrder, AreRunsOf, AreSearched, GoesOn, further, parts, IsEndedExactRun, IsMet, IsSearched, Parts}
+use Rattle.lrc_exact_search.specs.Searching.{acts_in, AreInOrder, AreRunsOf, AreSearched, GoesOn, further, parts, endless, IsEndedExactRun, IsMet, IsSearched, Parts}
 
 -- ---- runs
 
@@ -57,6 +57,7 @@ module _ (program : Program) (shape : Shape) where
       → GoesOn program shape old outcomes acts ahead → GoesOn program shape new more acts ahead
   goes_further g h (further lt met) = further lt (met_on g met)
   goes_further g h (parts p) = parts (parts_on g h p)
+  goes_further g h (endless e) = endless e
 
   pub searched_on : {old new : List Met} {outcomes more : List Outcome} {acts : List Act} → Grows old new → Grows outcomes more
       → IsSearched program shape old outcomes acts → IsSearched program shape new more acts
