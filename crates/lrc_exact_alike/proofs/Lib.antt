@@ -1,0 +1,4 @@
+pub mod Learning
+pub mod Stepping
+pub mod Runs
+pub mod Onward
