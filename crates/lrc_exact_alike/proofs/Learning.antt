@@ -20,11 +20,11 @@ same_test false false to from = refl
 
 pub same_le : (m n m' n' : ℕ) → (m ≤ n → m' ≤ n') → (m' ≤ n' → m ≤ n) → nat_le m n ≡ nat_le m' n'
 same_le m n m' n' to from =
-    same_test (nat_le m n) (nat_le m' n') (λ h. le-leb m' n' (to (leb-true m n (sym h)))) (λ h. le-leb m n (from (leb-true m' n' (sym h))))
+    same_test (nat_le m n) (nat_le m' n') (λ h. le-leb m' n' (to (leb-true m n h))) (λ h. le-leb m n (from (leb-true m' n' h)))
 
 pub same_lt : (m n m' n' : ℕ) → (m < n → m' < n') → (m' < n' → m < n) → nat_lt m n ≡ nat_lt m' n'
 same_lt m n m' n' to from =
-    same_test (nat_lt m n) (nat_lt m' n') (λ h. lt-ltb m' n' (to (ltb-true m n (sym h)))) (λ h. lt-ltb m n (from (ltb-true m' n' (sym h))))
+    same_test (nat_lt m n) (nat_lt m' n') (λ h. lt-ltb m' n' (to (ltb-true m n h))) (λ h. lt-ltb m n (from (ltb-true m' n' h)))
 
 module _ (floor floor' : List ℕ) where
   abbrev base : ℕ
@@ -82,6 +82,29 @@ module _ (floor floor' : List ℕ) where
 
   module _ (node : ℕ) (f f' : ℕ → Interval) (word : ℕ) (since since' bound bound' : ℕ) (least : bound ≤ since) (least' : bound' ≤ since')
       (same : since - bound ≡ since' - bound') where
+    -- one interval more
+    one_more : (count : ℕ) → IsIntervalAlike floor floor' (f (suc count + bound)) (f' (suc count + bound')) → (earlier earlier' : Word)
+        → IsWordAlike floor floor' earlier earlier'
+        → IsWordAlike floor floor'
+        (if nat_le since (count + bound) then with_change (record { weight = (f (suc count + bound)).weight; node = node }) ((f (suc count + bound)).changed word) earlier
+        else earlier)
+        (if nat_le since' (count + bound')
+        then with_change (record { weight = (f' (suc count + bound')).weight; node = node }) ((f' (suc count + bound')).changed word) earlier' else earlier')
+    one_more count one earlier earlier' is =
+        go (nat_le since (count + bound)) (nat_le since' (count + bound'))
+        (same_le since (count + bound) since' (count + bound') (λ le. omega (arith, least, least', same, le)) (λ le. omega (arith, least, least', same, le)))
+      where
+        go : (b b' : Bool) → b ≡ b'
+            → IsWordAlike floor floor'
+            (if b then with_change (record { weight = (f (suc count + bound)).weight; node = node }) ((f (suc count + bound)).changed word) earlier else earlier)
+            (if b' then with_change (record { weight = (f' (suc count + bound')).weight; node = node }) ((f' (suc count + bound')).changed word) earlier' else earlier')
+        go true true same_b =
+            change_alike (record { weight = (f (suc count + bound)).weight; node = node }) (record { weight = (f' (suc count + bound')).weight; node = node })
+            ((f (suc count + bound)).changed word) ((f' (suc count + bound')).changed word) earlier earlier' one.above one.shifted refl (one.changed word) is
+        go false false same_b = is
+        go true false same_b = let never : ⊥ = cc in absurd never
+        go false true same_b = let never : ⊥ = cc in absurd never
+
     changes_alike : (count : ℕ) → ((j : ℕ) → suc j ≤ count → IsIntervalAlike floor floor' (f (suc j + bound)) (f' (suc j + bound'))) → (now now' : Word)
         → IsWordAlike floor floor' now now'
         → IsWordAlike floor floor' (with_changes_of node f word since (count + bound) now) (with_changes_of node f' word since' (count + bound') now')
@@ -89,28 +112,8 @@ module _ (floor floor' : List ℕ) where
         subst (λ (x : Word). IsWordAlike floor floor' x (with_changes_of node f' word since' bound' now')) (sym (changes-none node f since word bound now least))
         (subst (λ (x : Word). IsWordAlike floor floor' now x) (sym (changes-none node f' since' word bound' now' least')) alike)
     changes_alike (suc count) are now now' alike =
-        go (nat_le since (count + bound)) (nat_le since' (count + bound'))
-        (same_le since (count + bound) since' (count + bound') (λ le. omega (arith, least, least', same, le)) (λ le. omega (arith, least, least', same, le)))
-      where
-        earlier : IsWordAlike floor floor' (with_changes_of node f word since (count + bound) now) (with_changes_of node f' word since' (count + bound') now')
-        earlier = changes_alike count (λ j le. are j (omega (arith, le))) now now' alike
-
-        one : IsIntervalAlike floor floor' (f (suc count + bound)) (f' (suc count + bound'))
-        one = are count (omega arith)
-
-        go : (b b' : Bool) → b ≡ b'
-            → IsWordAlike floor floor'
-            (if b then with_change (record { weight = (f (suc count + bound)).weight; node = node }) ((f (suc count + bound)).changed word)
-            (with_changes_of node f word since (count + bound) now) else with_changes_of node f word since (count + bound) now)
-            (if b' then with_change (record { weight = (f' (suc count + bound')).weight; node = node }) ((f' (suc count + bound')).changed word)
-            (with_changes_of node f' word since' (count + bound') now') else with_changes_of node f' word since' (count + bound') now')
-        go true true is =
-            change_alike (record { weight = (f (suc count + bound)).weight; node = node }) (record { weight = (f' (suc count + bound')).weight; node = node })
-            ((f (suc count + bound)).changed word) ((f' (suc count + bound')).changed word) (with_changes_of node f word since (count + bound) now)
-            (with_changes_of node f' word since' (count + bound') now') one.above one.shifted refl (one.changed word) earlier
-        go false false is = earlier
-        go true false is = let never : ⊥ = cc in absurd never
-        go false true is = let never : ⊥ = cc in absurd never
+        one_more count (are count (omega arith)) (with_changes_of node f word since (count + bound) now) (with_changes_of node f' word since' (count + bound') now')
+        (changes_alike count (λ j le. are j (omega (arith, le))) now now' alike)
 
   -- ---- the news of all nodes
 

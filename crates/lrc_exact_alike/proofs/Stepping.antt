@@ -81,10 +81,10 @@ module _ (shape : Shape) (floor floor' : List ℕ) (wide : length floor ≡ shap
       }
 
   module _ (node : ℕ) (state state' : State) (s : AreAlike state state') (lt : node < nodes) where
-    time : List ℕ
+    abbrev time : List ℕ
     time = state.knows.time
 
-    time' : List ℕ
+    abbrev time' : List ℕ
     time' = state'.knows.time
 
     own : entry (raised time node) node ≡ entry time node + 1
@@ -151,11 +151,11 @@ module _ (shape : Shape) (floor floor' : List ℕ) (wide : length floor ≡ shap
     old_one : (q j : ℕ) → suc j + entry floor q ≤ entry time q → (q == node && suc j + entry floor q == entry time node + 1) ≡ false
         → (q == node && suc j + entry floor' q == entry time' node + 1) ≡ false
         → IsIntervalAlike floor floor' (new q (suc j + entry floor q)) (new' q (suc j + entry floor' q))
-    old_one q j le no no' =
+    old_one q j le older older' =
         subst (λ (i : Interval). IsIntervalAlike floor floor' i (new' q (suc j + entry floor' q)))
-        (left (q == node && suc j + entry floor q == entry time node + 1) (open_interval state) (state.knows.interval q (suc j + entry floor q)) no)
+        (left (q == node && suc j + entry floor q == entry time node + 1) (open_interval state) (state.knows.interval q (suc j + entry floor q)) older)
         (subst (λ (i : Interval). IsIntervalAlike floor floor' (state.knows.interval q (suc j + entry floor q)) i)
-        (left (q == node && suc j + entry floor' q == entry time' node + 1) (open_interval state') (state'.knows.interval q (suc j + entry floor' q)) no')
+        (left (q == node && suc j + entry floor' q == entry time' node + 1) (open_interval state') (state'.knows.interval q (suc j + entry floor' q)) older')
         (s.knows.intervals q j le))
 
     intervals : (q j : ℕ) → suc j + entry floor q ≤ entry (raised time node) q

@@ -48,7 +48,7 @@ loop-preserved c =
     let acts = old.acts.items in
     let deed = c.in-Some.deed in
     let longer = c.deed.ensures.some deed c.in-Some.is in
-    let look = c.is_look.ensures c.if-is_look.false in
+    let look = c.is_look.ensures c.if-not-is_look.false in
     let exact = i.at.exact.exact in
     record {
       at = c.in_ok-make.ensures.at;
