@@ -1,6 +1,6 @@
 -- Runs that are met, and put to those that were met before, and outcomes that are gathered.
 use Rattle.std.proofs.Common.{◌≡◌, ℕ, zero, suc, ◌+◌, ◌<◌, ◌≤◌, List, [], ◌∷◌, ◌++◌, length, take, Bool, true, false, inl, inr, sym, subst, ◌∙◌, ap, arith}
-use Rattle.std.specs.Prelude.{Option, Some, None, if◌then◌else◌, slice_get}
+use Rattle.std.specs.Prelude.{Err, Ok, OnOk, Option, Result, Some, None, if◌then◌else◌, slice_get}
 use Rattle.std.specs.List.{IsDistinct}
 use Rattle.std.proofs.lemmas.Bool.{cases_eq, cases_lt}
 use Rattle.std.proofs.lemmas.List.{length-append, length_push, take-append-le}
@@ -18,6 +18,11 @@ use Rattle.lrc_exact_laws.specs.Laws.{IsExactRun}
 use Rattle.lrc_exact_search.specs.declared.search.Met.{Met}
 use Rattle.lrc_exact_search.specs.contracts.search.MetPartialEq.TheImpl.{eq-value}
 use Rattle.lrc_exact_search.specs.Searching.{acts_in, AreInOrder, AreRunsOf, AreSearched, GoesOn, further, parts, endless, IsEndedExactRun, IsMet, IsSearched, Parts}
+
+-- what follows where it is needed only after a success
+pub on_ok : {E A : Type 0} {P Q : Type 0} (r : Result A E) → (P → Q) → OnOk r P → OnOk r Q
+on_ok (Ok x) f p = f p
+on_ok (Err e) f p = p
 
 -- ---- runs
 

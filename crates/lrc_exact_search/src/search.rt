@@ -263,6 +263,7 @@ impl Searched {
 
     // Looks at a run: goes ahead, and meets the run that lies there, or those to which it parts. A run that goes on for
     // ever without other nodes has no outcome.
+    #[tactic(auto, using(crate::proofs::Complete::searched_endless, crate::proofs::Complete::searched_further, crate::proofs::Complete::searched_parts))]
     fn visit(&mut self, alloc: Global, task: &Task<'_>, place: usize) -> Result<(), AllocError>
         requires task { IsTask task.now }
         requires order { AreInOrder task.now.program.now (shape_of task.now.layout)
