@@ -21,8 +21,7 @@ use Rattle.lrc_races_notes.specs.declared.noter.Noter.{Noter}
 use Rattle.lrc_shell_sources.specs.Known.{Held, IsAtEnd, IsCause, IsReadOff}
 use Rattle.lrc_races_stream.specs.Heard.{HasTold, Hears, HearsAll, HearsTo, IsHearing, IsSomeHeard, IsWritten, KnowsAll, KnowsTo}
 use Rattle.lrc_races_stream.specs.Heard.{more, nothing}
-use Rattle.lrc_races_stream.specs.Locations.{most_lines}
-use Rattle.lrc_races_stream.specs.Reach.{AreFirst, IsSeeking, IsStop, all, past, some}
+use Rattle.lrc_races_stream.specs.Reach.{AreFirst, IsSeeking, IsStop, all, most_lines, past, some}
 use Rattle.lrc_races_stream.specs.declared.answer.Stop.TheVariants.{Faulted, Past}
 use Rattle.lrc_races_stream.specs.declared.hearing.Hearing.{Hearing}
 use Rattle.lrc_races_stream.specs.declared.outcome.Outcome.{Outcome}
@@ -32,14 +31,6 @@ use Rattle.lrc_races_stream.proofs.SeekerLemmas.{end_bad, ended_past, seeking_fi
 
 abbrev pub any_sought : Sought → Form → List (List ℕ) → Noter → Type 0
 any_sought sought = HasNoted
-
-pub on_true : {b : Bool} {P : Type 0} → OnTrue b P → b ≡ true → P
-on_true {b = true} p e = p
-on_true {b = false} p e = let never : ⊥ = cc in absurd never
-
-pub on_false : {b : Bool} {P : Type 0} → OnFalse b P → b ≡ false → P
-on_false {b = true} p e = let never : ⊥ = cc in absurd never
-on_false {b = false} p e = p
 
 -- ---- the lines that have come
 
@@ -144,6 +135,31 @@ end_told {hearing} true front ended told = λ form held left start h end.
       told_on told h.written,
     )
 end_told false front ended told = tt
+
+-- so many lines are known, and all is told of them
+pub taken_to : {hearing mid : Hearing} {now err' : Option (List ℕ)} (all : Bool) (block : List ℕ) (count : ℕ) → mid.told ≡ hearing.told
+    → ((form : Form) (held left after : Held) → IsSeeking HasNoted form most_lines held left hearing.front → IsReadOff left block after
+    → KnowsTo form held count mid.front.kept)
+    → OnTrue all ((form : Form) (held : Held) (start : Option (List ℕ)) → KnowsTo form held count mid.front.kept
+    → IsWritten start now (notes_of mid.told) → HearsTo form held start err' count)
+    → OnTrue all ((form : Form) (held left after : Held) (start : Option (List ℕ)) → IsHearing form held left start now hearing
+    → IsReadOff left block after → HearsTo form held start err' count)
+taken_to {now = now} true block count same knows tells = λ form held left after start h off.
+    tells form held start (knows form held left after h.seeking off)
+    (subst (λ (told : Noter). IsWritten start now (notes_of told)) (sym same) h.written)
+taken_to false block count same knows tells = tt
+
+pub ended_to : {hearing mid : Hearing} {now err' : Option (List ℕ)} (all : Bool) (count : ℕ) → mid.told ≡ hearing.told
+    → ((form : Form) (held left : Held) → IsSeeking HasNoted form most_lines held left hearing.front → IsAtEnd left
+    → KnowsTo form held count mid.front.kept)
+    → OnTrue all ((form : Form) (held : Held) (start : Option (List ℕ)) → KnowsTo form held count mid.front.kept
+    → IsWritten start now (notes_of mid.told) → HearsTo form held start err' count)
+    → OnTrue all ((form : Form) (held left : Held) (start : Option (List ℕ)) → IsHearing form held left start now hearing
+    → IsAtEnd left → HearsTo form held start err' count)
+ended_to {now = now} true count same knows tells = λ form held left start h end.
+    tells form held start (knows form held left h.seeking end)
+    (subst (λ (told : Noter). IsWritten start now (notes_of told)) (sym same) h.written)
+ended_to false count same knows tells = tt
 
 -- ---- before any byte
 

@@ -6,9 +6,8 @@ use Rattle.lrc_races_notes.specs.Notes.{AreNotes}
 use Rattle.lrc_races_notes.specs.declared.noter.Noter.{Noter}
 use Rattle.lrc_shell_sources.specs.Known.{Held}
 use Rattle.lrc_shell_sources.specs.Lines.{IsTold}
-use Rattle.lrc_races_stream.specs.Locations.{most_lines}
 use Rattle.lrc_races_stream.specs.Noted.{HaveCome, IsOf}
-use Rattle.lrc_races_stream.specs.Reach.{AreAll, IsSeeking}
+use Rattle.lrc_races_stream.specs.Reach.{AreAll, IsSeeking, most_lines}
 use Rattle.lrc_races_stream.specs.declared.hearing.Hearing.{Hearing}
 use Rattle.lrc_races_stream.specs.declared.outcome.Outcome.{Outcome}
 use Rattle.lrc_races_stream.specs.declared.outcome.Outcome.TheVariants.{Ended, BadEvent, IllFormed, NoMemory, Unread, Unwritten}

@@ -6,8 +6,7 @@ ghost use Rattle.lrc_races_text.specs.declared.form.Form.{Form as AnyForm};
 ghost use Rattle.lrc_races_notes.specs.Noter.{HasNoted, more_notes, notes_of};
 ghost use Rattle.lrc_shell_sources.specs.Known.{Held, IsAtEnd, IsReadOff};
 ghost use Rattle.lrc_races_stream.specs.Heard.{HasTold, HearsAll, HearsTo, IsHearing, IsWritten, KnowsTo};
-ghost use Rattle.lrc_races_stream.specs.Locations.{most_lines};
-ghost use Rattle.lrc_races_stream.specs.Reach.{IsSeeking};
+ghost use Rattle.lrc_races_stream.specs.Reach.{IsSeeking, most_lines};
 
 use lrc_races_front::front::Front;
 use lrc_races_notes::noter::Noter;

@@ -1,0 +1,14 @@
+-- The trace has ended, and all is told, or nothing is.
+use Rattle.std.proofs.Common.{Bool, subst}
+use Rattle.lrc_races_front.specs.Steps.{HasEnded}
+use Rattle.lrc_races_stream.proofs.HearingLemmas.{any_sought, end_told, untold}
+use Rattle.lrc_races_stream.proofs.hearing.Hearing.end.Goals as goal
+
+pub returns-in-Ok-false-clause-heard : goal.returns-in-Ok-false-clause-heard
+returns-in-Ok-false-clause-heard g c =
+    end_told c.tell.result c.end.new.self
+    (subst (λ (come : Bool). HasEnded any_sought c.args.self.now.front c.end.new.self come) c.in-Ok-false.field-0-test c.in-Ok-false.ensures.ok)
+    c.tell.ensures
+
+pub returns-in-Ok-false-clause-untold : goal.returns-in-Ok-false-clause-untold
+returns-in-Ok-false-clause-untold g c = untold c.tell.result c.tell.ensures
