@@ -1,9 +1,10 @@
 -- What is to be noted, block by block.
 use Rattle.std.proofs.Common.{◌≡◌, ◌∙◌, ℕ, ◌+◌, ◌<◌, ◌≤◌, ◌++◌, Bool, true, false, List, [], ◌∷◌, length, take, refl, subst, sym, arith, append_assoc, append-nil}
+use Rattle.std.proofs.lemmas.Bool.{OnTrue_from, leb-true, ltb-true}
 use Rattle.std.proofs.lemmas.List.{take_all}
 use Rattle.std.specs.declared.io.ErrorKind.{ErrorKind}
 use Rattle.std.specs.Bool.{OnFalse, OnTrue}
-use Rattle.std.specs.Prelude.{Option, flat_map}
+use Rattle.std.specs.Prelude.{Option, flat_map, nat_le, nat_lt}
 use Rattle.lrc_races_text.specs.Told.{IsCut, ended}
 use Rattle.lrc_races_text.specs.Session.{Text}
 use Rattle.lrc_races_text.specs.declared.asked.Sought.{Sought}
@@ -88,84 +89,113 @@ module _ (form : Form) (held left : Held) (before : Front Noter) (u : IsSeeking 
       stop_knows count line why (end_bad any_sought AllRaces form most_lines held left before u kept (faults.BadEvent line why) end
       (subst (λ (f : Fault). IsBadEnd any_sought before kept f) is fails)) few
 
+-- so many lines are known where a block is taken, or the trace ends
+abbrev pub KnowsTaken : Front Noter → List ℕ → ℕ → Noter → Type 0
+KnowsTaken before block count kept = (form : Form) (held left after : Held) → IsSeeking HasNoted form most_lines held left before
+    → IsReadOff left block after → KnowsTo form held count kept
+
+abbrev pub KnowsEnded : Front Noter → ℕ → Noter → Type 0
+KnowsEnded before count kept = (form : Form) (held left : Held) → IsSeeking HasNoted form most_lines held left before → IsAtEnd left
+    → KnowsTo form held count kept
+
+pub good_taken : (before front : Front Noter) (block : List ℕ) (count : ℕ) → HasGoneOn any_sought before block front false
+    → OnTrue (nat_le count front.lines) (KnowsTaken before block count front.kept)
+good_taken before front block count gone = OnTrue_from (nat_le count front.lines) (KnowsTaken before block count front.kept)
+    (λ many form held left after u off. takes_good form held left before u after front block count off gone (leb-true count front.lines many))
+
+pub bad_taken : (before : Front Noter) (kept : Noter) (fault : Fault) (line count : ℕ) (why : Text) (block : List ℕ) → fault ≡ faults.BadEvent line why
+    → IsStopped any_sought before block kept fault → OnTrue (nat_lt count line) (KnowsTaken before block count kept)
+bad_taken before kept fault line count why block is stops = OnTrue_from (nat_lt count line) (KnowsTaken before block count kept)
+    (λ few form held left after u off. takes_bad form held left before u after kept fault line count why block off is stops (ltb-true count line few))
+
+pub good_ended : (before front : Front Noter) (count : ℕ) → HasEnded any_sought before front false
+    → OnTrue (nat_le count front.lines) (KnowsEnded before count front.kept)
+good_ended before front count whole = OnTrue_from (nat_le count front.lines) (KnowsEnded before count front.kept)
+    (λ many form held left u end. ends_good form held left before u front count end whole (leb-true count front.lines many))
+
+pub bad_ended : (before : Front Noter) (kept : Noter) (fault : Fault) (line count : ℕ) (why : Text) → fault ≡ faults.BadEvent line why
+    → IsBadEnd any_sought before kept fault → OnTrue (nat_lt count line) (KnowsEnded before count kept)
+bad_ended before kept fault line count why is fails = OnTrue_from (nat_lt count line) (KnowsEnded before count kept)
+    (λ few form held left u end. ends_bad form held left before u kept fault line count why end is fails (ltb-true count line few))
+
 -- ---- what is told more
 
-told_on : {noter : Noter} {before after : Hearing} {start err err' : Option (List ℕ)} → HasTold noter before after err err' true
+told_on : (noter : Noter) (before after : Hearing) (start err err' : Option (List ℕ)) → HasTold noter before after err err' true
     → IsWritten start err (notes_of before.told) → IsWritten start err' (notes_of noter)
-told_on {start = start} {err' = err'} told w = subst (IsWritten start err') (sym told.1) (more told.0 w told.2)
+told_on noter before after start err err' told w = subst (IsWritten start err') (sym told.1) (more told.0 w told.2)
 
-pub untold : {noter : Noter} {before after : Hearing} {err err' : Option (List ℕ)} (all : Bool) → HasTold noter before after err err' all
+pub untold : (noter : Noter) (before after : Hearing) (err err' : Option (List ℕ)) (all : Bool) → HasTold noter before after err err' all
     → OnFalse all (err' ≡ err)
-untold true told = tt
-untold false told = told
+untold noter before after err err' true told = tt
+untold noter before after err err' false told = told
 
-pub told_to : {part : Noter} {before after : Hearing} {err err' : Option (List ℕ)} (all : Bool) (count : ℕ) (kept : Noter) → NotesUpTo count kept part
+pub told_to : (part : Noter) (before after : Hearing) (err err' : Option (List ℕ)) (all : Bool) (count : ℕ) (kept : Noter) → NotesUpTo count kept part
     → HasTold part before after err err' all
     → OnTrue all ((form : Form) (held : Held) (start : Option (List ℕ)) → KnowsTo form held count kept
     → IsWritten start err (notes_of before.told) → HearsTo form held start err' count)
-told_to {part} true count kept upto told = λ form held start k w. (
+told_to part before after err err' true count kept upto told = λ form held start k w. (
   notes_of part,
   record { lines = k.lines; first = k.first; meant = k.meant; so = notes_are form (take count k.lines) part (upto form k.lines k.so) },
-  told_on told w,
+  told_on part before after start err err' told w,
 )
-told_to false count kept upto told = tt
+told_to part before after err err' false count kept upto told = tt
 
 -- a block is taken, and all is told
-pub take_told : {hearing next : Hearing} {now err' : Option (List ℕ)} (all : Bool) (front : Front Noter) (block : List ℕ)
+pub take_told : (hearing next : Hearing) (now err' : Option (List ℕ)) (all : Bool) (front : Front Noter) (block : List ℕ)
     → HasGoneOn any_sought hearing.front block front false → HasTold front.kept (record hearing { front = front }) next now err' all
     → OnTrue all ((form : Form) (held left after : Held) (start : Option (List ℕ)) → IsHearing form held left start now hearing
     → IsReadOff left block after → IsHearing form held after start err' next)
-take_told {hearing} {err' = err'} true front block gone told = λ form held left after start h off.
+take_told hearing next now err' true front block gone told = λ form held left after start h off.
     let u = goes_on form held left hearing.front h.seeking after front block off gone in
     let whole : IsHearing form held after start err' (record { front = front; told = front.kept }) =
-    record { seeking = u; written = told_on told h.written; noted = notes_are form u.has_read.lines front.kept u.has_read.at.kept } in
+    record { seeking = u; written = told_on front.kept (record hearing { front = front }) next start now err' told h.written; noted = notes_are form u.has_read.lines front.kept u.has_read.at.kept } in
     subst (λ (n : Hearing). IsHearing form held after start err' n) (sym told.3) whole
-take_told false front block gone told = tt
+take_told hearing next now err' false front block gone told = tt
 
 -- or the last line
-pub end_told : {hearing next : Hearing} {now err' : Option (List ℕ)} (all : Bool) (front : Front Noter)
+pub end_told : (hearing next : Hearing) (now err' : Option (List ℕ)) (all : Bool) (front : Front Noter)
     → HasEnded any_sought hearing.front front false → HasTold front.kept (record hearing { front = front }) next now err' all
     → OnTrue all ((form : Form) (held left : Held) (start : Option (List ℕ)) → IsHearing form held left start now hearing
     → IsAtEnd left → HearsAll form held start err')
-end_told {hearing} true front ended told = λ form held left start h end.
-    let k = ends_all form held left hearing.front h.seeking front end ended in
+end_told hearing next now err' true front whole told = λ form held left start h end.
+    let k = ends_all form held left hearing.front h.seeking front end whole in
     (
       notes_of front.kept,
       record { lines = k.lines; first = k.first; meant = k.meant; so = notes_are form k.lines front.kept k.so },
-      told_on told h.written,
+      told_on front.kept (record hearing { front = front }) next start now err' told h.written,
     )
-end_told false front ended told = tt
+end_told hearing next now err' false front whole told = tt
 
 -- so many lines are known, and all is told of them
-pub taken_to : {hearing mid : Hearing} {now err' : Option (List ℕ)} (all : Bool) (block : List ℕ) (count : ℕ) → mid.told ≡ hearing.told
+pub taken_to : (hearing mid : Hearing) (now err' : Option (List ℕ)) (all : Bool) (block : List ℕ) (count : ℕ) → mid.told ≡ hearing.told
     → ((form : Form) (held left after : Held) → IsSeeking HasNoted form most_lines held left hearing.front → IsReadOff left block after
     → KnowsTo form held count mid.front.kept)
     → OnTrue all ((form : Form) (held : Held) (start : Option (List ℕ)) → KnowsTo form held count mid.front.kept
     → IsWritten start now (notes_of mid.told) → HearsTo form held start err' count)
     → OnTrue all ((form : Form) (held left after : Held) (start : Option (List ℕ)) → IsHearing form held left start now hearing
     → IsReadOff left block after → HearsTo form held start err' count)
-taken_to {now = now} true block count same knows tells = λ form held left after start h off.
+taken_to hearing mid now err' true block count same knows tells = λ form held left after start h off.
     tells form held start (knows form held left after h.seeking off)
     (subst (λ (told : Noter). IsWritten start now (notes_of told)) (sym same) h.written)
-taken_to false block count same knows tells = tt
+taken_to hearing mid now err' false block count same knows tells = tt
 
-pub ended_to : {hearing mid : Hearing} {now err' : Option (List ℕ)} (all : Bool) (count : ℕ) → mid.told ≡ hearing.told
+pub ended_to : (hearing mid : Hearing) (now err' : Option (List ℕ)) (all : Bool) (count : ℕ) → mid.told ≡ hearing.told
     → ((form : Form) (held left : Held) → IsSeeking HasNoted form most_lines held left hearing.front → IsAtEnd left
     → KnowsTo form held count mid.front.kept)
     → OnTrue all ((form : Form) (held : Held) (start : Option (List ℕ)) → KnowsTo form held count mid.front.kept
     → IsWritten start now (notes_of mid.told) → HearsTo form held start err' count)
     → OnTrue all ((form : Form) (held left : Held) (start : Option (List ℕ)) → IsHearing form held left start now hearing
     → IsAtEnd left → HearsTo form held start err' count)
-ended_to {now = now} true count same knows tells = λ form held left start h end.
+ended_to hearing mid now err' true count same knows tells = λ form held left start h end.
     tells form held start (knows form held left h.seeking end)
     (subst (λ (told : Noter). IsWritten start now (notes_of told)) (sym same) h.written)
-ended_to false count same knows tells = tt
+ended_to hearing mid now err' false count same knows tells = tt
 
 -- ---- before any byte
 
-no_line : (x more : List ℕ) → [] ≡ (x ++ 10 ∷ []) ++ more → ⊥
-no_line [] more e = cc
-no_line (y ∷ ys) more e = cc
+no_line : (x rest : List ℕ) → [] ≡ (x ++ 10 ∷ []) ++ rest → ⊥
+no_line [] rest e = cc
+no_line (y ∷ ys) rest e = cc
 
 cut_none : {lines : List (List ℕ)} {rest : List ℕ} → IsCut [] lines rest → lines ≡ []
 cut_none {lines = []} c = refl

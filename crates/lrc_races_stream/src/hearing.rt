@@ -82,13 +82,11 @@ impl Hearing {
             → IsHearing form held after start (E.contents err.new) self.new) }
         ensures untold { OnFalse result (E.contents err.new ≡ E.contents err.old) }
     {
-        match self.front.take(block) {
-            Ok(false) => {
-                let noter = self.front.kept;
-                self.tell(alloc, noter, err)
-            }
-            _ => false,
-        }
+        let noter = match self.front.take(block) {
+            Ok(false) => self.front.kept,
+            _ => return false,
+        };
+        self.tell(alloc, noter, err)
     }
 
     // Takes a block, and returns whether so many lines are known then.
@@ -135,13 +133,11 @@ impl Hearing {
             → HearsAll form held start (E.contents err.new)) }
         ensures untold { OnFalse result (E.contents err.new ≡ E.contents err.old) }
     {
-        match self.front.end() {
-            Ok(false) => {
-                let noter = self.front.kept;
-                self.tell(alloc, noter, err)
-            }
-            _ => false,
-        }
+        let noter = match self.front.end() {
+            Ok(false) => self.front.kept,
+            _ => return false,
+        };
+        self.tell(alloc, noter, err)
     }
 
     // Ends the trace, and returns whether so many lines are known then.
