@@ -28,7 +28,8 @@ use Rattle.lrc_races_stream.specs.declared.hearing.Hearing.{Hearing}
 use Rattle.lrc_races_stream.specs.declared.outcome.Outcome.{Outcome}
 use Rattle.lrc_races_stream.specs.declared.outcome.Outcome.TheVariants.{NoMemory, Unread, Unwritten}
 use Rattle.lrc_races_stream.proofs.Reached.{reached}
-use Rattle.lrc_races_stream.proofs.SeekerLemmas.{end_bad, ended_past, seeking_first, stopped_at, taken}
+use Rattle.lrc_races_stream.proofs.SeekerLemmas.{end_bad, ended_past, stopped_at, taken}
+use Rattle.lrc_races_stream.proofs.TellerLemmas.{nothing_read}
 
 abbrev pub any_sought : Sought → Form → List (List ℕ) → Noter → Type 0
 any_sought sought = HasNoted
@@ -158,8 +159,7 @@ pub end_told : (hearing next : Hearing) (now err' : Option (List ℕ)) (all : Bo
     → OnTrue all ((form : Form) (held left : Held) (start : Option (List ℕ)) → IsHearing form held left start now hearing
     → IsAtEnd left → HearsAll form held start err')
 end_told hearing next now err' true front whole told = λ form held left start h end.
-    let k = ends_all form held left hearing.front h.seeking front end whole in
-    (
+    let k = ends_all form held left hearing.front h.seeking front end whole in (
       notes_of front.kept,
       record { lines = k.lines; first = k.first; meant = k.meant; so = notes_are form k.lines front.kept k.so },
       told_on front.kept (record hearing { front = front }) next start now err' told h.written,
@@ -205,7 +205,7 @@ pub hears_first : (form : Form) (held : Held) (start : Option (List ℕ)) (heari
     → HasRead HasNoted form most_lines [] hearing.front → HasNoted form [] hearing.told → notes_of hearing.told ≡ []
     → IsHearing form held held start start hearing
 hears_first form held start hearing read none empty = record {
-  seeking = seeking_first HasNoted form most_lines held hearing.front read;
+  seeking = record { bytes = []; read = nothing_read held; has_read = read };
   written = subst (IsWritten start start) (sym empty) nothing;
   noted = subst (λ ls. AreNotes form ls (notes_of hearing.told)) (sym (cut_none read.cut)) (notes_are form [] hearing.told none);
 }
@@ -231,8 +231,7 @@ module _ {form : Form} {held left : Held} {start now : Option (List ℕ)} {heari
   pub heard_unread : (kind : ErrorKind) → IsCause left kind → Hears form held start now (Unread kind)
   heard_unread kind cause =
       let u = h.seeking in
-      let r = u.has_read in
-      (
+      let r = u.has_read in (
         notes_of hearing.told,
         record {
           lines = r.lines;

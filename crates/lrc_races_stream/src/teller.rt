@@ -156,7 +156,10 @@ impl Teller {
                 }
             }
             Err(Halt::BadEvent(line, why)) => {
-                if !self.hearing.take_to(alloc, block, line.saturating_sub(1), err) {
+                if !self
+                    .hearing
+                    .take_to(alloc, block, line.saturating_sub(1), err)
+                {
                     return Some(Outcome::NoMemory);
                 }
                 match write(&self.told, out) {
