@@ -3,6 +3,7 @@ use Rattle.std.specs.Prelude.{◌≡◌, ◌≢◌, ℕ, ◌+◌, ◌<◌, ◌�
 use Rattle.lrc_races_detector.specs.declared.barriers.Barrier.{Barrier}
 use Rattle.lrc_races_detector.specs.declared.clocks.Clocks.{Clocks}
 use Rattle.lrc_races_detector.specs.Clocks.{row}
+use Rattle.lrc_races_detector.specs.Vectors.{held}
 
 -- the number of the open cycle; of a barrier that is not kept it is the first
 abbrev pub current_of : Option Barrier → ℕ
@@ -21,7 +22,7 @@ cycle_of None thread = None
 
 -- what the arrives of the open cycle know
 abbrev pub open_of : Option Barrier → List ℕ
-open_of (Some barrier) = barrier.arrived.items
+open_of (Some barrier) = held barrier.arrived
 open_of None = []
 
 -- what those of a thread's cycle know, where it is closed

@@ -1,9 +1,10 @@
 // The cycles of barriers, and what the arrives of the open ones know, and of those that threads still depart from.
 ghost use Rattle.std.specs.Prelude.{◌≡◌, ◌≢◌, ℕ, ◌+◌, ◌^◌, ◌<◌, ◌↔◌, [], IsTrue, OnOk, Option, length, slice_get, vec_len};
 ghost use Rattle.lrc_races_detector.specs.Barriers.{SameBarrier, IsArrived, IsClosed, IsDeparted, IsSet, IsKeptBelow, current_of, cycle_of, known_of, cycle_at};
+ghost use Rattle.lrc_races_detector.specs.Vectors.{entries};
 
 use crate::clocks::Clocks;
-use crate::vectors::join;
+use crate::vectors::{Known, Vector};
 use std::alloc::{AllocError, Global};
 
 /// One barrier. Its memory grows with its threads, and not with its cycles.
@@ -12,7 +13,7 @@ pub struct Barrier {
     /// The number of the open cycle.
     pub current: usize,
     /// What the arrives of the open cycle know.
-    pub arrived: Vec<u64>,
+    pub arrived: Vector,
     /// For each thread, the cycle of its last arrive.
     pub of: Vec<Option<usize>>,
     /// For each thread, what the arrives of that cycle know, if the cycle is closed.
@@ -44,10 +45,10 @@ fn keep(
     closed: &mut Clocks,
     of: &[Option<usize>],
     current: usize,
-    known: &[u64],
+    known: Known<'_>,
 ) -> Result<(), AllocError>
     ensures { OnOk result (IsKeptBelow
-        (length of.now) closed.old closed.new of.now current known.now) }
+        (length of.now) closed.old closed.new of.now current (entries known.entry)) }
 {
     for (thread, cycle) in of.iter().enumerate() {
         if is_of(*cycle, current) {
@@ -64,34 +65,34 @@ impl Barrier {
     {
         Barrier {
             current: 0,
-            arrived: Vec::new(alloc),
+            arrived: Vector::new(alloc),
             of: Vec::new(alloc),
             closed: Clocks::new(alloc),
         }
     }
 
     /// Returns what a depart of the thread learns.
-    pub fn known(&self, thread: usize) -> &[u64]
-        ensures { result.now ≡ known_of (Option.Some self.now) thread }
+    pub fn known(&self, thread: usize) -> Known<'_>
+        ensures { entries result ≡ known_of (Option.Some self.now) thread }
     {
         match self.of.get(thread) {
             Some(Some(cycle)) => {
                 if *cycle == self.current {
-                    self.arrived.as_slice()
+                    self.arrived.known()
                 } else {
                     self.closed.row(thread)
                 }
             }
-            _ => &[],
+            _ => Known::nothing(),
         }
     }
 
     /// Records that a thread with this knowledge arrives. It fails if memory runs out.
-    pub fn arrive(&mut self, thread: usize, known: &[u64]) -> Result<(), AllocError>
+    pub fn arrive(&mut self, thread: usize, known: Known<'_>) -> Result<(), AllocError>
         ensures { OnOk result (IsArrived (Option.Some self.old)
-            (Option.Some self.new) thread known.now) }
+            (Option.Some self.new) thread (entries known.entry)) }
     {
-        join(&mut self.arrived, known)?;
+        self.arrived.join(known)?;
         set_cycle(&mut self.of, thread, self.current)?;
         Ok(())
     }
@@ -105,9 +106,9 @@ impl Barrier {
             &mut self.closed,
             self.of.as_slice(),
             self.current,
-            self.arrived.as_slice(),
+            self.arrived.known(),
         )?;
-        self.arrived.clear();
+        self.arrived = Vector::new(*self.of.allocator());
         self.current = self.current.saturating_add(1);
         Ok(())
     }
@@ -146,12 +147,12 @@ impl Barriers {
     }
 
     /// Returns what a depart of the thread at the barrier learns.
-    pub fn known(&self, barrier: usize, thread: usize) -> &[u64]
-        ensures { result.now ≡ known_of (slice_get self.now.barriers.items barrier) thread }
+    pub fn known(&self, barrier: usize, thread: usize) -> Known<'_>
+        ensures { entries result ≡ known_of (slice_get self.now.barriers.items barrier) thread }
     {
         match self.barriers.get(barrier) {
             Some(barrier) => barrier.known(thread),
-            None => &[],
+            None => Known::nothing(),
         }
     }
 
@@ -169,9 +170,14 @@ impl Barriers {
     }
 
     /// Records that a thread with this knowledge arrives at the barrier. It fails if memory runs out.
-    pub fn arrive(&mut self, barrier: usize, thread: usize, known: &[u64]) -> Result<(), AllocError>
+    pub fn arrive(
+        &mut self,
+        barrier: usize,
+        thread: usize,
+        known: Known<'_>,
+    ) -> Result<(), AllocError>
         ensures here { OnOk result (IsArrived (slice_get self.old.barriers.items barrier)
-            (slice_get self.new.barriers.items barrier) thread known.now) }
+            (slice_get self.new.barriers.items barrier) thread (entries known.entry)) }
         ensures others { OnOk result ((other : ℕ) → other ≢ barrier
             → SameBarrier (slice_get self.new.barriers.items other)
             (slice_get self.old.barriers.items other)) }

@@ -19,5 +19,5 @@ mod held;
 mod threads;
 pub mod trace;
 pub mod variables;
-mod vectors;
+pub mod vectors;
 mod waits;

@@ -1,7 +1,9 @@
 // The last accesses of variables.
 ghost use Rattle.std.specs.Prelude.{◌≡◌, ◌≢◌, ℕ, ◌<◌, ◌≤◌, [], ◌++◌, OnOk, length};
 ghost use Rattle.lrc_races_detector.specs.Variables.{lasts_of, noted, told_one, told_below, IsAscending, IsNoted, IsRowNoted, IsPlace};
+ghost use Rattle.lrc_races_detector.specs.Vectors.{entries};
 
+use crate::vectors::Known;
 use lrc_races_trace::event::{Pair, Placed};
 use std::alloc::{AllocError, Global};
 
@@ -13,8 +15,8 @@ pub struct Last {
 }
 
 // The pair of an access with the last one of a thread, where that thread is another and the access does not know of it.
-fn told_one(last: &Last, known: &[u64], later: Placed, is_write: bool) -> Option<Pair>
-    ensures { result ≡ told_one last.now known.now later is_write }
+fn told_one(last: &Last, known: Known<'_>, later: Placed, is_write: bool) -> Option<Pair>
+    ensures { result ≡ told_one last.now (entries known.entry) later is_write }
 {
     let thread = last.access.event.thread;
     if thread == later.event.thread {
@@ -26,11 +28,7 @@ fn told_one(last: &Last, known: &[u64], later: Placed, is_write: bool) -> Option
         last.write
     };
     let earlier = found?;
-    let known_there = match known.get(thread as usize) {
-        Some(value) => *value,
-        None => 0,
-    };
-    if earlier.position < known_there {
+    if earlier.position < known.of(thread) {
         return None;
     }
     Some(Pair { earlier, later })
@@ -40,13 +38,13 @@ fn told_one(last: &Last, known: &[u64], later: Placed, is_write: bool) -> Option
 /// knows. It fails if memory runs out.
 pub fn tell(
     lasts: &[Last],
-    known: &[u64],
+    known: Known<'_>,
     later: Placed,
     is_write: bool,
     told: &mut Vec<Pair>,
 ) -> Result<(), AllocError>
     ensures { OnOk result (told.new.items
-        ≡ told.old.items ++ told_below lasts.now known.now later is_write (length lasts.now)) }
+        ≡ told.old.items ++ told_below lasts.now (entries known.entry) later is_write (length lasts.now)) }
 {
     for last in lasts {
         if let Some(pair) = told_one(last, known, later, is_write) {

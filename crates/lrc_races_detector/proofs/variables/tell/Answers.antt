@@ -4,13 +4,14 @@ use Rattle.std.specs.Prelude.{option_to_list}
 use Rattle.std.proofs.lemmas.List.{append-nil}
 use Rattle.lrc_races_detector.specs.Variables.{told_below}
 use Rattle.lrc_races_detector.proofs.Telling.{told-next}
+use Rattle.lrc_races_detector.specs.Vectors.{entries}
 use Rattle.lrc_races_detector.proofs.variables.tell.Goals as goal
 use Rattle.lrc_races_detector.proofs.variables.tell.Goals.{in-Some+in_ok-push, in_default}
 
 pub loop-last-preserved : goal.loop-last-preserved
 loop-last-preserved c =
-    let before = told_below c.args.lasts.now c.args.known.now c.args.later c.args.is_write c.loop-last.last-index in
-    let next = told-next c.args.lasts.now c.args.known.now c.args.later c.args.is_write c.loop-last.last-index _ c.told_one.result c.loop-last-test.true c.told_one.ensures in
+    let before = told_below c.args.lasts.now (entries c.args.known) c.args.later c.args.is_write c.loop-last.last-index in
+    let next = told-next c.args.lasts.now (entries c.args.known) c.args.later c.args.is_write c.loop-last.last-index _ c.told_one.result c.loop-last-test.true c.told_one.ensures in
     elim c.match-told_one.branch [
       | in-Some+in_ok-push w ↦
           let one = ap (λ o. before ++ option_to_list o) w.in-Some.is in
