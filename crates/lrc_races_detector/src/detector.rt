@@ -11,7 +11,7 @@ ghost use Rattle.lrc_races_detector.specs.Vectors.{entries};
 
 use crate::barriers::Barriers;
 use crate::clocks::Clocks;
-use crate::variables::{Variables, tell};
+use crate::variables::Variables;
 use crate::vectors::Known;
 use lrc_races_trace::event::{Event, Operation, Pair, Placed};
 use std::alloc::{AllocError, Global};
@@ -125,7 +125,7 @@ pub fn access(
         (length (lasts_of variables.old variable))) }
     ensures noted { OnOk result (IsNoted variables.old variables.new variable placed is_write) }
 {
-    tell(variables.lasts(variable), known, placed, is_write, told)?;
+    variables.tell(variable, known, placed, is_write, told)?;
     variables.note(variable, placed, is_write)?;
     Ok(())
 }

@@ -10,6 +10,7 @@
 //! `waits` the threads that wait at a barrier, and `threads` those that were joined and those that are known.
 #![tactic(auto)]
 
+pub mod accesses;
 pub mod barriers;
 pub mod clocks;
 pub mod detector;

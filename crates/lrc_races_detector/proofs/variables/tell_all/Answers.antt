@@ -5,8 +5,8 @@ use Rattle.std.proofs.lemmas.List.{append-nil}
 use Rattle.lrc_races_detector.specs.Variables.{told_below}
 use Rattle.lrc_races_detector.proofs.Telling.{told-next}
 use Rattle.lrc_races_detector.specs.Vectors.{entries}
-use Rattle.lrc_races_detector.proofs.variables.tell.Goals as goal
-use Rattle.lrc_races_detector.proofs.variables.tell.Goals.{in-Some+in_ok-push, in_default}
+use Rattle.lrc_races_detector.proofs.variables.tell_all.Goals as goal
+use Rattle.lrc_races_detector.proofs.variables.tell_all.Goals.{in-Some+in_ok-push, in_default}
 
 pub loop-last-preserved : goal.loop-last-preserved
 loop-last-preserved c =
