@@ -42,6 +42,14 @@ past_equal events j x z same h = record {
       (λ lt. was.0 (omega arith), λ reaches. let lt = was.1 reaches in omega arith);
 }
 
+pub way_equal : (events : List Event) (j : ℕ) (x z : List ℕ) → ((t : ℕ) → slice_index z t ≡ slice_index x t) → IsWay events j x → IsWay events j z
+way_equal events j x z same h = record {
+  exact = λ p a at.
+      let e = same a.thread in
+      let was = h.exact p a at in
+      (λ lt. was.0 (omega arith), λ through. let lt = was.1 through in omega arith);
+}
+
 -- what is known of the events that come right before one is by way of which events it was reached
 module _ (events : List Event) (j : ℕ) where
   pub way : (known : List ℕ) → GathersSurely events (λ k. Precedes events k j) known → IsWay events j known
