@@ -124,14 +124,18 @@ settled_own o e xs thread is same other ne =
     subst (λ (a : Option Entry). slice_index xs other ≡ slice_index (with_apart a xs) other) (sym is)
     (sym (raised_other e.thread e.value xs other (λ at. ne (at ∙ same))))
 
-pub settled_other : (o : Option Entry) (e : Entry) (xs ys : List ℕ) → o ≡ Some e → IsRaised xs ys e.thread e.value
+pub laid_among : (o : Option Entry) (e : Entry) (xs ys : List ℕ) → o ≡ Some e → IsRaised xs ys e.thread e.value
     → (other : ℕ) → slice_index ys other ≡ slice_index (with_apart o xs) other
-settled_other o e xs ys is r other =
+laid_among o e xs ys is r other =
     subst (λ (a : Option Entry). slice_index ys other ≡ slice_index (with_apart a xs) other) (sym is) (elim (cases_eq other e.thread) [
       | inl same ↦
           subst (λ t. slice_index ys t ≡ slice_index (raised_at e.thread e.value xs) t) (sym same) (r.here ∙ sym (raised_here e.thread e.value xs))
       | inr apart ↦ r.others other apart ∙ sym (raised_other e.thread e.value xs other apart)
     ])
+
+pub settled_other : (o : Option Entry) (e : Entry) (xs ys : List ℕ) (thread : ℕ) → o ≡ Some e → IsRaised xs ys e.thread e.value
+    → (other : ℕ) → other ≢ thread → slice_index ys other ≡ slice_index (with_apart o xs) other
+settled_other o e xs ys thread is r other ne = laid_among o e xs ys is r other
 
 pub settled_none : (o : Option Entry) (xs : List ℕ) → o ≡ None → (other : ℕ) → slice_index xs other ≡ slice_index (with_apart o xs) other
 settled_none o xs is other = sym (ap (λ (a : Option Entry). slice_index (with_apart a xs) other) is)
