@@ -1,11 +1,12 @@
 // The cycles of barriers, and what the arrives of the open ones know, and of those that threads still depart from.
 ghost use Rattle.std.specs.Prelude.{◌≡◌, ◌≢◌, ℕ, ◌+◌, ◌^◌, ◌<◌, ◌↔◌, [], IsTrue, OnOk, Option, length, slice_get, vec_len};
-ghost use Rattle.lrc_races_detector.specs.Barriers.{SameBarrier, IsArrived, IsClosed, IsDeparted, IsSet, IsKeptBelow, current_of, cycle_of, known_of, cycle_at};
-ghost use Rattle.lrc_races_detector.specs.Vectors.{entries};
+ghost use Rattle.lrc_races_detector.specs.Barriers.{SameBarrier, IsArrived, IsClosed, IsDeparted, IsSet, IsShared, IsKeptBelow, current_of, cycle_of, known_of, cycle_at, shared_at};
+ghost use Rattle.lrc_races_detector.specs.Vectors.{entries, held};
 
-use crate::clocks::Clocks;
 use crate::vectors::{Known, Vector};
 use std::alloc::{AllocError, Global};
+use std::mem::replace;
+use std::rc::Rc;
 
 /// One barrier. Its memory grows with its threads, and not with its cycles.
 #[derive(Drop)]
@@ -16,8 +17,8 @@ pub struct Barrier {
     pub arrived: Vector,
     /// For each thread, the cycle of its last arrive.
     pub of: Vec<Option<usize>>,
-    /// For each thread, what the arrives of that cycle know, if the cycle is closed.
-    pub closed: Clocks,
+    /// For each thread, what the arrives of that cycle know, if the cycle is closed. The threads of a cycle share it.
+    pub closed: Vec<Option<Rc<Vector>>>,
 }
 
 // Sets the cycle of a thread.
@@ -40,22 +41,47 @@ fn is_of(cycle: Option<usize>, current: usize) -> bool
     }
 }
 
-// Keeps for each thread of the open cycle what the arrives of that cycle know.
+// Shares with a thread what is known of its cycle.
+fn share(
+    closed: &mut Vec<Option<Rc<Vector>>>,
+    thread: usize,
+    known: &Rc<Vector>,
+) -> Result<(), AllocError>
+    ensures { OnOk result (IsShared closed.old.items closed.new.items thread (held known.now.value)) }
+{
+    while closed.len() <= thread {
+        closed.push(None)?;
+    }
+    closed[thread] = Some(known.clone()?);
+    Ok(())
+}
+
+// Shares with each thread of the open cycle what the arrives of that cycle know.
 fn keep(
-    closed: &mut Clocks,
+    closed: &mut Vec<Option<Rc<Vector>>>,
     of: &[Option<usize>],
     current: usize,
-    known: Known<'_>,
+    known: &Rc<Vector>,
 ) -> Result<(), AllocError>
     ensures { OnOk result (IsKeptBelow
-        (length of.now) closed.old closed.new of.now current (entries known.entry)) }
+        (length of.now) closed.old.items closed.new.items of.now current (held known.now.value)) }
 {
     for (thread, cycle) in of.iter().enumerate() {
         if is_of(*cycle, current) {
-            closed.set(thread, known)?;
+            share(closed, thread, known)?;
         }
     }
     Ok(())
+}
+
+// What a thread shares.
+fn shared(closed: &[Option<Rc<Vector>>], thread: usize) -> Known<'_>
+    ensures { entries result ≡ shared_at (slice_get closed.now thread) }
+{
+    match closed.get(thread) {
+        Some(Some(known)) => known.as_ref().known(),
+        _ => Known::nothing(),
+    }
 }
 
 impl Barrier {
@@ -67,7 +93,7 @@ impl Barrier {
             current: 0,
             arrived: Vector::new(alloc),
             of: Vec::new(alloc),
-            closed: Clocks::new(alloc),
+            closed: Vec::new(alloc),
         }
     }
 
@@ -80,7 +106,7 @@ impl Barrier {
                 if *cycle == self.current {
                     self.arrived.known()
                 } else {
-                    self.closed.row(thread)
+                    shared(&self.closed, thread)
                 }
             }
             _ => Known::nothing(),
@@ -102,13 +128,15 @@ impl Barrier {
         ensures { OnOk result (self.old.current + 1 < 2 ^ 64
             → IsClosed (Option.Some self.old) (Option.Some self.new)) }
     {
+        let alloc = *self.of.allocator();
+        let arrived = replace(&mut self.arrived, Vector::new(alloc));
+        let known = Rc::new(alloc, arrived)?;
         keep(
             &mut self.closed,
             self.of.as_slice(),
             self.current,
-            self.arrived.known(),
+            &known,
         )?;
-        self.arrived = Vector::new(*self.of.allocator());
         self.current = self.current.saturating_add(1);
         Ok(())
     }
