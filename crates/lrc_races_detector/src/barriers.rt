@@ -131,12 +131,7 @@ impl Barrier {
         let alloc = *self.of.allocator();
         let arrived = replace(&mut self.arrived, Vector::new(alloc));
         let known = Rc::new(alloc, arrived)?;
-        keep(
-            &mut self.closed,
-            self.of.as_slice(),
-            self.current,
-            &known,
-        )?;
+        keep(&mut self.closed, self.of.as_slice(), self.current, &known)?;
         self.current = self.current.saturating_add(1);
         Ok(())
     }
