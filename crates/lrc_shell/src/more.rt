@@ -1,6 +1,6 @@
 // What says more behind the line of a fault, where standard error is a terminal.
 
-ghost use Rattle.std.specs.Prelude.{◌≡◌, ℕ, IfOk, option_map};
+ghost use Rattle.std.specs.Prelude.{◌≡◌, ℕ, IfOk, option_map, true};
 ghost use Rattle.lrc_cli.specs.Answer.{IsLinted};
 ghost use Rattle.lrc_cli_args.specs.Files.{is_on_threads, starts_threads};
 ghost use Rattle.lrc_text.specs.Parts.{whole_text};

@@ -30,9 +30,10 @@ pub(crate) fn trace_racing<F: Sources, W: Write, E: Write>(
         (E.contents err.new) }
 {
     let note = Cell::new(None);
+    let report: Option<&str> = None;
     let noting = Noting {
         sources,
-        report: None,
+        report,
         note: &note,
     };
     let status = tell_racing(alloc, racing, &noting, out, err);
@@ -61,9 +62,10 @@ pub(crate) fn trace_witness<F: Sources, W: Write, E: Write>(
         (E.contents err.new) }
 {
     let note = Cell::new(None);
+    let report: Option<&str> = None;
     let noting = Noting {
         sources,
-        report: None,
+        report,
         note: &note,
     };
     let status = tell_witness(alloc, witnessing, &noting, out, err);
@@ -92,9 +94,10 @@ pub(crate) fn trace_reasons<F: Sources, W: Write, E: Write>(
         (E.contents err.new) }
 {
     let note = Cell::new(None);
+    let report: Option<&str> = None;
     let noting = Noting {
         sources,
-        report: None,
+        report,
         note: &note,
     };
     let status = tell_reasons(alloc, reasoning, &noting, out, err);
