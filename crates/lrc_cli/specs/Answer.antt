@@ -6,8 +6,8 @@ use Rattle.lrc_exec.specs.Rounds.{AreActsOfRounds}
 use Rattle.lrc_lang.specs.declared.program.Program.{Program}
 use Rattle.lrc_trace.specs.declared.act.Act.{Act}
 use Rattle.lrc_text.specs.Parts.{whole_text}
-use Rattle.lrc_explore.specs.Answers.{FitsSettled, FitsSettledNoted, MetTooMany}
-use Rattle.lrc_explore_text.specs.Explored.{Explores, MeetsFew, MeetsTooMany}
+use Rattle.lrc_explore.specs.Answers.{FitsSettled, MetTooMany}
+use Rattle.lrc_explore_text.specs.Explored.{Explores, MeetsTooMany}
 use Rattle.lrc_explore_text.specs.Ends.{TellsEnds}
 use Rattle.lrc_explore_text.specs.Orders.{TellsFindings}
 use Rattle.lrc_explore_text.specs.OutcomeRun.{HasFewerOutcomes, TellsNumberedRun}
@@ -19,7 +19,7 @@ use Rattle.lrc_judge_text.specs.PairsTold.{HasItsRaces, told_text}
 use Rattle.lrc_judge_text.specs.declared.memory.ExactMemory.{ExactMemory}
 use Rattle.lrc_page.specs.Page.{words_of}
 use Rattle.lrc_named.specs.Named.{IsReadAsNamed}
-use Rattle.lrc_named_linted.specs.Linted.{HasUntoldFault, TellsNamed}
+use Rattle.lrc_named_linted.specs.Linted.{TellsNamed}
 use Rattle.lrc_named_warned.specs.Warned.{WarnsNamed}
 use Rattle.lrc_lint_fault.specs.Told.{TellsNoProgram}
 use Rattle.lrc_lint.specs.Linted.{LintsProgram}
@@ -88,15 +88,13 @@ pub record IsJudgedMemory (judging : Judging) (memory : Option ExactMemory) : Ty
   pub pages : option_map (λ m. m.page_words) memory ≡ option_map (λ exact. words_of exact.size) judging.memory
   pub collections : option_map (λ m. m.collect) memory ≡ option_map (λ exact. exact.collect.count) judging.memory
 
--- the text shows a run that has the outcome of this number, and the search met no more states than it may
+-- the text shows a run that has the outcome of this number
 abbrev pub ShowsOutcome : Exploring → Program → (places : List ℕ) → (number : ℕ) → List ℕ → ℕ → Type 0
 ShowsOutcome exploring program places number out status = TellsNumberedRun program exploring.nodes.count places number out × (status ≡ 0)
-    × FitsSettledNoted program exploring.nodes.count exploring.most.count
 
--- the text and the status are what is said of every order, and the search met no more states than it may
+-- the text and the status are what is said of every order
 abbrev pub ShowsOrders : Exploring → Wording → Program → (places : List ℕ) → List ℕ → ℕ → Type 0
 ShowsOrders exploring wording program places out status = Explores wording program exploring.nodes.count places exploring.outcomes out status
-    × MeetsFew program exploring.nodes.count exploring.most.count exploring.outcomes status
 
 -- how many runs at random are tried, if any are
 abbrev pub tries_asked : Exploring → Option ℕ
@@ -112,11 +110,9 @@ abbrev pub ShowsLazyRun : Exploring → Program → (places : List ℕ) → (num
 ShowsLazyRun exploring program places number out status = TellsNumberedLazyRun program exploring.nodes.count places number out × (status ≡ 0)
     × FitLazyRuns program exploring.nodes.count exploring.most.count
 
--- the text and the status are what is said of stuck orders and of traps, whether or not an order races, and the search met no more states
--- than it may
+-- the text and the status are what is said of stuck orders and of traps, whether or not an order races
 abbrev pub ShowsFindings : Exploring → Wording → Program → (places : List ℕ) → List ℕ → ℕ → Type 0
 ShowsFindings exploring wording program places out status = TellsFindings wording program exploring.nodes.count places out status
-    × FitsSettled program exploring.nodes.count exploring.most.count
 
 -- the text and the status are what is said of every order and of ends, where races are looked for or ignored, and the search met no more
 -- states than it may, unless it ended at a race, whose status is 3
@@ -183,10 +179,6 @@ IsToldAsNamed file text out status = (TellsNamed file text out × (status ≡ 1)
 abbrev pub IsLintedAsNamed : List ℕ → List ℕ → List ℕ → ℕ → Type 0
 IsLintedAsNamed file text out status = IsReadAsNamed text × IsToldAsNamed file text out status
 
--- the text is of the core, or a named program with a fault of which no hint is told
-abbrev pub IsNotTold : List ℕ → Type 0
-IsNotTold text = (¬ IsReadAsNamed text) ⊎ HasUntoldFault text
-
 -- of a text of the core: that it is no program, or its warnings
 abbrev pub IsLintedAsCore : List ℕ → List ℕ → List ℕ → ℕ → Type 0
 IsLintedAsCore file text out status = (TellsNoProgram file text out × (status ≡ 1)) ⊎ (LintsProgram file text out × (status ≡ 0))
@@ -194,7 +186,7 @@ IsLintedAsCore file text out status = (TellsNoProgram file text out × (status �
 -- of any text
 abbrev pub IsLinted : List ℕ → List ℕ → List ℕ → ℕ → Type 0
 IsLinted file text out status =
-    IsLintedAsNamed file text out status ⊎ (IsNotTold text × IsLintedAsCore file text out status)
+    IsLintedAsNamed file text out status ⊎ ((¬ IsReadAsNamed text) × IsLintedAsCore file text out status)
 
 -- how many nodes acts from anywhere are of, where that is said
 abbrev pub foreign_nodes : ForeignActs → Option ℕ

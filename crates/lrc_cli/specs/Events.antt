@@ -1,11 +1,10 @@
 -- What is answered to `explore` where events are asked for.
-use Rattle.std.specs.Prelude.{◌≡◌, ◌≢◌, ℕ, List, Option, None, Some, not}
+use Rattle.std.specs.Prelude.{◌≡◌, ℕ, List, Option, None, Some, not}
 use Rattle.lrc_lang.specs.declared.program.Program.{Program}
 use Rattle.lrc_cli_args.specs.declared.choice.Exploring.{Exploring}
 use Rattle.lrc_cli_args.specs.declared.choice.OutcomeNumber.{OutcomeNumber}
 use Rattle.lrc_cli_args.specs.declared.choice.Tell.{Tell}
 use Rattle.lrc_cli_args.specs.declared.choice.Tell.TheVariants as tells
-use Rattle.lrc_explore.specs.Answers.{FitsSettled, FitsSettledNoted}
 use Rattle.lrc_explore_events_text.specs.declared.told.Line.{Line}
 use Rattle.lrc_explore_events_text.specs.declared.told.Line.TheVariants.{End, First, Stuck, Trap}
 use Rattle.lrc_explore_events_text.specs.Shows.{ShowsLine, ShowsNumberedRun}
@@ -17,17 +16,14 @@ line_of tells.Stuck = Stuck
 line_of tells.Trap = Trap
 line_of tells.End = End
 
--- the text shows events along the order of this line, with the status, and the search met no more states than it may, unless it ended at a
--- race, whose status is 3
+-- the text shows events along the order of this line, with the status
 abbrev pub ShowsLineOf : Exploring → Line → Program → List ℕ → ℕ → Type 0
 ShowsLineOf exploring line program out status =
     ShowsLine program exploring.nodes.count (not exploring.ignores_races) exploring.ends line out status
-    × (status ≢ 3 → FitsSettled program exploring.nodes.count exploring.most.count)
 
--- the text shows events along a run that has the outcome of this number, and the search met no more states than it may
+-- the text shows events along a run that has the outcome of this number
 abbrev pub ShowsOutcomeEvents : Exploring → Program → (number : ℕ) → List ℕ → ℕ → Type 0
 ShowsOutcomeEvents exploring program number out status = ShowsNumberedRun program exploring.nodes.count number out × (status ≡ 0)
-    × FitsSettledNoted program exploring.nodes.count exploring.most.count
 
 -- of the outcome that is asked for, or of the line
 abbrev pub IsEventsAnswer : Option OutcomeNumber → Exploring → Tell → Program → List ℕ → ℕ → Type 0

@@ -1,9 +1,9 @@
 // What the program answers to the command `lint`.
 
-ghost use Rattle.std.specs.Prelude.{◌≡◌, IfErr, IfOk, MatchOption};
-ghost use Rattle.lrc_cli.specs.Answer.{IsLinted, IsLintedAsNamed, IsNotTold, IsToldAsNamed};
+ghost use Rattle.std.specs.Prelude.{◌≡◌, IfErr, IfOk};
+ghost use Rattle.lrc_cli.specs.Answer.{IsLinted, IsToldAsNamed};
 ghost use Rattle.lrc_cli_answer.specs.declared.fault.Fault.TheVariants.{NoMemory};
-ghost use Rattle.lrc_named_linted.specs.Linted.{HasUntoldFault};
+ghost use Rattle.lrc_named_linted.specs.Linted.{IsSound};
 ghost use Rattle.lrc_text.specs.Parts.{whole_text};
 
 use lrc_cli_answer::fault::Fault;
@@ -28,38 +28,37 @@ pub(crate) fn linted(alloc: Global, file: &str, text: &[u8]) -> Result<Printout,
     })
 }
 
-// What is said of a text: what is said of a named program, if it is read as one and is told so, or else what is said of a text
-// of the core.
+// What is said of a text: of a named program, if it is read as one, or else of a text of the core.
 fn linted_as_read(alloc: Global, file: &[u8], text: &[u8]) -> Result<Linted, AllocError>
     ensures { IfOk result (λ linted. IsLinted file.now text.now
         (whole_text linted.parts.items) linted.status) }
 {
-    match linted_as_named(alloc, file, text)? {
-        Some(linted) => Ok(linted),
-        None => lint(alloc, file, text),
-    }
-}
-
-// What is said of a text that is read as a named program.
-fn linted_as_named(alloc: Global, file: &[u8], text: &[u8]) -> Result<Option<Linted>, AllocError>
-    ensures { IfOk result (λ told. MatchOption told (IsNotTold text.now)
-        (λ linted. IsLintedAsNamed file.now text.now
-        (whole_text linted.parts.items) linted.status)) }
-{
     if is_read_as_named(alloc, text)? {
-        told_as_named(alloc, file, text)
+        linted_as_named(alloc, file, text)
     } else {
-        Ok(None)
+        lint(alloc, file, text)
     }
 }
 
-// The first fault of a named program, if a hint is told of it; of one without a fault, its warnings.
-fn told_as_named(alloc: Global, file: &[u8], text: &[u8]) -> Result<Option<Linted>, AllocError>
-    ensures { IfOk result (λ told. MatchOption told (HasUntoldFault text.now)
-        (λ linted. IsToldAsNamed file.now text.now (whole_text linted.parts.items) linted.status)) }
+// What is said of a text that is read as a named program: its first fault; where it has none, its warnings.
+fn linted_as_named(alloc: Global, file: &[u8], text: &[u8]) -> Result<Linted, AllocError>
+    ensures { IfOk result (λ linted. IsToldAsNamed file.now text.now
+        (whole_text linted.parts.items) linted.status) }
 {
     match lint_named(alloc, file, text)? {
-        Some(linted) => Ok(Some(linted)),
-        None => lint_sound(alloc, file, text),
+        Some(linted) => Ok(linted),
+        None => warned(alloc, file, text),
+    }
+}
+
+// The warnings of a named program without a fault.
+fn warned(alloc: Global, file: &[u8], text: &[u8]) -> Result<Linted, AllocError>
+    requires { IsSound text.now }
+    ensures { IfOk result (λ linted. IsToldAsNamed file.now text.now
+        (whole_text linted.parts.items) linted.status) }
+{
+    match lint_sound(alloc, file, text)? {
+        Some(linted) => Ok(linted),
+        None => unreachable!(),
     }
 }

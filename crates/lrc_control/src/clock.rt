@@ -1,6 +1,6 @@
 // A node's clock, the tokens that it has or awaits, and the locks that it manages.
 
-ghost use Rattle.std.specs.Prelude.{◌≡◌, ℕ, ◌+◌, ◌<◌, ◌≤◌, List, IfSome, IsTrue, Ok, length};
+ghost use Rattle.std.specs.Prelude.{◌≡◌, ℕ, ◌+◌, ◌<◌, ◌≤◌, List, IfOk, IfSome, IsTrue, Ok, length};
 ghost use Rattle.lrc_time.specs.Time.{entry};
 ghost use Rattle.lrc_lock.specs.Held.{asked, forwarded, granted, held_after, is_free, is_held, lock_at, pass_of, released, taken, is_taken};
 ghost use Rattle.lrc_lock.specs.Held.{is_awaited};
@@ -13,6 +13,7 @@ ghost use Rattle.lrc_control.specs.Clock.{IsClock, SameClock};
 
 use lrc_lock::{Held, Managed, Pass};
 use lrc_time::Time;
+use std::alloc::{AllocError, Global};
 use std::marker::Model;
 
 /// A node's time, which counts closed intervals, with its knowledge of each lock's token, and the last node to ask for
@@ -21,7 +22,8 @@ use std::marker::Model;
 pub struct Clock {
     me: u8,
     time: Time,
-    held: Held,
+    // By far the largest part, so it is on the heap and stays there when a node moves.
+    held: Box<Held>,
     managed: Managed,
 }
 
@@ -31,25 +33,26 @@ impl Model for Clock {
 
     ghost Value = { Locks };
 
-    ghost view = { λ c. record { time = c.time; held = c.held; managed = c.managed } };
+    ghost view = { λ c. record { time = c.time; held = c.held.value; managed = c.managed } };
 
-    ghost invariant = { λ c. IsClock c.me (record { time = c.time; held = c.held; managed = c.managed }) };
+    ghost invariant = { λ c. IsClock c.me (record { time = c.time; held = c.held.value; managed = c.managed }) };
 }
 
 impl Clock {
     /// Creates the clock of node `me` in a run of 1 to 16 nodes, at the start, with at most 64 locks.
-    pub fn new(me: u8, nodes: u8, locks: u8) -> Clock
+    pub fn new(alloc: Global, me: u8, nodes: u8, locks: u8) -> Result<Clock, AllocError>
         requires here { me < nodes }
         requires few { nodes ≤ 16 }
         requires room { locks ≤ 64 }
-        ensures { result ≡ fresh_locks me nodes locks }
+        ensures { IfOk result (λ clock. clock ≡ fresh_locks me nodes locks) }
     {
-        Clock {
+        let held = Box::new(alloc, Held::new(me, nodes, locks))?;
+        Ok(Clock {
             me,
             time: Time::new(nodes),
-            held: Held::new(me, nodes, locks),
+            held,
             managed: Managed::new(me, nodes, locks),
-        }
+        })
     }
 
     /// Returns what the node knows of each lock's token.

@@ -117,7 +117,7 @@ module _ (size : Size) (nodes : ℕ) (made : List StoredRecord) (time : List ℕ
           };
         }
 
-    learns : (now : Word) → TakesHighest (IsChangeBetween made page offset time after) now (with_news nodes had news word now)
+    pub learns : (now : Word) → TakesHighest (IsChangeBetween made page offset time after) now (with_news nodes had news word now)
     learns now =
         by_other_words (IsNews nodes had news word) (IsChangeBetween made page offset time after) now (with_news nodes had news word now) to_made
         from_made (learned_is_highest nodes had news word now)

@@ -16,8 +16,8 @@ use Rattle.lrc_exact_outcomes.specs.Outcome.{IsExactOutcome}
 use Rattle.lrc_exact_outcomes.proofs.Fronting.{in_front}
 use Rattle.lrc_exact_outcomes.proofs.Running.{exact_front, may_come, one_deed}
 use Rattle.lrc_exact_search.specs.declared.search.Met.{Met}
-use Rattle.lrc_exact_search.specs.Run.{IsAhead, still, onward, IsFree}
-use Rattle.lrc_exact_search.specs.Searching.{AreRunsOf, IsMet, Parts, GoesOn, further, parts, IsSearched, AreSearched}
+use Rattle.lrc_exact_search.specs.Run.{IsAhead, still, onward, IsEndless, IsFree}
+use Rattle.lrc_exact_search.specs.Searching.{AreRunsOf, IsMet, Parts, GoesOn, further, parts, endless, IsSearched, AreSearched}
 
 -- ---- what lies ahead of a run
 
@@ -34,6 +34,22 @@ pub ahead_exact : {program : Program} {shape : Shape} {acts ahead : List Act} �
     → IsExactRun program shape ahead
 ahead_exact run still = run
 ahead_exact run (onward act before free) = free.longer
+
+-- ---- what is found ahead of a run that was looked at, where acts in between led further
+
+module _ {program : Program} {shape : Shape} {runs : List Met} {outcomes : List Outcome} {acts mid : List Act} (first : IsAhead program shape acts mid) where
+  pub searched_endless : IsEndless program shape mid → IsSearched program shape runs outcomes acts
+  searched_endless e = record { ahead = mid; goes = first; then = endless e }
+
+  pub searched_further : {ahead : List Act} → IsAhead program shape mid ahead → length mid < length ahead → IsMet runs ahead
+      → IsSearched program shape runs outcomes acts
+  searched_further {ahead} goes lt met =
+      let few = ahead_long first in
+      record { ahead = ahead; goes = ahead_again first goes; then = further (omega (arith, few, lt)) met }
+
+  pub searched_parts : {ahead : List Act} → IsAhead program shape mid ahead → Parts program shape runs outcomes ahead
+      → IsSearched program shape runs outcomes acts
+  searched_parts {ahead} goes p = record { ahead = ahead; goes = ahead_again first goes; then = parts p }
 
 -- ---- runs that end
 
@@ -119,6 +135,11 @@ module _ (program : Program) (shape : Shape) (runs : List Met) (outcomes : List 
   goes_on acts ahead notes most long (further lt met) l =
       inr (record { later = ahead; searched_too = met_searched ahead met; left = l; longer = lt })
   goes_on acts ahead notes most long (parts p) l = part acts ahead notes most long p l.more l.run l.over l.are l.few
+  goes_on acts ahead notes most long (endless e) l =
+      let far = e (suc most) in
+      let few = (left_ahead ahead far.0 notes most far.1 l).few in
+      let many = far.2 in
+      absurd (omega (arith, few, many))
 
   -- so each run that ends has an outcome that was gathered
   ends : (count : ℕ) (acts notes : List Act) (most : ℕ) → most ≤ length acts + count → IsSearched program shape runs outcomes acts

@@ -1,3 +1,4 @@
 pub mod Standing
 pub mod Complete
 pub mod Meeting
+pub mod Spinning

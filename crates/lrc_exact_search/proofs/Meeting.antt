@@ -1,6 +1,6 @@
 -- Runs that are met, and put to those that were met before, and outcomes that are gathered.
 use Rattle.std.proofs.Common.{◌≡◌, ℕ, zero, suc, ◌+◌, ◌<◌, ◌≤◌, List, [], ◌∷◌, ◌++◌, length, take, Bool, true, false, inl, inr, sym, subst, ◌∙◌, ap, arith}
-use Rattle.std.specs.Prelude.{Option, Some, None, if◌then◌else◌, slice_get}
+use Rattle.std.specs.Prelude.{Err, Ok, OnOk, Option, Result, Some, None, if◌then◌else◌, slice_get}
 use Rattle.std.specs.List.{IsDistinct}
 use Rattle.std.proofs.lemmas.Bool.{cases_eq, cases_lt}
 use Rattle.std.proofs.lemmas.List.{length-append, length_push, take-append-le}
@@ -17,7 +17,12 @@ use Rattle.lrc_exact.specs.Rule.{Shape}
 use Rattle.lrc_exact_laws.specs.Laws.{IsExactRun}
 use Rattle.lrc_exact_search.specs.declared.search.Met.{Met}
 use Rattle.lrc_exact_search.specs.contracts.search.MetPartialEq.TheImpl.{eq-value}
-use Rattle.lrc_exact_search.specs.Searching.{acts_in, AreInOrder, AreRunsOf, AreSearched, GoesOn, further, parts, IsEndedExactRun, IsMet, IsSearched, Parts}
+use Rattle.lrc_exact_search.specs.Searching.{acts_in, AreInOrder, AreRunsOf, AreSearched, GoesOn, further, parts, endless, IsEndedExactRun, IsMet, IsSearched, Parts}
+
+-- what follows where it is needed only after a success
+pub on_ok : {E A : Type 0} {P Q : Type 0} (r : Result A E) → (P → Q) → OnOk r P → OnOk r Q
+on_ok (Ok x) f p = f p
+on_ok (Err e) f p = p
 
 -- ---- runs
 
@@ -57,6 +62,7 @@ module _ (program : Program) (shape : Shape) where
       → GoesOn program shape old outcomes acts ahead → GoesOn program shape new more acts ahead
   goes_further g h (further lt met) = further lt (met_on g met)
   goes_further g h (parts p) = parts (parts_on g h p)
+  goes_further g h (endless e) = endless e
 
   pub searched_on : {old new : List Met} {outcomes more : List Outcome} {acts : List Act} → Grows old new → Grows outcomes more
       → IsSearched program shape old outcomes acts → IsSearched program shape new more acts

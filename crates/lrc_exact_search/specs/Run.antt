@@ -2,6 +2,8 @@
 use Rattle.std.specs.Prelude.{◌≡◌, ℕ, ◌<◌, ◌≤◌, List, [], ◌∷◌, ◌++◌, Some, length, slice_index}
 use Rattle.lrc_lang.specs.declared.program.Program.{Program}
 use Rattle.lrc_trace.specs.declared.act.Act.{Act}
+use Rattle.lrc_trace.specs.declared.act.Deed.{Deed}
+use Rattle.lrc_trace.specs.declared.act.Deed.TheVariants.{Quiet, Print, Read}
 use Rattle.lrc_exec.specs.Flat.{IsCodeOf}
 use Rattle.lrc_exec.specs.Plain.{Plain, start_of, thread_in}
 use Rattle.lrc_exec.specs.States.{plain_at, IsStateOf}
@@ -41,6 +43,13 @@ pub record IsAt (task : Task) (run : ExactRun) : Type 0 where
   pub memory : IsMemoryOf run.acts.items run.memory
   pub layout : run.memory.layout ≡ task.layout
 
+-- a deed that changes nothing but where its node stands
+abbrev pub IsLook : Deed → Type 0
+IsLook Quiet = Unit {0}
+IsLook (Print value) = Unit {0}
+IsLook (Read word value) = Unit {0}
+IsLook _ = ⊥
+
 -- the act may come next, and acquires no lock
 pub record IsFree (program : Program) (shape : Shape) (acts : List Act) (act : Act) : Type 0 where
   pub longer : IsExactRun program shape (acts ++ act ∷ [])
@@ -50,3 +59,7 @@ pub record IsFree (program : Program) (shape : Shape) (acts : List Act) (act : A
 pub data IsAhead (program : Program) (shape : Shape) (acts : List Act) : List Act → Type 0 where
   still : IsAhead program shape acts acts
   onward : {mid : List Act} (act : Act) → IsAhead program shape acts mid → IsFree program shape mid act → IsAhead program shape acts (mid ++ act ∷ [])
+
+-- however many acts are wanted, such acts lead to a run that has as many
+abbrev pub IsEndless : Program → Shape → List Act → Type 0
+IsEndless program shape acts = (many : ℕ) → (ahead : List Act) × IsAhead program shape acts ahead × (many ≤ length ahead)

@@ -11,7 +11,7 @@ use Rattle.lrc_exact.specs.Rule.{Shape}
 use Rattle.lrc_exact_laws.specs.Laws.{IsExactRun}
 use Rattle.lrc_exact_search.specs.declared.search.Met.{Met}
 use Rattle.lrc_exact_search.specs.contracts.search.MetPartialEq.TheImpl.{eq-value}
-use Rattle.lrc_exact_search.specs.Run.{IsAhead}
+use Rattle.lrc_exact_search.specs.Run.{IsAhead, IsEndless}
 
 -- the acts are those of an exact run after which no node can act, and which has these notes
 pub record IsEndedExactRun (program : Program) (shape : Shape) (notes acts : List Act) : Type 0 where
@@ -46,10 +46,11 @@ pub record Parts (program : Program) (shape : Shape) (runs : List Met) (outcomes
   pub nexts : (act : Act) → IsExactRun program shape (acts ++ act ∷ []) → IsMet runs (acts ++ act ∷ [])
   pub gathered : IsOver program shape.nodes acts → HasOutcome outcomes (notes_of shape.nodes acts)
 
--- the run that lies ahead of one is met, and longer, or it parts
+-- the run that lies ahead of one is met, and longer, or it parts, or it goes on for ever by acts that need no other node, so that it never ends
 pub data GoesOn (program : Program) (shape : Shape) (runs : List Met) (outcomes : List Outcome) (acts ahead : List Act) : Type 0 where
   further : length acts < length ahead → IsMet runs ahead → GoesOn program shape runs outcomes acts ahead
   parts : Parts program shape runs outcomes ahead → GoesOn program shape runs outcomes acts ahead
+  endless : IsEndless program shape ahead → GoesOn program shape runs outcomes acts ahead
 
 -- a run was looked at
 pub record IsSearched (program : Program) (shape : Shape) (runs : List Met) (outcomes : List Outcome) (acts : List Act) : Type 0 where

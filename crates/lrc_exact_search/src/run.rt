@@ -6,7 +6,7 @@ ghost use Rattle.lrc_lazy.specs.Following.{IsFollowed, MayFollow};
 ghost use Rattle.lrc_lazy.specs.Swapped.{IsNoAcquire};
 ghost use Rattle.lrc_exact_laws.specs.Laws.{IsExactRun};
 ghost use Rattle.lrc_exact_judge.specs.Shape.{shape_of};
-ghost use Rattle.lrc_exact_search.specs.Run.{IsAt, IsTask};
+ghost use Rattle.lrc_exact_search.specs.Run.{IsAt, IsLook, IsTask};
 
 use lrc_exact_judge::layout::Layout;
 use lrc_exact_judge::memory::Memory;
@@ -48,7 +48,8 @@ impl ExactRun {
     ghost use Rattle.lrc_lazy.specs.Lazy.{MayComeNext};
     ghost use Rattle.lrc_exact_laws.specs.Laws.{IsExactRun};
     ghost use Rattle.lrc_exact_judge.specs.Shape.{shape_of};
-    ghost use Rattle.lrc_exact_search.specs.Run.{IsAhead, IsAt, IsFree, IsTask};
+    ghost use Rattle.lrc_exact_search.specs.Run.{IsAhead, IsAt, IsEndless, IsFree, IsTask};
+    ghost use Rattle.lrc_lazy.specs.Following.{IsFollowed};
 
     /// Returns the run without acts. It fails if memory runs out.
     pub fn start(alloc: Global, task: &Task<'_>) -> Result<ExactRun, AllocError>
@@ -116,6 +117,8 @@ impl ExactRun {
         ensures at { OnOk result (IsAt task.now self.new) }
         ensures acts { OnOk result (self.new.acts.items
             ≡ self.old.acts.items ++ act_of node deed ∷ []) }
+        ensures followed { OnOk result (IsFollowed task.now.flat self.old.state (act_of node deed)
+            self.new.state) }
     {
         if self.acts.len() >= u32::MAX as usize {
             return Err(AllocError);
@@ -142,6 +145,50 @@ impl ExactRun {
             }
         }
         None
+    }
+
+    /// Makes what the lowest node can do that can go on without acquiring a lock or departing, as long as it neither
+    /// writes nor synchronizes. Returns whether it goes on so for ever. It fails if memory runs out.
+    pub fn spins(&mut self, alloc: Global, task: &Task<'_>) -> Result<bool, AllocError>
+        requires task { IsTask task.now }
+        requires at { IsAt task.now self.old }
+        ensures at { OnOk result (IsAt task.now self.new) }
+        ensures ahead { OnOk result (IsAhead task.now.program.now (shape_of task.now.layout)
+            self.old.acts.items self.new.acts.items) }
+        ensures endless { IfOk result (λ endless. endless ≡ true
+            → IsEndless task.now.program.now (shape_of task.now.layout) self.new.acts.items) }
+    {
+        match self.lowest(task, false) {
+            Some(act) => self.goes_round(alloc, task, act.node),
+            None => Ok(false),
+        }
+    }
+
+    // Makes what a node does as long as that is a look, and says whether it comes back to where it began.
+    fn goes_round(&mut self, alloc: Global, task: &Task<'_>, node: u8) -> Result<bool, AllocError>
+        requires task { IsTask task.now }
+        requires at { IsAt task.now self.old }
+        requires node { node < task.now.layout.nodes }
+        ensures at { OnOk result (IsAt task.now self.new) }
+        ensures ahead { OnOk result (IsAhead task.now.program.now (shape_of task.now.layout)
+            self.old.acts.items self.new.acts.items) }
+        ensures endless { IfOk result (λ endless. endless ≡ true
+            → IsEndless task.now.program.now (shape_of task.now.layout) self.new.acts.items) }
+    {
+        let begun = self.state.copy(alloc)?;
+        for _ in 0..LONGEST {
+            let Some(deed) = self.deed(task, node) else {
+                return Ok(false);
+            };
+            if !is_look(deed) {
+                return Ok(false);
+            }
+            self.make(alloc, task, node, deed)?;
+            if self.state == begun {
+                return Ok(true);
+            }
+        }
+        Ok(false)
     }
 
     // Makes such deeds, one after another.
@@ -206,6 +253,13 @@ fn is_free(deed: Deed, departs: bool) -> bool
         Deed::Depart => departs,
         _ => !departs,
     }
+}
+
+// Whether a deed changes nothing but where its node stands.
+fn is_look(deed: Deed) -> bool
+    ensures { result ≡ true → IsLook deed }
+{
+    matches!(deed, Deed::Quiet | Deed::Print(_) | Deed::Read(_, _))
 }
 
 // Makes an act of the run: a read finds the value that it gave.

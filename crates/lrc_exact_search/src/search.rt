@@ -261,7 +261,9 @@ impl Searched {
         acts.saturating_add(self.runs.as_slice()[place].acts.len())
     }
 
-    // Looks at a run: goes ahead, and meets the run that lies there, or those to which it parts.
+    // Looks at a run: goes ahead, and meets the run that lies there, or those to which it parts. A run that goes on for
+    // ever without other nodes has no outcome.
+    #[tactic(auto, using(crate::proofs::Complete::searched_endless, crate::proofs::Complete::searched_further, crate::proofs::Complete::searched_parts))]
     fn visit(&mut self, alloc: Global, task: &Task<'_>, place: usize) -> Result<(), AllocError>
         requires task { IsTask task.now }
         requires order { AreInOrder task.now.program.now (shape_of task.now.layout)
@@ -281,6 +283,9 @@ impl Searched {
             self.new.found.outcomes.keys met.acts.items) }
     {
         let mut run = replayed(alloc, task, &self.runs.as_slice()[place].acts)?;
+        if run.spins(alloc, task)? {
+            return Ok(());
+        }
         if run.settle(alloc, task)? {
             self.meet(task, run.acts)
         } else {

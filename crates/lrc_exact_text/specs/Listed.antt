@@ -3,6 +3,7 @@ use Rattle.std.specs.Prelude.{◌≡◌, ◌↔◌, ℕ, List, ◌++◌, Option,
 use Rattle.std.specs.List.{IsDistinct, flat_map}
 use Rattle.lrc_lang.specs.declared.program.Program.{Program}
 use Rattle.lrc_trace.specs.declared.act.Act.{Act}
+use Rattle.lrc_consistency_laws.specs.Racing.{HasNoRace}
 use Rattle.lrc_orders.specs.declared.outcomes.Outcome.{Outcome}
 use Rattle.lrc_orders.specs.contracts.outcomes.OutcomePartialEq.TheImpl.{eq-value}
 use Rattle.lrc_orders.specs.Outcome.{HasOutcome}
@@ -11,7 +12,6 @@ use Rattle.lrc_lazy_text.specs.Listed.{AreAscending, marked_line}
 use Rattle.lrc_exact.specs.Rule.{Shape}
 use Rattle.lrc_exact_outcomes.specs.Outcome.{IsExactOutcome}
 use Rattle.lrc_exact_search.specs.Searching.{FitsExactly}
-use Rattle.lrc_exact_text.specs.Calm.{IsCalmWithin}
 
 -- these are exactly the outcomes of the exact runs after which no node can act, each once
 pub record AreExactOutcomes (program : Program) (shape : Shape) (outcomes : List Outcome) : Type 0 where
@@ -38,8 +38,7 @@ pub record TellsExactOutcomes (program : Program) (shape : Shape) (out : List �
   pub are : AreExactOutcomes program shape outcomes
   pub listed : ListsExactOutcomes shape.nodes outcomes out
 
--- No more runs than a bound were enough for the outcomes of the exact runs. Or no order races, so that these are the outcomes of the orders, and
--- no more settled states than the bound were enough for them.
+-- No more runs than a bound were enough for the outcomes of the exact runs. Or no order races, so that these are the outcomes of the orders.
 pub data FitExactRuns (program : Program) (shape : Shape) (most : ℕ) : Type 0 where
   by_runs : {outcomes : List Outcome} → FitsExactly program shape most outcomes → FitExactRuns program shape most
-  by_orders : IsCalmWithin program shape.nodes most → FitExactRuns program shape most
+  by_orders : HasNoRace program shape.nodes → FitExactRuns program shape most

@@ -6,7 +6,7 @@ ghost use Rattle.lrc_exec.specs.Nodes.{AreNodes};
 ghost use Rattle.lrc_exact_text.specs.Calm.{AreCalmOutcomes, IsCalmRun};
 
 use indexmap::IndexSet;
-use lrc_explore::answers::{explore, outcomes};
+use lrc_explore_less::answers::{explore, outcomes};
 use lrc_explore_text::outcome_run::outcome_run;
 use lrc_lang::program::Program;
 use lrc_orders::outcomes::Outcome;
@@ -25,8 +25,9 @@ pub enum CalmRun {
     Unknown,
 }
 
-/// Returns the outcomes of all orders, if no order races and the search for them met no more states than it may. These
-/// are the outcomes of the exact runs, too. Fails if memory runs out.
+/// Returns the outcomes of all orders, or nothing. It returns them only if no order races; they are the outcomes of the
+/// exact runs, too. That it returns nothing only where a search met too many states or a race is code alone. Fails if
+/// memory runs out.
 pub fn calm_outcomes(
     alloc: Global,
     program: &Program,
@@ -35,7 +36,7 @@ pub fn calm_outcomes(
 ) -> Result<Option<IndexSet<Outcome>>, AllocError>
     requires { AreNodes nodes }
     ensures { IfOk result (λ found. IfSome found (λ set.
-        AreCalmOutcomes program.now nodes most set.keys)) }
+        AreCalmOutcomes program.now nodes set.keys)) }
 {
     if !is_calm(alloc, program, nodes, most)? {
         return Ok(None);
@@ -48,8 +49,9 @@ pub fn calm_outcomes(
     }
 }
 
-/// Returns a run that has the outcome with this number, counted from 1, if no order races and the searches met no more
-/// states than they may. It is an exact run, too. Fails if memory runs out.
+/// Returns a run that has the outcome with this number, counted from 1, or that there are fewer, or nothing. It tells
+/// either only if no order races; the run is an exact run, too. That it returns nothing only where a search met too many
+/// states or a race is code alone. Fails if memory runs out.
 pub fn calm_run(
     alloc: Global,
     program: &Program,
@@ -59,7 +61,7 @@ pub fn calm_run(
 ) -> Result<CalmRun, AllocError>
     requires nodes { AreNodes nodes }
     requires number { 1 ≤ number }
-    ensures { IfOk result (IsCalmRun program.now nodes most number) }
+    ensures { IfOk result (IsCalmRun program.now nodes number) }
 {
     if !is_calm(alloc, program, nodes, most)? {
         return Ok(CalmRun::Unknown);

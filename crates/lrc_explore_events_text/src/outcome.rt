@@ -2,7 +2,7 @@
 
 ghost use Rattle.std.specs.Prelude.{◌≡◌, ◌≢◌, ◌≤◌, IfErr, IfOk, false, option_map, true};
 ghost use Rattle.lrc_exec.specs.Nodes.{AreNodes};
-ghost use Rattle.lrc_explore.specs.Answers.{FitsSettledNoted, MetTooMany};
+ghost use Rattle.lrc_explore.specs.Answers.{MetTooMany};
 ghost use Rattle.lrc_explore_events_text.specs.Shows.{ShowsRunOfNumber};
 
 use crate::showing::events_shown;
@@ -26,7 +26,6 @@ pub fn outcome_shown(
     requires number { 1 ≤ number }
     ensures shows { IfOk result (λ shown. ShowsRunOfNumber program.now nodes number
         (option_map (λ text. text.items) shown)) }
-    ensures fits { IfOk result (λ _. FitsSettledNoted program.now nodes most) }
     ensures nodes { IfErr result (λ fault. fault ≢ ExploreFault.BadNodes) }
     ensures too_many { IfErr result (λ fault. fault ≡ ExploreFault.TooMany
         → MetTooMany program.now nodes most true false) }

@@ -2,7 +2,7 @@
 
 ghost use Rattle.std.specs.Prelude.{◌≡◌, ◌≢◌, IfErr, IfOk, option_map, is_some, Bool, false, true};
 ghost use Rattle.lrc_exec.specs.Nodes.{AreNodes};
-ghost use Rattle.lrc_explore.specs.Answers.{FitsSettled, IsAnswer, MetTooMany};
+ghost use Rattle.lrc_explore.specs.Answers.{IsAnswer, MetTooMany};
 ghost use Rattle.lrc_explore_ends.specs.Answers.{GoesThrough, IsEndAnswer};
 ghost use Rattle.lrc_explore_text.specs.Ends.{ends_status};
 ghost use Rattle.lrc_explore_text.specs.Orders.{findings_status};
@@ -10,9 +10,9 @@ ghost use Rattle.lrc_orders.specs.Verdict.{AreFindings, EndsInRace, FindsNoRace}
 ghost use Rattle.lrc_explore_events_text.specs.Shows.{ShowsCauses, ShowsFound, ShowsLine, ShowsRace, TellsEndIf, chosen};
 
 use crate::showing::{events_shown, order_shown};
-use lrc_explore::answers::{explore, findings};
 use lrc_explore_causes::told::race_told;
 use lrc_explore_ends::answers::{EndVerdict, explore_ends};
+use lrc_explore_less::answers::{explore, findings};
 use lrc_explore_text::orders::acts_of;
 use lrc_lang::program::Program;
 use lrc_orders::search::{ExploreFault, Findings, Verdict};
@@ -56,7 +56,6 @@ pub fn line_shown(
     requires { AreNodes nodes }
     ensures shows { IfOk result (λ shown.
         ShowsLine program.now nodes races ends line shown.text.items shown.status) }
-    ensures fits { IfOk result (λ shown. shown.status ≢ 3 → FitsSettled program.now nodes most) }
     ensures nodes { IfErr result (λ fault. fault ≢ ExploreFault.BadNodes) }
     ensures too_many { IfErr result (λ fault. fault ≡ ExploreFault.TooMany
         → MetTooMany program.now nodes most false races) }
@@ -84,7 +83,6 @@ fn ends_shown(
     requires { AreNodes nodes }
     ensures shows { IfOk result (λ shown.
         ShowsLine program.now nodes races true line shown.text.items shown.status) }
-    ensures fits { IfOk result (λ shown. shown.status ≢ 3 → FitsSettled program.now nodes most) }
     ensures nodes { IfErr result (λ fault. fault ≢ ExploreFault.BadNodes) }
     ensures too_many { IfErr result (λ fault. fault ≡ ExploreFault.TooMany
         → MetTooMany program.now nodes most false races) }
@@ -127,7 +125,6 @@ fn verdict_shown(
     requires { AreNodes nodes }
     ensures shows { IfOk result (λ shown.
         ShowsLine program.now nodes true false line shown.text.items shown.status) }
-    ensures fits { IfOk result (λ shown. shown.status ≢ 3 → FitsSettled program.now nodes most) }
     ensures nodes { IfErr result (λ fault. fault ≢ ExploreFault.BadNodes) }
     ensures too_many { IfErr result (λ fault. fault ≡ ExploreFault.TooMany
         → MetTooMany program.now nodes most false true) }

@@ -14,8 +14,9 @@ use Rattle.lrc_orders.proofs.Keeping.{item_at}
 use Rattle.lrc_orders.specs.declared.search.ExploreFault.TheVariants.{NoMemory, TooMany}
 use Rattle.lrc_explore.specs.Answers.{IsSearchFault}
 use Rattle.lrc_explore.specs.declared.task.Task.{Task}
-use Rattle.lrc_explore.specs.declared.ended.Ended.{Ended}
-use Rattle.lrc_explore.specs.Ended.{AreEnded, IsRunFor, IsRunWith}
+use Rattle.lrc_explore.specs.Ended.{IsRunFor, IsRunWith}
+use Rattle.lrc_explore_less.specs.declared.ended.Ended.{Ended}
+use Rattle.lrc_explore_less.specs.Outcomes.{AreEnded}
 use Rattle.lrc_text.specs.Parts.{texts_of}
 use Rattle.lrc_explore_text.proofs.Listed.{Part}
 use Rattle.lrc_explore_text.specs.OutcomeRun.{HasFewerOutcomes, HasNoLineBefore, IsNumberedAt, IsNumberedRun, IsRunAt}

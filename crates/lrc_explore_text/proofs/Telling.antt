@@ -1,6 +1,6 @@
 -- What is told of a program.
 use Rattle.std.proofs.Common.{◌≡◌, ℕ, ◌+◌, ◌-◌, List, [], ◌++◌, Bool, true, false, Result, Ok, Err, IfOk, length, length-append, sym, subst, ◌∙◌, ap, arith}
-use Rattle.std.specs.Prelude.{◌≢◌, IfErr, Some, codes, not}
+use Rattle.std.specs.Prelude.{IfErr, Some, codes, not}
 use Rattle.std.proofs.lemmas.Option.{same_Some}
 use Rattle.lrc_lang.specs.declared.program.Program.{Program}
 use Rattle.lrc_explain_waits.specs.Traps.{Wording}
@@ -15,9 +15,9 @@ use Rattle.lrc_orders.specs.declared.search.ExploreFault.TheVariants.{TooMany}
 use Rattle.lrc_orders.specs.Stuck.{GetsStuck}
 use Rattle.lrc_orders.specs.Traps.{NodeTraps}
 use Rattle.lrc_explore_causes.specs.Told.{TellsRace}
-use Rattle.lrc_explore.specs.Answers.{FitsSettled, FitsSettledNoted, MetTooMany}
+use Rattle.lrc_explore.specs.Answers.{MetTooMany}
 use Rattle.lrc_explore_text.specs.declared.explored.Printout.{Printout}
-use Rattle.lrc_explore_text.specs.Explored.{Explores, MeetsFew, MeetsTooMany, tells_orders, tells_outcomes}
+use Rattle.lrc_explore_text.specs.Explored.{Explores, MeetsTooMany, tells_orders, tells_outcomes}
 use Rattle.lrc_explore_text.specs.LastRaces.{AreRacesAt}
 use Rattle.lrc_explore_text.specs.Orders.{SaysStuck, SaysTrap, TellsFindings, TellsOrders, ends_text, findings_status, free, order_text, racy, some_stuck, some_trap, tells_findings}
 use Rattle.lrc_explore_text.specs.Outcomes.{TellsOutcomes}
@@ -41,12 +41,6 @@ module _ (wording : Wording) (program : Program) (nodes : ℕ) (lines : List ℕ
   of_orders (Ok p) is text = subst (λ b. Explores wording program nodes lines b (whole_text p.parts.items) p.status) (sym is) (tells_orders text)
 
 module _ (program : Program) (nodes most : ℕ) (outcomes : Bool) (r : Result Printout ExploreFault) where
-  pub fits_noted : outcomes ≡ true → IfOk r (λ p. FitsSettledNoted program nodes most) → IfOk r (λ p. MeetsFew program nodes most outcomes p.status)
-  fits_noted is h = subst (λ b. IfOk r (λ p. MeetsFew program nodes most b p.status)) (sym is) h
-
-  pub fits_in : outcomes ≡ false → IfOk r (λ p. p.status ≢ 3 → FitsSettled program nodes most) → IfOk r (λ p. MeetsFew program nodes most outcomes p.status)
-  fits_in is h = subst (λ b. IfOk r (λ p. MeetsFew program nodes most b p.status)) (sym is) h
-
   -- why it gives up
   pub gives_up : (b : Bool) → outcomes ≡ b → IfErr r (λ fault. fault ≡ TooMany → MetTooMany program nodes most b (not b))
       → IfErr r (λ fault. fault ≡ TooMany → MeetsTooMany program nodes most outcomes)

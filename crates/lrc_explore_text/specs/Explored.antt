@@ -1,8 +1,8 @@
 -- What is printed of every order of a program, and the status after it.
-use Rattle.std.specs.Prelude.{◌≢◌, ℕ, Bool, true, false, List, not}
+use Rattle.std.specs.Prelude.{ℕ, Bool, true, false, List, not}
 use Rattle.lrc_lang.specs.declared.program.Program.{Program}
 use Rattle.lrc_explain_waits.specs.Traps.{Wording}
-use Rattle.lrc_explore.specs.Answers.{FitsSettled, FitsSettledNoted, MetTooMany}
+use Rattle.lrc_explore.specs.Answers.{MetTooMany}
 use Rattle.lrc_explore_text.specs.Orders.{TellsOrders}
 use Rattle.lrc_explore_text.specs.Outcomes.{TellsOutcomes}
 
@@ -14,9 +14,3 @@ pub data Explores (wording : Wording) (program : Program) (nodes : ℕ) (lines :
 -- the search met more states than it may, or looked at more acts; where outcomes are asked for, its states are told apart by their notes too
 abbrev pub MeetsTooMany : Program → (nodes most : ℕ) → (outcomes : Bool) → Type 0
 MeetsTooMany program nodes most outcomes = MetTooMany program nodes most outcomes (not outcomes)
-
--- all settled states are among as many as the search may meet, but for how often nodes have arrived, unless it ends at a race, whose status
--- is 3; where outcomes are asked for, so they are with what was printed
-abbrev pub MeetsFew : Program → (nodes most : ℕ) → (outcomes : Bool) → (status : ℕ) → Type 0
-MeetsFew program nodes most false status = status ≢ 3 → FitsSettled program nodes most
-MeetsFew program nodes most true status = FitsSettledNoted program nodes most

@@ -4,8 +4,8 @@ use Rattle.lrc_lang.specs.declared.program.Program.{Program}
 use Rattle.lrc_trace.specs.declared.act.Act.{Act}
 use Rattle.lrc_orders.specs.declared.outcomes.Outcome.{Outcome}
 use Rattle.lrc_explore.specs.declared.task.Task.{Task}
-use Rattle.lrc_explore.specs.declared.ended.Ended.{Ended}
 use Rattle.lrc_explore.specs.Ended.{IsRunWith}
+use Rattle.lrc_explore_less.specs.declared.ended.Ended.{Ended}
 use Rattle.lrc_explore_text.specs.Orders.{order_text}
 use Rattle.lrc_explore_text.specs.Outcomes.{AreLinesOf, AreOutcomesOf, outcome_line}
 

@@ -4,7 +4,7 @@ ghost use Rattle.std.specs.Prelude.{◌≡◌, ◌≢◌, IfErr, IfOk, map};
 ghost use Rattle.lrc_explain_waits.specs.Traps.{wording_of};
 ghost use Rattle.lrc_text.specs.Parts.{whole_text};
 ghost use Rattle.lrc_exec.specs.Nodes.{AreNodes};
-ghost use Rattle.lrc_explore_text.specs.Explored.{Explores, MeetsFew, MeetsTooMany};
+ghost use Rattle.lrc_explore_text.specs.Explored.{Explores, MeetsTooMany};
 
 use crate::orders::orders_told;
 use crate::outcomes::outcomes_told;
@@ -41,8 +41,6 @@ pub fn explored(
     ensures ok { IfOk result (λ printout.
         Explores (wording_of wording.now) program.now nodes lines.now outcomes
         (whole_text printout.parts.items) printout.status) }
-    ensures fits { IfOk result (λ printout.
-        MeetsFew program.now nodes most outcomes printout.status) }
     ensures nodes { IfErr result (λ fault. fault ≢ ExploreFault.BadNodes) }
     ensures too_many { IfErr result (λ fault. fault ≡ ExploreFault.TooMany
         → MeetsTooMany program.now nodes most outcomes) }

@@ -6,7 +6,7 @@ ghost use Rattle.lrc_explain_waits.specs.Traps.{wording_of};
 ghost use Rattle.lrc_text.specs.Parts.{whole_text};
 ghost use Rattle.lrc_exec.specs.Plain.{plain};
 ghost use Rattle.lrc_exec.specs.Nodes.{AreNodes};
-ghost use Rattle.lrc_explore.specs.Answers.{FitsSettled, IsAnswer, MetTooMany};
+ghost use Rattle.lrc_explore.specs.Answers.{IsAnswer, MetTooMany};
 ghost use Rattle.lrc_orders.specs.Stuck.{GetsStuck};
 ghost use Rattle.lrc_orders.specs.Traps.{NeverTraps, NodeTraps};
 ghost use Rattle.lrc_orders.specs.Verdict.{AreFindings, EndsInRace, FindsNoRace, NeverStuck, TellsStuck, TellsTrap};
@@ -22,7 +22,7 @@ use lrc_acts_text::acts_part;
 use lrc_exec::code::Code;
 use lrc_exec::plain::plain_run;
 use lrc_explain_waits::{Wording, stuck_part};
-use lrc_explore::answers::{explore, findings};
+use lrc_explore_less::answers::{explore, findings};
 use lrc_lang::program::Program;
 use lrc_lines::walks::lines_of_acts;
 use lrc_orders::search::{ExploreFault, Findings, Verdict};
@@ -44,8 +44,6 @@ pub(crate) fn orders_told(
     ensures ok { IfOk result (λ printout.
         TellsOrders (wording_of wording.now) program.now nodes lines.now
         (whole_text printout.parts.items) printout.status) }
-    ensures fits { IfOk result (λ printout. printout.status ≢ 3
-        → FitsSettled program.now nodes most) }
     ensures nodes { IfErr result (λ fault. fault ≢ ExploreFault.BadNodes) }
     ensures too_many { IfErr result (λ fault. fault ≡ ExploreFault.TooMany
         → MetTooMany program.now nodes most false true) }
@@ -69,7 +67,6 @@ pub fn findings_told(
     ensures ok { IfOk result (λ printout.
         TellsFindings (wording_of wording.now) program.now nodes lines.now
         (whole_text printout.parts.items) printout.status) }
-    ensures fits { IfOk result (λ _. FitsSettled program.now nodes most) }
     ensures nodes { IfErr result (λ fault. fault ≢ ExploreFault.BadNodes) }
     ensures too_many { IfErr result (λ fault. fault ≡ ExploreFault.TooMany
         → MetTooMany program.now nodes most false false) }

@@ -2,9 +2,9 @@
 
 ghost use Rattle.std.specs.Prelude.{◌≡◌, ◌≢◌, ◌<◌, ◌≤◌, ◌↔◌, Contains, IfErr, IfOk, IsTrue, length, map, option_map, false, true};
 ghost use Rattle.lrc_exec.specs.Nodes.{AreNodes};
-ghost use Rattle.lrc_explore.specs.Answers.{FitsSettledNoted, IsFault, IsFaultOf, IsSearchFault, MetTooMany};
-ghost use Rattle.lrc_explore.specs.Ended.{AreEnded};
+ghost use Rattle.lrc_explore.specs.Answers.{IsFaultOf, IsSearchFault, MetTooMany};
 ghost use Rattle.lrc_explore.specs.Reached.{IsTask};
+ghost use Rattle.lrc_explore_less.specs.Outcomes.{AreEnded};
 ghost use Rattle.lrc_explore_text.specs.OutcomeRun.{IsLineAt, IsPlaceOfNumber, IsRunAt, IsRunOfNumber, TellsRunOfNumber};
 ghost use Rattle.lrc_explore_text.specs.Outcomes.{outcome_line};
 
@@ -12,8 +12,8 @@ use crate::orders::acts_told;
 use crate::outcomes::{outcome_line, sorted_lines};
 use lrc_exec::code::Code;
 use lrc_explore::answers::task_of;
-use lrc_explore::ended::{Ended, all_ended};
 use lrc_explore::task::Task;
+use lrc_explore_less::ended::{Ended, all_ended};
 use lrc_lang::program::Program;
 use lrc_orders::outcomes::Outcome;
 use lrc_orders::search::ExploreFault;
@@ -37,7 +37,6 @@ pub fn outcome_run_told(
     requires number { 1 ≤ number }
     ensures told { IfOk result (λ told. TellsRunOfNumber program.now nodes lines.now number
         (option_map (λ text. text.items) told)) }
-    ensures fits { IfOk result (λ _. FitsSettledNoted program.now nodes most) }
     ensures nodes { IfErr result (λ fault. fault ≢ ExploreFault.BadNodes) }
     ensures too_many { IfErr result (λ fault. fault ≡ ExploreFault.TooMany
         → MetTooMany program.now nodes most true false) }
@@ -65,7 +64,6 @@ pub fn outcome_run(
     requires number { 1 ≤ number }
     ensures run { IfOk result (λ run. IsRunOfNumber program.now nodes number
         (option_map (λ acts. acts.items) run)) }
-    ensures fits { IfOk result (λ _. FitsSettledNoted program.now nodes most) }
     ensures faults { IfErr result (IsFaultOf program.now nodes most true false) }
 {
     let code = Code::new(alloc, program)?;
@@ -83,7 +81,6 @@ fn run_in(
     requires number { 1 ≤ number }
     ensures run { IfOk result (λ run. IsRunOfNumber code.now nodes number
         (option_map (λ acts. acts.items) run)) }
-    ensures fits { IfOk result (λ _. FitsSettledNoted code.now nodes most) }
     ensures faults { IfErr result (IsFaultOf code.now nodes most true false) }
 {
     let task = task_of(alloc, code, nodes, most, true)?;
@@ -97,8 +94,6 @@ fn run_of(alloc: Global, task: &Task<'_>, number: u64) -> Result<Option<Vec<Act>
     requires number { 1 ≤ number }
     ensures run { IfOk result (λ run. IsRunOfNumber task.now.program.now task.now.flat.nodes number
         (option_map (λ acts. acts.items) run)) }
-    ensures fits { IfOk result (λ _. FitsSettledNoted task.now.program.now task.now.flat.nodes
-        task.now.most) }
     ensures faults { IfErr result (IsSearchFault task.now false) }
 {
     let ended = all_ended(alloc, task)?;
@@ -124,10 +119,10 @@ fn run_at(
     requires ended { AreEnded task.now ended.now }
     requires within { place < length ended.now.outcomes.keys }
     ensures run { IfOk result (λ acts. IsRunAt task.now ended.now place acts.items) }
-    ensures faults { IfErr result (IsFault task.now) }
+    ensures faults { IfErr result (IsSearchFault task.now false) }
 {
     let outcome = &ended.outcomes.as_slice()[place];
-    match ended.found.run_with(alloc, task, &outcome.notes)? {
+    match ended.less.run_told(alloc, task, &outcome.notes)? {
         Some(acts) => Ok(acts),
         None => unreachable!(),
     }

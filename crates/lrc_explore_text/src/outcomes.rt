@@ -5,12 +5,12 @@ ghost use Rattle.std.specs.List.{IsDistinct};
 ghost use Rattle.lrc_exec.specs.Nodes.{AreNodes};
 ghost use Rattle.lrc_orders.specs.contracts.outcomes.OutcomePartialEq.TheImpl.{eq-value};
 ghost use Rattle.lrc_text.specs.Parts.{texts_of, whole_text};
-ghost use Rattle.lrc_explore.specs.Answers.{FitsSettledNoted, MetTooMany};
+ghost use Rattle.lrc_explore.specs.Answers.{MetTooMany};
 ghost use Rattle.lrc_explore_text.specs.Outcomes.{AreLinesOf, ListsOutcomes, TellsOutcomes, none_ends, on_one_line, outcome_line, spaced};
 
 use crate::explored::Printout;
 use indexmap::IndexSet;
-use lrc_explore::answers::outcomes;
+use lrc_explore_less::answers::outcomes;
 use lrc_lang::program::Program;
 use lrc_orders::outcomes::Outcome;
 use lrc_orders::search::ExploreFault;
@@ -31,7 +31,6 @@ pub(crate) fn outcomes_told(
     ensures text { IfOk result (λ printout.
         TellsOutcomes program.now nodes (whole_text printout.parts.items)) }
     ensures status { IfOk result (λ printout. printout.status ≡ 0) }
-    ensures fits { IfOk result (λ _. FitsSettledNoted program.now nodes most) }
     ensures nodes { IfErr result (λ fault. fault ≢ ExploreFault.BadNodes) }
     ensures too_many { IfErr result (λ fault. fault ≡ ExploreFault.TooMany
         → MetTooMany program.now nodes most true false) }

@@ -1,4 +1,4 @@
-// A judgement of a text of acts whose racing pairs are written while they are found.
+// A judgement of a text of acts with its racing pairs, which are written one position after another.
 
 ghost use Rattle.std.specs.Prelude.{◌≡◌, ◌<◌, ◌≤◌, ◌++◌, All, Err, IfErr, IfOk, IfSome, OnErr, OnOk, Some, false, length, true};
 ghost use Rattle.std.specs.Io.KnownBytes.{Appends};
@@ -88,8 +88,8 @@ fn judgement_of(
     })
 }
 
-/// Writes a judgement: its first lines, then the racing pairs of each later position as soon as they are found, and
-/// last the line of the first race. It stops at the first write that fails.
+/// Writes a judgement: its first lines, then the racing pairs of each later position, and last the line of the first
+/// race. It stops at the first write that fails. That pairs are written as soon as they are found is code alone.
 pub fn put_pairs<W: Write>(
     alloc: Global,
     output: &mut Output<'_, W>,

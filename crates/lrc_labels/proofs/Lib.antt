@@ -3,6 +3,8 @@ pub mod Cuts
 pub mod Fields
 pub mod Forms
 pub mod Names
+pub mod Noted
+pub mod Reached
 pub mod Readings
 pub mod Rows
 pub mod Words

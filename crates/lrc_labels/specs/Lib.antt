@@ -3,5 +3,7 @@ pub mod Line
 pub mod Name
 pub mod Sizes
 pub mod Reading
+pub mod Spans
+pub mod Known
 pub mod Show
 pub mod Apart

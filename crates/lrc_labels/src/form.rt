@@ -4,7 +4,7 @@ ghost use Rattle.std.specs.Prelude.{◌≡◌, ◌<◌, ◌≤◌, ◌&&◌, ◌
 ghost use Rattle.std.specs.List.{list_all};
 ghost use Rattle.std.specs.Str.Parse.{digits_value};
 ghost use Rattle.lrc_labels.specs.Name.{is_numeral};
-ghost use Rattle.lrc_labels.specs.Reading.{form_seen, if_filled, locks_label, reading_of, several_label, single_label, size_fields, words_label};
+ghost use Rattle.lrc_labels.specs.Reading.{first_of, form_seen, if_filled, last_of, locks_label, reading_of, several_label, single_label, size_fields, words_label};
 ghost use Rattle.lrc_labels.specs.Sizes.{is_size, sizes_of};
 
 use crate::label::{Reason, Target};
@@ -27,6 +27,7 @@ pub fn reading_of<'t>(fields: &[&'t [u8]], words: u32, locks: u8) -> Result<Form
         (λ reason. reading_of words locks fields_are ≡ Err reason) }
     ensures sizes { IfOk result (λ form.
         list_all is_size (size_fields (map (λ field. field.now) fields.now)) ≡ true) }
+    ensures ends { IfOk result (λ form. first_of form.target ≤ last_of form.target) }
 {
     match fields {
         [kind, number, name] => reading_of_three(kind, number, name, words, locks),
@@ -44,11 +45,12 @@ fn reading_of_three<'t>(
     words: u32,
     locks: u8,
 ) -> Result<Form<'t>, Reason>
-    ensures { MatchResult result (λ form.
+    ensures is { MatchResult result (λ form.
         reading_of words locks (kind.now ∷ number.now ∷ name.entry.now ∷ [])
         ≡ Ok (form_seen form []))
         (λ reason. reading_of words locks (kind.now ∷ number.now ∷ name.entry.now ∷ [])
         ≡ Err reason) }
+    ensures ends { IfOk result (λ form. first_of form.target ≤ last_of form.target) }
 {
     if is_numeral(number) && is_name(name) {
         single_label(kind, number, name, words, locks)
@@ -73,6 +75,7 @@ fn reading_of_several<'t>(
         (λ reason. label_is ≡ Err reason) }
     ensures sizes { IfOk result (λ form.
         list_all is_size (map (λ size. size.now) sizes.now) ≡ true) }
+    ensures ends { IfOk result (λ form. first_of form.target ≤ last_of form.target) }
 {
     if is_numeral(first) && is_numeral(last) && is_name(name) && are_sizes(sizes) {
         several_label(kind, first, last, name, sizes, words, locks)
@@ -90,11 +93,12 @@ fn single_label<'t>(
     locks: u8,
 ) -> Result<Form<'t>, Reason>
     requires { is_numeral number.now ≡ true }
-    ensures { MatchResult result (λ form.
+    ensures is { MatchResult result (λ form.
         single_label words locks kind.now (digits_value 10 number.now) name.entry.now
         ≡ Ok (form_seen form []))
         (λ reason. single_label words locks kind.now (digits_value 10 number.now) name.entry.now
         ≡ Err reason) }
+    ensures ends { IfOk result (λ form. first_of form.target ≤ last_of form.target) }
 {
     if kind == b"word".as_slice() {
         match number_below(number, words) {
@@ -130,12 +134,13 @@ fn several_label<'t>(
     requires first { is_numeral first.now ≡ true }
     requires last { is_numeral last.now ≡ true }
     requires sizes { list_all is_size (map (λ size. size.now) sizes.now) ≡ true }
-    ensures { let label_is = several_label words locks kind.now (digits_value 10 first.now)
+    ensures is { let label_is = several_label words locks kind.now (digits_value 10 first.now)
         (digits_value 10 last.now) name.entry.now
         (sizes_of (map (λ size. size.now) sizes.now)) in
         MatchResult result (λ form. label_is
         ≡ Ok (form_seen form (sizes_of (map (λ size. size.now) sizes.now))))
         (λ reason. label_is ≡ Err reason) }
+    ensures ends { IfOk result (λ form. first_of form.target ≤ last_of form.target) }
 {
     if kind == b"words".as_slice() {
         words_label(first, last, name, sizes, words)
@@ -156,12 +161,13 @@ fn words_label<'t>(
     requires first { is_numeral first.now ≡ true }
     requires last { is_numeral last.now ≡ true }
     requires sizes { list_all is_size (map (λ size. size.now) sizes.now) ≡ true }
-    ensures { let label_is = words_label words (digits_value 10 first.now)
+    ensures is { let label_is = words_label words (digits_value 10 first.now)
         (digits_value 10 last.now) name.entry.now
         (sizes_of (map (λ size. size.now) sizes.now)) in
         MatchResult result (λ form. label_is
         ≡ Ok (form_seen form (sizes_of (map (λ size. size.now) sizes.now))))
         (λ reason. label_is ≡ Err reason) }
+    ensures ends { IfOk result (λ form. first_of form.target ≤ last_of form.target) }
 {
     let Some((first_word, last_word)) = range_of(first, last, words) else {
         return Err(Reason::NoSuchWord);
@@ -180,12 +186,13 @@ fn locks_label<'t>(
     requires first { is_numeral first.now ≡ true }
     requires last { is_numeral last.now ≡ true }
     requires sizes { list_all is_size (map (λ size. size.now) sizes.now) ≡ true }
-    ensures { let label_is = locks_label locks (digits_value 10 first.now)
+    ensures is { let label_is = locks_label locks (digits_value 10 first.now)
         (digits_value 10 last.now) name.entry.now
         (sizes_of (map (λ size. size.now) sizes.now)) in
         MatchResult result (λ form. label_is
         ≡ Ok (form_seen form (sizes_of (map (λ size. size.now) sizes.now))))
         (λ reason. label_is ≡ Err reason) }
+    ensures ends { IfOk result (λ form. first_of form.target ≤ last_of form.target) }
 {
     let Some((first_lock, last_lock)) = range_of(first, last, u32::from(locks)) else {
         return Err(Reason::NoSuchLock);
@@ -211,10 +218,11 @@ fn range_of(first: &[u8], last: &[u8], limit: u32) -> Option<(u32, u32)>
 // The label of so many words or locks, unless they are no whole rows of its sizes.
 fn if_filled<'t>(count: u32, form: Form<'t>, sizes: &[&[u8]]) -> Result<Form<'t>, Reason>
     requires { list_all is_size (map (λ size. size.now) sizes.now) ≡ true }
-    ensures { let sizes_are = sizes_of (map (λ size. size.now) sizes.now) in
+    ensures is { let sizes_are = sizes_of (map (λ size. size.now) sizes.now) in
         MatchResult result (λ same.
         if_filled count (form_seen form.entry sizes_are) ≡ Ok (form_seen same sizes_are))
         (λ reason. if_filled count (form_seen form.entry sizes_are) ≡ Err reason) }
+    ensures same { IfOk result (λ same. same.target ≡ form.entry.target) }
 {
     if fills(count, sizes) {
         Ok(form)

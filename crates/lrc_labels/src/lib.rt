@@ -6,6 +6,7 @@
 
 pub mod cut;
 mod form;
+mod known;
 pub mod label;
 pub mod laws;
 mod line;
@@ -13,6 +14,7 @@ mod name;
 mod reading;
 mod show;
 mod sizes;
+mod spans;
 
 pub use reading::{has_name, read_labels};
 pub use show::{

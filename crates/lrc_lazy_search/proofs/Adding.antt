@@ -26,8 +26,8 @@ use Rattle.lrc_lazy_known.specs.Effect.{word_of, IsKnowledgeAfter}
 use Rattle.lrc_lazy_search.specs.declared.state.LazyState.{LazyState}
 use Rattle.lrc_lazy_search.specs.declared.search.Task.{Task}
 use Rattle.lrc_lazy_search.specs.contracts.state.LazyStatePartialEq.TheImpl.{eq-value}
-use Rattle.lrc_lazy.specs.Standing.{with_memory, IsRenewed, Stands, CanMake, effect_at}
-use Rattle.lrc_lazy_search.specs.Searching.{Steps, IsFresh, IsAhead, still, onward, renewed, IsNext, AreNext, CountsNoneGone, HasStep, HasAll, AreEnough, of_one, of_all, IsNeat, IsReached, HasKey, AreThere}
+use Rattle.lrc_lazy.specs.Standing.{with_memory, IsRenewed, Stands, effect_at}
+use Rattle.lrc_lazy_search.specs.Searching.{Steps, IsFresh, IsAhead, still, onward, renewed, IsNext, AreNext, CanAct, ComesToTurn, CountsNoneGone, HasStep, HasAll, Leads, to_one, to_turn, AreEnough, of_one, of_all, IsNeat, IsReached, HasKey, AreThere}
 use Rattle.lrc_lazy_search.specs.Searching.{HasNexts, HasEnough, by_one, by_all, IsSearched, AreSearched, IsBegun}
 use Rattle.lrc_lazy_search.specs.Task.{IsTask, IsInOrder}
 use Rattle.lrc_lazy.proofs.Beginning.{stands_first, first_notes}
@@ -37,9 +37,13 @@ use Rattle.lrc_lazy.proofs.Stepping.{stands_on}
 
 -- ---- lists of next states
 
+pub leads_on : {flat : Flat} {key : LazyState} {P Q : LazyState → Type 0} → ((x : LazyState) → P x → Q x) → Leads flat key P → Leads flat key Q
+leads_on f (to_one ahead goes there) = to_one ahead goes (f ahead there)
+leads_on f (to_turn comes) = to_turn comes
+
 pub step_on : {flat : Flat} {key : LazyState} {node : ℕ} {deed : Deed} {old new : List LazyState} → Grows old new → HasStep flat key node deed old
     → HasStep flat key node deed new
-step_on g h = record { place = h.place; after = h.after; steps = h.steps; ahead = h.ahead; goes = h.goes; there = stays h.place h.ahead g h.there }
+step_on g h = record { after = h.after; steps = h.steps; leads = leads_on (λ x one. (one.0, stays one.0 x g one.1)) h.leads }
 
 pub next_push : (flat : Flat) (key after : LazyState) (old new : List LazyState) → new ≡ old ++ after ∷ [] → AreNext flat key old → IsNext flat key after
     → AreNext flat key new
@@ -166,7 +170,7 @@ pub key_on : {old new : List LazyState} {key : LazyState} → Grows old new → 
 key_on g h = record { place = h.place; stored = h.stored; there = stays h.place h.stored g h.there; same = h.same }
 
 begun_on : {program : Program} {flat : Flat} {old new : List LazyState} → Grows old new → IsBegun program flat old → IsBegun program flat new
-begun_on g b = record { first = b.first; stands = b.stands; none = b.none; ahead = b.ahead; goes = b.goes; has = key_on g b.has }
+begun_on g b = record { first = b.first; stands = b.stands; none = b.none; leads = leads_on (λ x has. key_on g has) b.leads }
 
 pub first_room : (task : Task) (key : LazyState) → IsFirst task.flat task.start key.state → (n : ℕ) → slice_index key.state.arrivals.items n < 2 ^ 63
 first_room task key first n =
@@ -192,11 +196,30 @@ first_in_order task old new key ahead b is none put first valid nothing notes wh
         stands = subst (λ (m : Plain). Stands task.program.now task.flat.nodes [] m key.knowledge) (sym machine)
             (stands_first task.program.now task.flat.nodes key.knowledge nothing);
         none = notes;
-        ahead = ahead;
-        goes = goes;
-        has = has;
+        leads = to_one ahead goes has;
       };
       distinct = distinct;
+    }
+
+none_distinct : (keys : List LazyState) → keys ≡ [] → IsDistinct eq-value.it keys
+unfolding IsDistinct
+none_distinct keys none = subst (λ l. IsDistinct eq-value.it l) (sym none) tt
+
+-- no state, where what lies ahead of the first one turns for ever
+pub first_turns : (task : Task) (keys : List LazyState) (key : LazyState) → IsTask task → keys ≡ [] → IsFirst task.flat task.start key.state
+    → ((word : ℕ) → word_of key.knowledge word ≡ []) → key.notes.items ≡ [] → ComesToTurn task.flat key → IsInOrder task keys
+first_turns task keys key is none first nothing notes turns =
+    let machine = first.begun ∙ is.begun in
+    record {
+      reached = λ k x at. let never : ◌≡◌ {A = Option LazyState} None (Some x) = ap (λ l. slice_get l k) (sym none) ∙ at in cc;
+      begun = record {
+        first = key;
+        stands = subst (λ (m : Plain). Stands task.program.now task.flat.nodes [] m key.knowledge) (sym machine)
+            (stands_first task.program.now task.flat.nodes key.knowledge nothing);
+        none = notes;
+        leads = to_turn turns;
+      };
+      distinct = none_distinct keys none;
     }
 
 -- one state more
@@ -244,7 +267,7 @@ pub all_next : (flat : Flat) (keys : List LazyState) (key : LazyState) (nexts : 
     → AreThere keys nexts → HasNexts flat keys key node
 all_next flat keys key nexts node all there deed can =
     let h = all deed can in
-    record { after = h.after; steps = h.steps; ahead = h.ahead; goes = h.goes; has = there h.place h.ahead h.there }
+    record { after = h.after; steps = h.steps; leads = leads_on (λ x one. there one.0 x one.1) h.leads }
 
 pub enough_next : (flat : Flat) (keys : List LazyState) (key : LazyState) (nexts : List LazyState) → AreEnough flat key nexts → AreThere keys nexts
     → HasEnough flat keys key
@@ -252,42 +275,24 @@ enough_next flat keys key nexts (of_one node front first all) there = by_one nod
 enough_next flat keys key nexts (of_all none all) there = by_all (λ node. all_next flat keys key nexts node (all node) there)
 
 pub searched_next : (flat : Flat) (keys : List LazyState) (outcomes : List Outcome) (key : LazyState) (nexts : List LazyState)
-    → AreEnough flat key nexts → AreThere keys nexts
-    → (((node : ℕ) (deed : Deed) → CanMake flat.words (plain_at flat key.state) key.knowledge node deed → ⊥) → HasOutcome outcomes key.notes.items)
-    → IsSearched flat keys outcomes key
-searched_next flat keys outcomes key nexts enough there gathered = record {
+    → AreEnough flat key nexts → AreThere keys nexts → CanAct flat key → IsSearched flat keys outcomes key
+searched_next flat keys outcomes key nexts enough there can = record {
   next = enough_next flat keys key nexts enough there;
-  gathered = gathered;
+  gathered = λ none. absurd (none can.node can.deed can.can);
 }
 
--- where there are no states to go on with, no node can make an act
-none_of : (flat : Flat) (key : LazyState) (nexts : List LazyState) (node : ℕ) → nexts ≡ [] → HasAll flat key node nexts
-    → (deed : Deed) → CanMake flat.words (plain_at flat key.state) key.knowledge node deed → ⊥
-none_of flat key nexts node none all deed can =
-    let h = all deed can in
-    let never : ◌≡◌ {A = Option LazyState} None (Some h.ahead) = ap (λ l. slice_get l h.place) (sym none) ∙ h.there in
-    cc
-
-pub none_next : (flat : Flat) (key : LazyState) (nexts : List LazyState) → nexts ≡ [] → AreEnough flat key nexts
-    → (node : ℕ) (deed : Deed) → CanMake flat.words (plain_at flat key.state) key.knowledge node deed → ⊥
-none_next flat key nexts none (of_one first front lowest all) node deed can = absurd (none_of flat key nexts first none all front.deed front.can)
-none_next flat key nexts none (of_all behind all) node deed can = none_of flat key nexts node none (all node) deed can
-
--- and where there are some, one can
-pub some_next : (flat : Flat) (key ahead : LazyState) → IsNext flat key ahead
-    → ((node : ℕ) (deed : Deed) → CanMake flat.words (plain_at flat key.state) key.knowledge node deed → ⊥) → ⊥
-some_next flat key ahead n none = none n.node n.deed (record {
-  memory = n.steps.makes.memory;
-  long = n.steps.makes.long;
-  after = with_memory (plain_at flat n.after.state) n.steps.makes.later;
-  made = n.steps.makes.made;
-  gives = n.steps.gives;
-})
+-- so is one at which no node can act, whose outcome is there
+pub searched_still : (flat : Flat) (keys : List LazyState) (outcomes : List Outcome) (key : LazyState) → ¬ CanAct flat key
+    → HasOutcome outcomes key.notes.items → IsSearched flat keys outcomes key
+searched_still flat keys outcomes key cannot has = record {
+  next = by_all (λ node deed can. absurd (cannot (record { node = node; deed = deed; can = can })));
+  gathered = λ none. has;
+}
 
 -- what was searched stays so
 next_on : (flat : Flat) (old new : List LazyState) (key : LazyState) (node : ℕ) → Grows old new → HasNexts flat old key node → HasNexts flat new key node
 next_on flat old new key node g next deed can =
-    let n = next deed can in record { after = n.after; steps = n.steps; ahead = n.ahead; goes = n.goes; has = key_on g n.has }
+    let n = next deed can in record { after = n.after; steps = n.steps; leads = leads_on (λ x has. key_on g has) n.leads }
 
 enough_on : (flat : Flat) (old new : List LazyState) (key : LazyState) → Grows old new → HasEnough flat old key → HasEnough flat new key
 enough_on flat old new key g (by_one node front first next) = by_one node front first (next_on flat old new key node g next)
@@ -327,7 +332,3 @@ no_items (x ∷ xs) e = absurd (omega (arith, e))
 pub first_item : {A : Type 0} (xs : List A) → 0 < length xs → (x : A) × (slice_get xs 0 ≡ Some x)
 first_item [] lt = absurd (omega (arith, lt))
 first_item (x ∷ xs) lt = (x, refl)
-
-pub none_there : (keys states : List LazyState) → states ≡ [] → AreThere keys states
-none_there keys states none k x at =
-    let never : ◌≡◌ {A = Option LazyState} None (Some x) = ap (λ l. slice_get l k) (sym none) ∙ at in cc

@@ -1,11 +1,13 @@
 -- What lies ahead of a state.
-use Rattle.std.proofs.Common.{◌≡◌, ℕ, ◌+◌, ◌≤◌, List, length, map, inl, inr, refl, ◌∙◌, ap, arith}
-use Rattle.std.specs.Prelude.{slice_index}
+use Rattle.std.proofs.Common.{◌≡◌, ℕ, ◌+◌, ◌≤◌, List, length, map, [], inl, inr, refl, sym, ◌∙◌, ap, arith}
+use Rattle.std.specs.Prelude.{Option, slice_index}
 use Rattle.std.proofs.lemmas.Bool.{cases_lt}
 use Rattle.std.proofs.lemmas.List.{get_or-map, get_or_past}
 use Rattle.lrc_trace.specs.declared.act.Deed.{Deed}
 use Rattle.lrc_trace.specs.declared.act.Deed.TheVariants.{Arrive}
 use Rattle.lrc_exec.specs.declared.spot.Flat.{Flat}
+use Rattle.lrc_exec.specs.declared.spot.Spot.{Spot}
+use Rattle.lrc_exec.specs.Spots.{spot_thread}
 use Rattle.lrc_exec.specs.Plain.{Plain}
 use Rattle.lrc_exec.specs.declared.state.State.{State}
 use Rattle.lrc_exec.specs.States.{plain_at, IsStateOf}
@@ -13,7 +15,10 @@ use Rattle.lrc_orders.proofs.Effects.{arrivals_after}
 use Rattle.lrc_orders_laws.proofs.Parts.{stepped}
 use Rattle.lrc_lazy.specs.Standing.{with_memory}
 use Rattle.lrc_lazy_search.specs.declared.state.LazyState.{LazyState}
-use Rattle.lrc_lazy_search.specs.Searching.{Makes, IsFresh, IsAhead, still, onward, renewed}
+use Rattle.lrc_lazy_search.specs.declared.state.Seen.{Seen}
+use Rattle.lrc_lazy_search.specs.Fit.{IsSeen}
+use Rattle.lrc_lazy_search.specs.Searching.{Makes, IsFresh, IsAhead, still, onward, renewed, ComesToTurn, GoesOn, IsAgain}
+use Rattle.lrc_lazy_search.proofs.Same.{same_back, same_through}
 
 -- one way behind another
 pub ahead_on : {flat : Flat} {key mid ahead : LazyState} → IsAhead flat key mid → IsAhead flat mid ahead → IsAhead flat key ahead
@@ -59,3 +64,41 @@ ahead_counts {flat} (onward {mid = mid} {after = after} node deed before forced 
     let few = ahead_counts before n in
     let same = arrivals_still flat mid.state after.state node deed forced.no_arrive steps.makes n in
     omega (arith, few, same)
+
+-- ---- states that turn for ever
+
+-- what lies further ahead
+pub turns_on : {flat : Flat} {key mid : LazyState} → IsAhead flat key mid → ComesToTurn flat mid → ComesToTurn flat key
+turns_on goes c = record { turning = c.turning; goes = ahead_on goes c.goes; turns = c.turns }
+
+-- two states that are where one was
+again_of : (flat : Flat) (key round : LazyState) (seen : Seen) → IsSeen key seen → IsSeen round seen → IsAgain flat key round
+again_of flat key round seen a b =
+    let holders : round.state.holders.items ≡ key.state.holders.items = sym b.holders ∙ a.holders in
+    let arrivals : round.state.arrivals.items ≡ key.state.arrivals.items = sym b.arrivals ∙ a.arrivals in
+    let spots : round.state.spots.items ≡ key.state.spots.items = sym b.spots ∙ a.spots in
+    record {
+      machine = ap (λ h. machine_of h round.state.arrivals.items round.state.spots.items) holders
+          ∙ ap (λ n. machine_of key.state.holders.items n round.state.spots.items) arrivals
+          ∙ ap (λ s. machine_of key.state.holders.items key.state.arrivals.items s) spots;
+      known = λ word. same_through (b.known word) (same_back (a.known word));
+    }
+  where
+    machine_of : List (Option ℕ) → List ℕ → List Spot → Plain
+    machine_of holders arrivals spots = record { memory = []; holders = holders; arrivals = arrivals; threads = map (spot_thread flat) spots }
+
+-- a state that is come to again
+pub turned : (flat : Flat) (key mid last round : LazyState) (seen : Seen) → IsAhead flat key mid → IsSeen mid seen → IsAhead flat mid last → GoesOn flat last round
+    → IsSeen round seen → ComesToTurn flat key
+turned flat key mid last round seen goes before further on after = record {
+  turning = mid;
+  goes = goes;
+  turns = record { last = last; goes = further; round = round; on = on; again = again_of flat mid round seen before after };
+}
+
+-- the state ahead of one that was seen, which lies ahead of the first
+pub record Since (flat : Flat) (key now : LazyState) (seen : Seen) : Type 0 where
+  pub mid : LazyState
+  pub goes : IsAhead flat key mid
+  pub was : IsSeen mid seen
+  pub further : IsAhead flat mid now

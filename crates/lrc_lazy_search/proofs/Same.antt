@@ -103,7 +103,7 @@ module _ (xs ys : List Known) (e : pointwise known_eq.it xs ys ≡ true) where
 pub same_itself : (xs : List Known) → IsSame xs xs
 same_itself xs = record { lasts = λ k. refl; values = λ k v. (λ c. c, λ c. c); above = λ k z. refl }
 
-knowledge_same : (a b : Knowledge) → knowledge_eq.it a b ≡ true → (word : ℕ) → IsSame (word_of a word) (word_of b word)
+pub knowledge_same : (a b : Knowledge) → knowledge_eq.it a b ≡ true → (word : ℕ) → IsSame (word_of a word) (word_of b word)
 knowledge_same a b e word = go (both_at word_eq.it a.words.items b.words.items e word)
   where
     go : Both word_eq.it a.words.items b.words.items word → IsSame (word_of a word) (word_of b word)
@@ -113,17 +113,31 @@ knowledge_same a b e word = go (both_at word_eq.it a.words.items b.words.items e
         subst (λ o. IsSame (word_of a word) (knowers_in o)) (sym q)
         (subst (λ o. IsSame (knowers_in o) y.knowers.items) (sym p) (words_alike x.knowers.items y.knowers.items h))
 
--- a state that compares equal stands for the same run
-pub stands_same : (program : Program) (nodes : ℕ) (flat : Flat) (acts : List Act) (a b : LazyState) → eq-value.it a b ≡ true
+-- what says the same of a word
+pub same_back : {xs ys : List Known} → IsSame xs ys → IsSame ys xs
+same_back e = record {
+  lasts = λ k. sym (e.lasts k);
+  values = λ k v. ((e.values k v).1, (e.values k v).0);
+  above = λ k z. sym (e.above k z);
+}
+
+pub same_through : {xs ys zs : List Known} → IsSame xs ys → IsSame ys zs → IsSame xs zs
+same_through e h = record {
+  lasts = λ k. h.lasts k ∙ e.lasts k;
+  values = λ k v. (λ c. (e.values k v).0 ((h.values k v).0 c), λ c. (h.values k v).1 ((e.values k v).1 c));
+  above = λ k z. h.above k z ∙ e.above k z;
+}
+
+-- where nodes stand and know the same, whatever the words, that is so for the same run
+pub stands_as : (program : Program) (nodes : ℕ) (flat : Flat) (acts : List Act) (a b : LazyState)
+    → with_memory (plain_at flat a.state) [] ≡ with_memory (plain_at flat b.state) []
+    → ((word : ℕ) → IsSame (word_of a.knowledge word) (word_of b.knowledge word))
     → Stands program nodes acts (plain_at flat a.state) a.knowledge → Stands program nodes acts (plain_at flat b.state) b.knowledge
-stands_same program nodes flat acts a b e s =
-    let p = and_parts (state_eq.it a.state b.state) _ e in
-    let q = and_parts (knowledge_eq.it a.knowledge b.knowledge) (pointwise act_eq.it a.notes.items b.notes.items) p.1 in
-    let machine = state_same flat a.state b.state p.0 in
+stands_as program nodes flat acts a b machine same s =
     let known : IsKnowledgeOf nodes program.locks s.gone acts b.knowledge = λ word.
     describes_moved (HappensBefore acts) (HappensBefore acts) (KnowsWrite nodes program.locks s.gone acts word) (KnowsWrite nodes program.locks s.gone acts word)
     (λ k i v h. h) (λ k i v h. h) (λ z k i m u v x y h. h) (λ z k i m u v x y h. h) (word_of a.knowledge word) (word_of b.knowledge word)
-    (s.known word) (knowledge_same a.knowledge b.knowledge q.0 word) in
+    (s.known word) (same word) in
     record {
       run = s.run;
       gone = s.gone;
@@ -139,6 +153,15 @@ stands_same program nodes flat acts a b e s =
       are = s.are;
       known = known;
     }
+
+-- a state that compares equal stands for the same run
+pub stands_same : (program : Program) (nodes : ℕ) (flat : Flat) (acts : List Act) (a b : LazyState) → eq-value.it a b ≡ true
+    → Stands program nodes acts (plain_at flat a.state) a.knowledge → Stands program nodes acts (plain_at flat b.state) b.knowledge
+stands_same program nodes flat acts a b e s =
+    let p = and_parts (state_eq.it a.state b.state) _ e in
+    let q = and_parts (knowledge_eq.it a.knowledge b.knowledge) (pointwise act_eq.it a.notes.items b.notes.items) p.1 in
+    stands_as program nodes flat acts a b (ap (λ (m : Plain). with_memory m []) (state_same flat a.state b.state p.0))
+    (knowledge_same a.knowledge b.knowledge q.0) s
 
 pub notes_same : (a b : LazyState) → eq-value.it a b ≡ true → a.notes.items ≡ b.notes.items
 notes_same a b e =

@@ -15,7 +15,8 @@ use Rattle.lrc_orders.specs.Notes.{notes_of, notes_with}
 use Rattle.lrc_orders.specs.Outcome.{HasOutcome}
 use Rattle.lrc_exec.specs.States.{plain_at, IsStateOf}
 use Rattle.lrc_lazy.specs.Lazy.{IsLazyOutcome}
-use Rattle.lrc_lazy_known.specs.Effect.{IsKnowledgeAfter}
+use Rattle.lrc_lazy_known.specs.Effect.{word_of, IsKnowledgeAfter}
+use Rattle.lrc_lazy_known.specs.Word.{IsSame}
 use Rattle.lrc_lazy_known.specs.Tidy.{IsTidy}
 use Rattle.lrc_lazy.specs.Swapped.{IsNoAcquire}
 use Rattle.lrc_lazy_search.specs.declared.state.LazyState.{LazyState}
@@ -82,6 +83,12 @@ pub record Steps (flat : Flat) (before : LazyState) (node : ℕ) (deed : Deed) (
   pub effect : IsKnowledgeAfter (effect_at flat.nodes flat.locks (plain_at flat before.state) node deed) before.knowledge after.knowledge
   pub notes : after.notes.items ≡ notes_with before.notes.items (act_of node deed)
 
+-- some node can do something
+pub record CanAct (flat : Flat) (key : LazyState) : Type 0 where
+  pub node : ℕ
+  pub deed : Deed
+  pub can : CanMake flat.words (plain_at flat key.state) key.knowledge node deed
+
 -- the node can do something other than acquire a lock
 pub record IsInFront (flat : Flat) (key : LazyState) (node : ℕ) : Type 0 where
   pub deed : Deed
@@ -108,6 +115,37 @@ pub data IsAhead (flat : Flat) (key : LazyState) : LazyState → Type 0 where
   onward : {mid after : LazyState} (node : ℕ) (deed : Deed) → IsAhead flat key mid → IsForced flat mid node deed → Steps flat mid node deed after
       → IsStateOf flat after.state → IsAhead flat key after
 
+-- one such deed leads from the state to another
+pub record GoesOn (flat : Flat) (key after : LazyState) : Type 0 where
+  pub node : ℕ
+  pub deed : Deed
+  pub forced : IsForced flat key node deed
+  pub steps : Steps flat key node deed after
+
+-- a state again: the nodes stand and know as before, whatever was noted
+pub record IsAgain (flat : Flat) (key again : LazyState) : Type 0 where
+  pub machine : with_memory (plain_at flat again.state) [] ≡ with_memory (plain_at flat key.state) []
+  pub known : (word : ℕ) → IsSame (word_of again.knowledge word) (word_of key.knowledge word)
+
+-- a state that turns for ever: such deeds, at least one, lead from it to it again
+pub record Turns (flat : Flat) (key : LazyState) : Type 0 where
+  pub last : LazyState
+  pub goes : IsAhead flat key last
+  pub round : LazyState
+  pub on : GoesOn flat last round
+  pub again : IsAgain flat key round
+
+-- such deeds lead to a state that turns for ever
+pub record ComesToTurn (flat : Flat) (key : LazyState) : Type 0 where
+  pub turning : LazyState
+  pub goes : IsAhead flat key turning
+  pub turns : Turns flat turning
+
+-- such deeds lead from the state to one of these, or to one that turns for ever
+pub data Leads (flat : Flat) (key : LazyState) (there : LazyState → Type 0) : Type 0 where
+  to_one : (ahead : LazyState) → IsAhead flat key ahead → there ahead → Leads flat key there
+  to_turn : ComesToTurn flat key → Leads flat key there
+
 -- some act, and then such deeds, lead to the state
 pub record IsNext (flat : Flat) (key ahead : LazyState) : Type 0 where
   pub node : ℕ
@@ -120,14 +158,15 @@ pub record IsNext (flat : Flat) (key ahead : LazyState) : Type 0 where
 abbrev pub AreNext : Flat → LazyState → List LazyState → Type 0
 AreNext flat key all = (k : ℕ) (after : LazyState) → slice_get all k ≡ Some after → IsNext flat key after
 
--- among the states is one to which a node's deed leads, and then such deeds
+-- the state is one of these
+abbrev pub IsOneOf : List LazyState → LazyState → Type 0
+IsOneOf all key = (place : ℕ) × (slice_get all place ≡ Some key)
+
+-- a node's deed, and then such deeds, lead to one of the states, or to one that turns for ever
 pub record HasStep (flat : Flat) (key : LazyState) (node : ℕ) (deed : Deed) (all : List LazyState) : Type 0 where
-  pub place : ℕ
   pub after : LazyState
   pub steps : Steps flat key node deed after
-  pub ahead : LazyState
-  pub goes : IsAhead flat after ahead
-  pub there : slice_get all place ≡ Some ahead
+  pub leads : Leads flat after (IsOneOf all)
 
 abbrev pub HasAll : Flat → LazyState → (node : ℕ) → List LazyState → Type 0
 HasAll flat key node all =
@@ -168,20 +207,19 @@ pub record HasKey (keys : List LazyState) (key : LazyState) : Type 0 where
 abbrev pub AreThere : (keys states : List LazyState) → Type 0
 AreThere keys states = (k : ℕ) (after : LazyState) → slice_get states k ≡ Some after → HasKey keys after
 
--- a node's deed, and then such deeds, lead to a state that is among them
+-- a node's deed, and then such deeds, lead to a state that is among them, or to one that turns for ever, behind which no run ends
 pub record HasNext (flat : Flat) (keys : List LazyState) (key : LazyState) (node : ℕ) (deed : Deed) : Type 0 where
   pub after : LazyState
   pub steps : Steps flat key node deed after
-  pub ahead : LazyState
-  pub goes : IsAhead flat after ahead
-  pub has : HasKey keys ahead
+  pub leads : Leads flat after (HasKey keys)
 
--- all that the node can do leads to states that are among them
+-- so it is of all that the node can do
 abbrev pub HasNexts : Flat → List LazyState → LazyState → (node : ℕ) → Type 0
 HasNexts flat keys key node =
     (deed : Deed) → CanMake flat.words (plain_at flat key.state) key.knowledge node deed → HasNext flat keys key node deed
 
--- enough of the state's next ones is there: those of the lowest node that can do something other than acquire a lock, or those of all nodes
+-- Enough of the state's next ones is there, but for those that turn for ever: those of the lowest node that can do something other than
+-- acquire a lock, or those of all nodes.
 pub data HasEnough (flat : Flat) (keys : List LazyState) (key : LazyState) : Type 0 where
   by_one : (node : ℕ) → IsInFront flat key node → IsFirstInFront flat key node → HasNexts flat keys key node → HasEnough flat keys key
   by_all : ((node : ℕ) → HasNexts flat keys key node) → HasEnough flat keys key
@@ -200,14 +238,12 @@ AreSearched flat keys outcomes index = (k : ℕ) (key : LazyState) → k < index
 abbrev pub AreSound : Program → Flat → List Outcome → Type 0
 AreSound program flat outcomes = (k : ℕ) (outcome : Outcome) → slice_get outcomes k ≡ Some outcome → IsLazyOutcome program flat.nodes outcome.notes.items
 
--- one of the states is the beginning, or ahead of it
+-- one of the states is the beginning, or ahead of it, or a state ahead of it turns for ever
 pub record IsBegun (program : Program) (flat : Flat) (keys : List LazyState) : Type 0 where
   pub first : LazyState
   pub stands : Stands program flat.nodes [] (plain_at flat first.state) first.knowledge
   pub none : first.notes.items ≡ []
-  pub ahead : LazyState
-  pub goes : IsAhead flat first ahead
-  pub has : HasKey keys ahead
+  pub leads : Leads flat first (HasKey keys)
 
 -- A search of the program's code met more states than a bound, no two of them equal, to each of which some lazy run leads. Each is written in
 -- the one way, so two of them differ in where a node stands in the code, in who holds what, in what is known, or in what was noted.
@@ -223,8 +259,8 @@ pub record MeetsMore (program : Program) (nodes most : ℕ) : Type 0 where
   pub distinct : IsDistinct eq-value.it keys
   pub reached : AreReached program flat keys
 
--- No more states than a bound are enough: the beginning is among them, or what lies ahead of it, and enough of the next ones of each; and the
--- outcomes are there of those that have none.
+-- No more states than a bound are enough: the beginning is among them, or what lies ahead of it, and enough of the next ones of each, but for
+-- states that turn for ever; and the outcomes are there of those that have none.
 pub record FitsLazily (program : Program) (nodes most : ℕ) (outcomes : List Outcome) : Type 0 where
   pub flat : Flat
   pub count : flat.nodes ≡ nodes

@@ -8,7 +8,7 @@ ghost use Rattle.lrc_lazy.specs.Lazy.{IsLazyOutcome};
 ghost use Rattle.lrc_lazy_search.specs.Searching.{FitsLazily, MeetsMore};
 ghost use Rattle.lrc_lazy_search.specs.Task.{IsTask};
 
-use crate::state::LazyState;
+use crate::state::{LONG_WAYS, LazyState};
 use indexmap::IndexSet;
 use lrc_exec::code::Code;
 use lrc_exec::spot::Flat;
@@ -116,14 +116,14 @@ pub(crate) struct Searched {
 }
 
 impl Searched {
-    ghost use Rattle.std.specs.Prelude.{◌≡◌, ◌≢◌, ◌↔◌, ◌<◌, ◌≤◌, ◌^◌, ◌-◌, ℕ, List, IfOk, IfErr, OnOk, Some, [], length, slice_get};
+    ghost use Rattle.std.specs.Prelude.{◌≡◌, ◌≢◌, ◌↔◌, ◌<◌, ◌≤◌, ◌^◌, ◌-◌, ℕ, List, IfOk, IfErr, OnOk, Some, [], false, true, length, slice_get};
     ghost use Rattle.std.specs.List.{IsDistinct};
     ghost use Rattle.lrc_trace.specs.declared.act.Act.{Act as ActType};
     ghost use Rattle.lrc_orders.specs.Kept.{Grows};
     ghost use Rattle.lrc_orders.specs.Outcome.{HasOutcome};
     ghost use Rattle.lrc_lazy.specs.Lazy.{IsLazyOutcome};
     ghost use Rattle.lrc_lazy_search.specs.declared.state.LazyState.{LazyState as StateType};
-    ghost use Rattle.lrc_lazy_search.specs.Searching.{AreEnough, AreNext, AreReached, AreSearched, AreSound, AreThere, IsBegun, FitsLazily, IsReached, IsSearched, MeetsMore};
+    ghost use Rattle.lrc_lazy_search.specs.Searching.{AreEnough, AreNext, AreReached, AreSearched, AreSound, AreThere, CanAct, IsBegun, FitsLazily, IsReached, IsSearched, MeetsMore};
     ghost use Rattle.lrc_lazy_search.specs.Task.{IsTask, IsInOrder};
 
     // No states, and no outcomes.
@@ -158,25 +158,33 @@ impl Searched {
         ensures fits { OnOk result (FitsLazily task.now.program.now task.now.flat.nodes
             task.now.most self.new.outcomes.keys) }
     {
-        self.begin(alloc, task)?;
-        self.go_through(alloc, task)
+        let mut spare = LONG_WAYS;
+        self.begin(alloc, task, &mut spare)?;
+        self.go_through(alloc, task, &mut spare)
     }
 
-    // Adds the start, or what it goes ahead to, where there are no states yet.
-    fn begin(&mut self, alloc: Global, task: &Task<'_>) -> Result<(), AllocError>
+    // Adds the start, or what it goes ahead to, where there are no states yet, unless that turns for ever.
+    fn begin(&mut self, alloc: Global, task: &Task<'_>, spare: &mut u32) -> Result<(), AllocError>
         requires task { IsTask task.now }
         requires none { self.old.states.keys ≡ [] }
         ensures order { OnOk result (IsInOrder task.now self.new.states.keys) }
         ensures same { self.new.outcomes ≡ self.old.outcomes }
     {
         let mut first = LazyState::start(alloc, &task.flat, task.start)?;
-        first.go_ahead(alloc, &task.flat)?;
+        if first.go_ahead(alloc, &task.flat, spare)? {
+            return Ok(());
+        }
         self.states.insert_full(first)?;
         Ok(())
     }
 
     // Goes through the states, in the order in which they are found.
-    fn go_through(&mut self, alloc: Global, task: &Task<'_>) -> Result<(), ExploreFault>
+    fn go_through(
+        &mut self,
+        alloc: Global,
+        task: &Task<'_>,
+        spare: &mut u32,
+    ) -> Result<(), ExploreFault>
         requires task { IsTask task.now }
         requires order { IsInOrder task.now self.old.states.keys }
         requires outcomes { self.old.outcomes.keys ≡ [] }
@@ -194,14 +202,20 @@ impl Searched {
             if self.states.len() > task.most {
                 return Err(ExploreFault::TooMany);
             }
-            self.visit(alloc, task, place)?;
+            self.visit(alloc, task, place, spare)?;
             place += 1;
         }
         Ok(())
     }
 
-    // Looks at a state: finds those to go on with, and takes its outcome where there are none.
-    fn visit(&mut self, alloc: Global, task: &Task<'_>, place: usize) -> Result<(), AllocError>
+    // Looks at a state: finds those to go on with, and takes its outcome where no node can act.
+    fn visit(
+        &mut self,
+        alloc: Global,
+        task: &Task<'_>,
+        place: usize,
+        spare: &mut u32,
+    ) -> Result<(), AllocError>
         requires task { IsTask task.now }
         requires order { IsInOrder task.now self.old.states.keys }
         requires sound { AreSound task.now.program.now task.now.flat self.old.outcomes.keys }
@@ -216,12 +230,25 @@ impl Searched {
             → slice_get self.old.states.keys place ≡ Some key
             → IsSearched task.now.flat self.new.states.keys self.new.outcomes.keys key) }
     {
-        let nexts = self.nexts_at(alloc, task, place)?;
-        if nexts.is_empty() {
-            self.take_outcome(alloc, task, place)
-        } else {
+        if self.can_act_at(alloc, task, place)? {
+            let nexts = self.nexts_at(alloc, task, place, spare)?;
             self.add_all(task, nexts)
+        } else {
+            self.take_outcome(alloc, task, place)
         }
+    }
+
+    // Whether a node can act at one of them.
+    fn can_act_at(&self, alloc: Global, task: &Task<'_>, place: usize) -> Result<bool, AllocError>
+        requires task { IsTask task.now }
+        requires order { IsInOrder task.now self.now.states.keys }
+        requires within { place < length self.now.states.keys }
+        ensures can { IfOk result (λ can. can ≡ true → (key : StateType)
+            → slice_get self.now.states.keys place ≡ Some key → CanAct task.now.flat key) }
+        ensures still { IfOk result (λ can. can ≡ false → (key : StateType)
+            → slice_get self.now.states.keys place ≡ Some key → ¬ CanAct task.now.flat key) }
+    {
+        self.states.as_slice()[place].can_act(alloc, &task.flat)
     }
 
     // The states to go on with from one of them.
@@ -230,6 +257,7 @@ impl Searched {
         alloc: Global,
         task: &Task<'_>,
         place: usize,
+        spare: &mut u32,
     ) -> Result<Vec<LazyState>, AllocError>
         requires task { IsTask task.now }
         requires order { IsInOrder task.now self.now.states.keys }
@@ -245,7 +273,7 @@ impl Searched {
             → slice_get self.now.states.keys place ≡ Some key
             → AreEnough task.now.flat key all.items) }
     {
-        self.states.as_slice()[place].nexts(alloc, &task.flat)
+        self.states.as_slice()[place].nexts(alloc, &task.flat, spare)
     }
 
     // Takes the outcome of a state at which no node can make an act.

@@ -7,7 +7,7 @@ ghost use Rattle.lrc_lazy_known.specs.Effect.{IsKnowledgeAfter, IsSmall, word_of
 ghost use Rattle.lrc_lazy_known.specs.Tidy.{IsTidy};
 ghost use Rattle.lrc_lazy_search.specs.Fit.{effect_of_flat};
 
-use lrc_exec::spot::Flat;
+use lrc_exec::spot::{Flat, Spot};
 use lrc_exec::state::State;
 use lrc_lazy_known::known::{Knowledge, KnownWord};
 use lrc_lazy_known::word::{Effect, copied, word_after};
@@ -15,8 +15,15 @@ use lrc_orders::notes::note;
 use lrc_trace::act::{Act, Deed};
 use std::alloc::{AllocError, Global};
 
-/// The most acts made one after another between two states that are told apart.
-const LONGEST: usize = 64;
+/// How many acts are made one after another before it is looked for whether they come round.
+const SHORT: usize = 64;
+
+/// The most acts made one after another between two states that are told apart, as long as long ways are to spare.
+const LONGEST: usize = 1 << 20;
+
+/// How many ways of the most acts a search makes. Behind them states are told apart after a short way, so that those of a
+/// program that counts for ever are soon too many.
+pub const LONG_WAYS: u32 = 8;
 
 /// A state of the search: where the nodes are, what they know of the writes, and what was noted on the way. The words
 /// of the state are all 0: what a node knows says what a read gives. What they know is written in one way alone. It
@@ -28,6 +35,15 @@ pub struct LazyState {
     pub notes: Vec<Act>,
 }
 
+/// Where a state was: without its words, which are 0, and without what was noted.
+#[derive(Drop)]
+pub(crate) struct Seen {
+    holders: Vec<Option<usize>>,
+    arrivals: Vec<u64>,
+    spots: Vec<Spot>,
+    knowledge: Knowledge,
+}
+
 impl LazyState {
     ghost use Rattle.std.specs.Prelude.{◌≡◌, ◌≤◌, ◌<◌, ◌^◌, ◌-◌, ℕ, IfOk, OnOk, Some, None, true, false, Contains, []};
     ghost use Rattle.std.specs.Prelude.{length, slice_get, slice_index};
@@ -37,8 +53,9 @@ impl LazyState {
     ghost use Rattle.lrc_lazy_known.specs.Effect.{word_of, IsKnowledgeAfter};
     ghost use Rattle.lrc_lazy_known.specs.Tidy.{IsTidy};
     ghost use Rattle.lrc_lazy.specs.Standing.{with_memory, departures_of, CanMake};
-    ghost use Rattle.lrc_lazy_search.specs.Fit.{IsFit};
-    ghost use Rattle.lrc_lazy_search.specs.Searching.{blanked, HasAll, AreEnough, AreNeat, AreNext, AreOnce, CountNoneGone, CountsNoneGone, IsAhead, IsBlank, IsFirstInFront, IsForced, IsFresh, IsInFront, IsNeat, Makes, Steps, IsPoked};
+    ghost use Rattle.lrc_orders.specs.Kept.{Grows};
+    ghost use Rattle.lrc_lazy_search.specs.Fit.{IsFit, IsSeen};
+    ghost use Rattle.lrc_lazy_search.specs.Searching.{blanked, CanAct, ComesToTurn, GoesOn, HasAll, HasStep, AreEnough, AreNeat, AreNext, AreOnce, CountNoneGone, CountsNoneGone, IsAhead, IsBlank, IsFirstInFront, IsForced, IsFresh, IsInFront, IsNeat, Makes, Steps, IsPoked};
 
     /// Returns the beginning of a program whose text begins at this place of the code.
     pub fn start(alloc: Global, flat: &Flat, place: usize) -> Result<LazyState, AllocError>
@@ -319,6 +336,7 @@ impl LazyState {
         requires room { (node : ℕ) → slice_index self.old.state.arrivals.items node < 2 ^ 63 }
         ensures ahead { OnOk result (IsAhead flat.now self.old self.new) }
         ensures neat { OnOk result (IsNeat flat.now self.old → IsNeat flat.now self.new) }
+        ensures made { IfOk result (λ made. made ≡ true → GoesOn flat.now self.old self.new) }
     {
         let Some(node) = self.in_front(flat) else {
             return Ok(false);
@@ -331,34 +349,99 @@ impl LazyState {
     }
 
     /// Makes deeds as long as the lowest node that can do something other than acquire a lock can do only one deed,
-    /// which is no arrive. It makes no more than `LONGEST` deeds. Then it leaves out the barriers that are gone. It fails
-    /// if memory runs out.
-    pub fn go_ahead(&mut self, alloc: Global, flat: &Flat) -> Result<(), AllocError>
+    /// which is no arrive. It makes no more than `LONGEST` deeds, and no more than `SHORT` where no long ways are to
+    /// spare. Then it leaves out the barriers that are gone. It returns whether the deeds turn for ever. It fails if
+    /// memory runs out.
+    pub fn go_ahead(
+        &mut self,
+        alloc: Global,
+        flat: &Flat,
+        spare: &mut u32,
+    ) -> Result<bool, AllocError>
         requires flat { IsFlat flat.now }
         requires state { IsStateOf flat.now self.old.state }
         requires room { (node : ℕ) → slice_index self.old.state.arrivals.items node < 2 ^ 63 }
         ensures ahead { OnOk result (IsAhead flat.now self.old self.new) }
         ensures neat { OnOk result (IsNeat flat.now self.old → IsNeat flat.now self.new) }
         ensures left { OnOk result (0 < flat.now.nodes → CountsNoneGone flat.now self.new) }
+        ensures turns { IfOk result (λ turns. turns ≡ true → ComesToTurn flat.now self.old) }
     {
-        self.go_on(alloc, flat)?;
-        self.renew(alloc, flat)
+        let turns = self.go_on(alloc, flat, spare)?;
+        self.renew(alloc, flat)?;
+        Ok(turns)
     }
 
-    // Makes such deeds.
-    fn go_on(&mut self, alloc: Global, flat: &Flat) -> Result<(), AllocError>
+    // Makes such deeds, and returns whether they turn for ever.
+    fn go_on(&mut self, alloc: Global, flat: &Flat, spare: &mut u32) -> Result<bool, AllocError>
         requires flat { IsFlat flat.now }
         requires state { IsStateOf flat.now self.old.state }
         requires room { (node : ℕ) → slice_index self.old.state.arrivals.items node < 2 ^ 63 }
         ensures ahead { OnOk result (IsAhead flat.now self.old self.new) }
         ensures neat { OnOk result (IsNeat flat.now self.old → IsNeat flat.now self.new) }
+        ensures turns { IfOk result (λ turns. turns ≡ true → ComesToTurn flat.now self.old) }
     {
-        for _ in 0..LONGEST {
+        for _ in 0..SHORT {
             if !self.step_ahead(alloc, flat)? {
-                return Ok(());
+                return Ok(false);
             }
         }
-        Ok(())
+        if *spare == 0 {
+            return Ok(false);
+        }
+        self.go_far(alloc, flat, spare)
+    }
+
+    // Makes many such deeds. To see that they come round, it compares the state with an earlier one (Brent 1980); it takes
+    // a new earlier state each time that twice as many deeds were made.
+    fn go_far(&mut self, alloc: Global, flat: &Flat, spare: &mut u32) -> Result<bool, AllocError>
+        requires flat { IsFlat flat.now }
+        requires state { IsStateOf flat.now self.old.state }
+        requires room { (node : ℕ) → slice_index self.old.state.arrivals.items node < 2 ^ 63 }
+        ensures ahead { OnOk result (IsAhead flat.now self.old self.new) }
+        ensures neat { OnOk result (IsNeat flat.now self.old → IsNeat flat.now self.new) }
+        ensures turns { IfOk result (λ turns. turns ≡ true → ComesToTurn flat.now self.old) }
+    {
+        let mut earlier = self.seen(alloc)?;
+        let mut again = SHORT;
+        for step in 0..LONGEST {
+            if !self.step_ahead(alloc, flat)? {
+                return Ok(false);
+            }
+            if self.is_again(&earlier) {
+                return Ok(true);
+            }
+            if step >= again {
+                earlier = self.seen(alloc)?;
+                again = step.saturating_add(step);
+            }
+        }
+        *spare = spare.saturating_sub(1);
+        Ok(false)
+    }
+
+    // Where the state is.
+    fn seen(&self, alloc: Global) -> Result<Seen, AllocError>
+        ensures { IfOk result (IsSeen self.now) }
+    {
+        Ok(Seen {
+            holders: copied(alloc, &self.state.holders)?,
+            arrivals: copied(alloc, &self.state.arrivals)?,
+            spots: copied(alloc, &self.state.spots)?,
+            knowledge: self.knowledge.after(alloc, Effect::Passes)?,
+        })
+    }
+
+    // Whether the state is where one was.
+    fn is_again(&self, earlier: &Seen) -> bool
+        ensures { result ≡ true → IsSeen self.now earlier.now }
+    {
+        if self.state.spots != earlier.spots {
+            return false;
+        }
+        if self.state.holders != earlier.holders || self.state.arrivals != earlier.arrivals {
+            return false;
+        }
+        self.knowledge == earlier.knowledge
     }
 
     // How often a node has departed from a barrier.
@@ -410,9 +493,31 @@ impl LazyState {
         Ok(())
     }
 
+    /// Returns whether a node can do something. It fails if memory runs out.
+    pub fn can_act(&self, alloc: Global, flat: &Flat) -> Result<bool, AllocError>
+        requires flat { IsFlat flat.now }
+        requires fit { IsFit flat.now self.now }
+        ensures can { IfOk result (λ can. can ≡ true → CanAct flat.now self.now) }
+        ensures still { IfOk result (λ can. can ≡ false → ¬ CanAct flat.now self.now) }
+    {
+        for node in 0..flat.nodes as usize {
+            let deeds = self.deeds(alloc, flat, node)?;
+            if !deeds.is_empty() {
+                return Ok(true);
+            }
+        }
+        Ok(false)
+    }
+
     /// Returns the states to go on with: those to which the lowest node leads that can do something other than acquire
-    /// a lock. If there is no such node, they are those to which any node leads. It fails if memory runs out.
-    pub fn nexts(&self, alloc: Global, flat: &Flat) -> Result<Vec<LazyState>, AllocError>
+    /// a lock. If there is no such node, they are those to which any node leads. Those that turn for ever are left out.
+    /// It fails if memory runs out.
+    pub fn nexts(
+        &self,
+        alloc: Global,
+        flat: &Flat,
+        spare: &mut u32,
+    ) -> Result<Vec<LazyState>, AllocError>
         requires flat { IsFlat flat.now }
         requires fit { IsFit flat.now self.now }
         requires room { (node : ℕ) → slice_index self.now.state.arrivals.items node < 2 ^ 63 - 1 }
@@ -425,15 +530,20 @@ impl LazyState {
         match self.in_front(flat) {
             Some(node) => {
                 let mut all = Vec::new(alloc);
-                self.nexts_of(alloc, flat, node, &mut all)?;
+                self.nexts_of(alloc, flat, node, spare, &mut all)?;
                 Ok(all)
             }
-            None => self.nexts_of_all(alloc, flat),
+            None => self.nexts_of_all(alloc, flat, spare),
         }
     }
 
     // Those that an act of any node leads to.
-    fn nexts_of_all(&self, alloc: Global, flat: &Flat) -> Result<Vec<LazyState>, AllocError>
+    fn nexts_of_all(
+        &self,
+        alloc: Global,
+        flat: &Flat,
+        spare: &mut u32,
+    ) -> Result<Vec<LazyState>, AllocError>
         requires flat { IsFlat flat.now }
         requires fit { IsFit flat.now self.now }
         requires room { (node : ℕ) → slice_index self.now.state.arrivals.items node < 2 ^ 63 - 1 }
@@ -445,7 +555,7 @@ impl LazyState {
     {
         let mut all = Vec::new(alloc);
         for node in 0..self.state.spots.len() {
-            self.nexts_of(alloc, flat, node, &mut all)?;
+            self.nexts_of(alloc, flat, node, spare, &mut all)?;
         }
         Ok(all)
     }
@@ -456,6 +566,7 @@ impl LazyState {
         alloc: Global,
         flat: &Flat,
         node: usize,
+        spare: &mut u32,
         all: &mut Vec<LazyState>,
     ) -> Result<(), AllocError>
         requires flat { IsFlat flat.now }
@@ -473,10 +584,41 @@ impl LazyState {
     {
         let deeds = self.deeds(alloc, flat, node)?;
         for place in 0..deeds.len() {
-            let mut next = self.after(alloc, flat, node, deeds[place])?;
-            next.go_ahead(alloc, flat)?;
-            all.push(next)?;
+            self.add_next(alloc, flat, node, deeds[place], spare, all)?;
         }
+        Ok(())
+    }
+
+    // Adds the one that a deed of a node leads to, if it does not turn for ever.
+    fn add_next(
+        &self,
+        alloc: Global,
+        flat: &Flat,
+        node: usize,
+        deed: Deed,
+        spare: &mut u32,
+        all: &mut Vec<LazyState>,
+    ) -> Result<(), AllocError>
+        requires flat { IsFlat flat.now }
+        requires fit { IsFit flat.now self.now }
+        requires can { CanMake flat.now.words (plain_at flat.now self.now.state) self.now.knowledge
+            node deed }
+        requires room { (node : ℕ) → slice_index self.now.state.arrivals.items node < 2 ^ 63 - 1 }
+        requires node { node < flat.now.nodes }
+        requires sound { AreNext flat.now self.now all.old.items }
+        ensures sound { OnOk result (AreNext flat.now self.now all.new.items) }
+        ensures grows { OnOk result (Grows all.old.items all.new.items) }
+        ensures has { OnOk result (HasStep flat.now self.now node deed all.new.items) }
+        ensures neat { OnOk result (IsNeat flat.now self.now → AreNeat flat.now all.old.items
+            → AreNeat flat.now all.new.items) }
+        ensures left { OnOk result (0 < flat.now.nodes → CountNoneGone flat.now all.old.items
+            → CountNoneGone flat.now all.new.items) }
+    {
+        let mut next = self.after(alloc, flat, node, deed)?;
+        if next.go_ahead(alloc, flat, spare)? {
+            return Ok(());
+        }
+        all.push(next)?;
         Ok(())
     }
 }

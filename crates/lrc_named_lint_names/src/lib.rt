@@ -3,4 +3,4 @@
 
 mod name_fault;
 
-pub use name_fault::{has_hint, lint_name_fault};
+pub use name_fault::lint_name_fault;

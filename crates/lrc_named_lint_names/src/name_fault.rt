@@ -7,7 +7,7 @@ ghost use Rattle.lrc_named_tokens.specs.View.{located_of};
 ghost use Rattle.lrc_named_tree.specs.View.{named_of, program_of};
 ghost use Rattle.lrc_named_entries.specs.View.{entry_seen};
 ghost use Rattle.lrc_named_name_hints.specs.Hint.{words_of};
-ghost use Rattle.lrc_named_name_hints.specs.Hints.{IsHintOf, has_hint};
+ghost use Rattle.lrc_named_name_hints.specs.Hints.{IsHintOf};
 ghost use Rattle.lrc_named_lint_names.specs.Told.{TellsFault, head_lines, nowhere, seen_by};
 
 use lrc_lint_fault::{Linted, no_program};
@@ -23,16 +23,6 @@ use lrc_named_name_hints::seen::Seen;
 use lrc_named_tokens::token::{Lexeme, Located, Place, Token};
 use lrc_named_tree::tree::{Name, NamedProgram};
 use std::alloc::{AllocError, Global};
-
-/// Returns whether a hint is told of faults of this kind.
-pub fn has_hint(kind: FaultKind) -> bool
-    ensures { result ≡ has_hint kind }
-{
-    !matches!(
-        kind,
-        FaultKind::WrongIndices | FaultKind::WrongArguments | FaultKind::IndexOutOfRange
-    )
-}
 
 /// Reports a fault of the names of a named program that has these tokens. The report names the file as it was given. It
 /// fails only if memory runs out.

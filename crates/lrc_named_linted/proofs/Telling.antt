@@ -1,5 +1,5 @@
 -- What is told of a text, by what was found in it.
-use Rattle.std.proofs.Common.{◌≡◌, ◌⊎◌, ℕ, List, map, Option, Some, None, MatchOption, Result, Ok, Err, IfOk, false, true, refl, sym, ap, subst, ◌∙◌, inl, inr}
+use Rattle.std.proofs.Common.{◌≡◌, ◌⊎◌, ℕ, List, map, Option, Some, None, MatchOption, Result, Ok, Err, IfOk, subst, inl, inr}
 use Rattle.std.specs.Option.{option_map}
 use Rattle.lrc_text.specs.Parts.{whole_text}
 use Rattle.lrc_lint_fault.specs.declared.linted.Linted.{Linted}
@@ -18,10 +18,9 @@ use Rattle.lrc_named_written.specs.declared.written.Written.{Written}
 use Rattle.lrc_named_written.specs.declared.written.Written.TheVariants as written
 use Rattle.lrc_named.specs.Lines.{lines_of}
 use Rattle.lrc_named.specs.Named.{IsFaultless}
-use Rattle.lrc_named_name_hints.specs.Hints.{has_hint}
 use Rattle.lrc_named_lint_core.specs.Told.{IsFaulty, told_of}
 use Rattle.lrc_named_lint_names.specs.Told.{TellsFault}
-use Rattle.lrc_named_linted.specs.Linted.{IsUntold, TellsNamed}
+use Rattle.lrc_named_linted.specs.Linted.{IsSound, TellsNamed}
 
 pub some_case : {A : Type 0} (P : Type 0) (Q : A → Type 0) (o : Option A) (a : A) → o ≡ Some a → MatchOption o P Q → Q a
 some_case P Q None a e h = absurd (cc)
@@ -41,10 +40,10 @@ pub by_both : {A E : Type 0} {P Q R : A → Type 0} (r : Result A E) → ((x : A
 by_both (Ok x) f p q = f x p q
 by_both (Err e) f p q = tt
 
--- this is told of a text, or nothing
+-- this is told of a text, or it has no fault
 abbrev pub IsAnswer : List ℕ → List ℕ → Option Linted → Type 0
 IsAnswer file text told =
-    MatchOption told (IsUntold text) (λ linted. TellsNamed file text (whole_text linted.parts.items) × (linted.status ≡ 1))
+    MatchOption told (IsSound text) (λ linted. TellsNamed file text (whole_text linted.parts.items) × (linted.status ≡ 1))
 
 -- of the first fault of the names
 pub name_told : (file text : List ℕ) (tokens : List Located) (tree : NamedTree) (fault : Fault) (linted : Linted) → IsNamed text tokens tree
@@ -54,11 +53,6 @@ name_told file text tokens tree fault linted parsed first tells is = (
   inr (inl (record { tokens = tokens; tree = tree; fault = fault; has = record { parsed = parsed; first = first }; tells = tells })),
   is,
 )
-
-pub name_untold : (text : List ℕ) (tokens : List Located) (tree : NamedTree) (fault : Fault) → IsNamed text tokens tree
-    → IsFirstOf (λ f. IsFaultOf tree f) (Some fault) → has_hint fault.kind ≡ false → IsUntold text
-name_untold text tokens tree fault parsed first none =
-    inl (record { tokens = tokens; tree = tree; fault = fault; has = record { parsed = parsed; first = first }; none = none })
 
 -- the names have no fault
 faultless : (text : List ℕ) (tokens : List Located) (tree : NamedTree) (layout : code_layout.Layout) → IsNamed text tokens tree → IsClean tree layout
@@ -70,14 +64,14 @@ pub core_told : (file text : List ℕ) (tokens : List Located) (tree : NamedTree
     → IsNamed text tokens tree → IsClean tree layout → IsWritten (declared_of layout.names) (lines_of tokens) tree found
     → option_map (λ (linted : Linted). whole_text linted.parts.items) told ≡ told_of file text tokens found → IsFaulty told → IsAnswer file text told
 core_told file text tokens tree layout (written.Core core origins owns) None parsed clean is told faulty =
-    inr (record {
+    record {
       tokens = tokens;
       tree = tree;
       declared = declared_of layout.names;
       core = core.items;
       is = faultless text tokens tree layout parsed clean;
       written = is.is;
-    })
+    }
 core_told file text tokens tree layout (written.Core core origins owns) (Some linted) parsed clean is told faulty = absurd (some_not_none told)
 core_told file text tokens tree layout (written.Over x) None parsed clean is told faulty = absurd (none_not_some told)
 core_told file text tokens tree layout (written.Over x) (Some linted) parsed clean is told faulty = (

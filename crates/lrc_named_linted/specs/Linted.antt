@@ -1,5 +1,5 @@
 -- What is told of a text that is read as a named program.
-use Rattle.std.specs.Prelude.{◌≡◌, ◌⊎◌, ℕ, true, false, Some, List, get_or}
+use Rattle.std.specs.Prelude.{◌≡◌, ◌⊎◌, ℕ, Some, List, get_or}
 use Rattle.lrc_named_tokens.specs.Token.{Located}
 use Rattle.lrc_named_tree.specs.Tree.{NamedTree}
 use Rattle.lrc_named_names.specs.Names.{Declared}
@@ -11,7 +11,6 @@ use Rattle.lrc_named_limits.specs.declared.excess.Excess.{Excess}
 use Rattle.lrc_named_written.specs.Written.{IsCoreLong, IsCoreOver, IsCoreText}
 use Rattle.lrc_named.specs.Lines.{lines_of}
 use Rattle.lrc_named.specs.Named.{IsFaultless}
-use Rattle.lrc_named_name_hints.specs.Hints.{has_hint}
 use Rattle.lrc_named_lint.specs.Told.{TellsText}
 use Rattle.lrc_named_lint_names.specs.Told.{TellsFault}
 use Rattle.lrc_named_lint_core.specs.Told.{core_long_lines, excess_lines, nowhere}
@@ -47,14 +46,6 @@ pub record TellsCore (file text printed : List ℕ) : Type 0 where
 abbrev pub TellsNamed : List ℕ → List ℕ → List ℕ → Type 0
 TellsNamed file text printed = TellsText file text printed ⊎ (TellsNames file text printed ⊎ TellsCore file text printed)
 
--- the first fault of the names is one of which no hint is told
-pub record HasUntoldFault (text : List ℕ) : Type 0 where
-  pub tokens : List Located
-  pub tree : NamedTree
-  pub fault : Fault
-  pub has : HasFirstFault text tokens tree fault
-  pub none : has_hint fault.kind ≡ false
-
 -- the text has no fault: this is its core
 pub record IsSound (text : List ℕ) : Type 0 where
   pub tokens : List Located
@@ -63,7 +54,3 @@ pub record IsSound (text : List ℕ) : Type 0 where
   pub core : List ℕ
   pub is : IsFaultless text tokens tree declared
   pub written : IsCoreText declared (lines_of tokens) tree core
-
--- nothing is told of it
-abbrev pub IsUntold : List ℕ → Type 0
-IsUntold text = HasUntoldFault text ⊎ IsSound text

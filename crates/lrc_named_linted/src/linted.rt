@@ -5,7 +5,7 @@ ghost use Rattle.lrc_text.specs.Parts.{whole_text};
 ghost use Rattle.lrc_named_check.specs.Program.{IsClean};
 ghost use Rattle.lrc_named_expression_faults.specs.Fault.{IsFirstOf};
 ghost use Rattle.lrc_named_faults.specs.Program.{IsFaultOf};
-ghost use Rattle.lrc_named_linted.specs.Linted.{IsUntold, TellsNamed};
+ghost use Rattle.lrc_named_linted.specs.Linted.{IsSound, TellsNamed};
 ghost use Rattle.lrc_named_parse.specs.Faults.{IsNamed};
 ghost use Rattle.lrc_named_tokens.specs.View.{located_of};
 ghost use Rattle.lrc_named_tree.specs.View.{program_of};
@@ -18,17 +18,17 @@ use lrc_named_faults::layout::Layout;
 use lrc_named_faults::values::Found;
 use lrc_named_lint::lint_text_fault;
 use lrc_named_lint_core::lint_core_fault;
-use lrc_named_lint_names::{has_hint, lint_name_fault};
+use lrc_named_lint_names::lint_name_fault;
 use lrc_named_parse::parse;
 use lrc_named_tokens::token::Located;
 use lrc_named_tree::tree::NamedProgram;
 use lrc_named_written::core_text;
 use std::alloc::{AllocError, Global};
 
-/// Reports the first fault of a text that is read as a named program, or returns none if the text has no fault, or one of
-/// which no hint is told. The report names the file as it was given. It fails only if memory runs out.
+/// Reports the first fault of a text that is read as a named program, or returns none if the text has no fault. The report
+/// names the file as it was given. It fails only if memory runs out.
 pub fn lint_named(alloc: Global, file: &[u8], text: &[u8]) -> Result<Option<Linted>, AllocError>
-    ensures { IfOk result (λ told. MatchOption told (IsUntold text.now)
+    ensures { IfOk result (λ told. MatchOption told (IsSound text.now)
         (λ linted. TellsNamed file.now text.now (whole_text linted.parts.items)
         × (linted.status ≡ 1))) }
 {
@@ -40,7 +40,7 @@ pub fn lint_named(alloc: Global, file: &[u8], text: &[u8]) -> Result<Option<Lint
 
 // The same, of a text that has no fault as such.
 fn lint_parsed(alloc: Global, file: &[u8], text: &[u8]) -> Result<Option<Linted>, AllocError>
-    ensures { IfOk result (λ told. MatchOption told (IsUntold text.now)
+    ensures { IfOk result (λ told. MatchOption told (IsSound text.now)
         (λ linted. TellsNamed file.now text.now (whole_text linted.parts.items)
         × (linted.status ≡ 1))) }
 {
@@ -58,7 +58,7 @@ fn lint_program(
     program: &NamedProgram<'_>,
 ) -> Result<Option<Linted>, AllocError>
     requires { IsNamed text.now (map located_of tokens.now) (program_of program.now) }
-    ensures { IfOk result (λ told. MatchOption told (IsUntold text.now)
+    ensures { IfOk result (λ told. MatchOption told (IsSound text.now)
         (λ linted. TellsNamed file.now text.now (whole_text linted.parts.items)
         × (linted.status ≡ 1))) }
 {
@@ -79,15 +79,11 @@ fn lint_names(
 ) -> Result<Option<Linted>, AllocError>
     requires parsed { IsNamed text.now (map located_of tokens.now) (program_of program.now) }
     requires first { IsFirstOf (λ f. IsFaultOf (program_of program.now) f) (Some fault) }
-    ensures { IfOk result (λ told. MatchOption told (IsUntold text.now)
+    ensures { IfOk result (λ told. MatchOption told (IsSound text.now)
         (λ linted. TellsNamed file.now text.now (whole_text linted.parts.items)
         × (linted.status ≡ 1))) }
 {
-    if has_hint(fault.kind) {
-        Ok(Some(lint_name_fault(alloc, file, text, tokens, program, fault)?))
-    } else {
-        Ok(None)
-    }
+    Ok(Some(lint_name_fault(alloc, file, text, tokens, program, fault)?))
 }
 
 // What is told of the core.
@@ -101,7 +97,7 @@ fn lint_core<'p>(
 ) -> Result<Option<Linted>, AllocError>
     requires parsed { IsNamed text.now (map located_of tokens.now) (program_of program.now) }
     requires clean { IsClean (program_of program.now) layout.now }
-    ensures { IfOk result (λ told. MatchOption told (IsUntold text.now)
+    ensures { IfOk result (λ told. MatchOption told (IsSound text.now)
         (λ linted. TellsNamed file.now text.now (whole_text linted.parts.items)
         × (linted.status ≡ 1))) }
 {

@@ -1,2 +1,3 @@
+pub mod Owning
 pub mod Searching
 pub mod Setting

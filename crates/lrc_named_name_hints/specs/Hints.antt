@@ -16,7 +16,8 @@ use Rattle.lrc_named_entries.specs.Entry.{Entry}
 use Rattle.lrc_named_name_hints.specs.declared.hint.Hint.TheVariants as hints
 use Rattle.lrc_named_name_hints.specs.declared.hint.Sense.{Sense}
 use Rattle.lrc_named_name_hints.specs.declared.hint.Sense.TheVariants as senses
-use Rattle.lrc_named_name_hints.specs.Hint.{declared_words, hint_words, is_words, near_words}
+use Rattle.lrc_named_name_hints.specs.Hint.{arguments_words, declared_words, hint_words, indices_words, is_words, near_words}
+use Rattle.lrc_named_name_hints.specs.Owner.{owner_before}
 use Rattle.lrc_named_name_hints.specs.Seen.{Seen, line_of, name_at, name_in}
 
 -- ---- what a name is
@@ -135,18 +136,33 @@ abbrev pub IsUnknownHint : Seen → Option (List ℕ) → Option (List ℕ) → 
 IsUnknownHint s None hint = hint ≡ None
 IsUnknownHint s (Some name) hint = IsUnknownHintBy (declared_place s name) (is_truth name) s name hint
 
+-- ---- wrong numbers of indices and arguments
+
+-- the name that indices (arguments) belong to of which the token at fault is one too many, or behind which it stands
+abbrev pub owner_in : Seen → (opened : ℕ) → Option (List ℕ)
+owner_in s opened = owner_before s.tokens s.at opened
+
+-- how many indices or arguments there are of what is declared so
+abbrev pub count_of_entry : Option Entry → ℕ
+count_of_entry None = 0
+count_of_entry (Some e) = e.count
+
+abbrev pub count_of : Seen → List ℕ → ℕ
+count_of s name = count_of_entry (find (is_entry name) s.entries)
+
+abbrev pub indices_row : Seen → Option (List ℕ) → Option (List ℕ)
+indices_row s None = None
+indices_row s (Some name) = Some (indices_words name (count_of s name))
+
+abbrev pub arguments_row : Seen → Option (List ℕ) → Option (List ℕ)
+arguments_row s None = None
+arguments_row s (Some name) = Some (arguments_words name (count_of s name))
+
 -- ---- all of it
 
 abbrev pub use_row : Seen → Option (List ℕ) → Option (List ℕ)
 use_row s None = None
 use_row s (Some name) = Some (is_words name (sense_of s name))
-
--- the kinds of faults of which hints are told
-abbrev pub has_hint : FaultKind → Bool
-has_hint kinds.WrongIndices = false
-has_hint kinds.WrongArguments = false
-has_hint kinds.IndexOutOfRange = false
-has_hint other = true
 
 -- the words of the hint on a fault of this kind, if it has one
 abbrev pub IsHintOf : FaultKind → Seen → Option (List ℕ) → Type 0
@@ -154,7 +170,9 @@ IsHintOf kinds.DeclaredTwice s hint = hint ≡ twice_row s
 IsHintOf kinds.ReservedName s hint = hint ≡ Some (hint_words hints.Reserved)
 IsHintOf kinds.UnknownName s hint = IsUnknownHint s (name_at s) hint
 IsHintOf kinds.WrongUse s hint = hint ≡ use_row s (name_at s)
+IsHintOf kinds.WrongIndices s hint = hint ≡ indices_row s (owner_in s 0)
+IsHintOf kinds.WrongArguments s hint = hint ≡ arguments_row s (owner_in s 1)
 IsHintOf kinds.NotConstant s hint = hint ≡ Some (hint_words hints.NotConstant)
 IsHintOf (kinds.OverLimit limit) s hint = hint ≡ Some (hint_words (hints.Over limit))
 IsHintOf kinds.TooManyNames s hint = hint ≡ Some (hint_words hints.TooManyNames)
-IsHintOf other s hint = hint ≡ None
+IsHintOf kinds.IndexOutOfRange s hint = hint ≡ None

@@ -1,3 +1,4 @@
 pub mod Hint
 pub mod Hints
+pub mod Owner
 pub mod Seen

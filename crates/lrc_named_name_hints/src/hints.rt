@@ -4,7 +4,7 @@ ghost use Rattle.std.specs.Prelude.{◌≡◌, IfOk, map};
 ghost use Rattle.std.specs.List.{find};
 ghost use Rattle.std.specs.Option.{option_map};
 ghost use Rattle.lrc_named_name_hints.specs.Hint.{words_of};
-ghost use Rattle.lrc_named_name_hints.specs.Hints.{IsHintOf, IsUnknownHint, declared_place, declared_row, earlier_entry, earlier_parameter, is_entry};
+ghost use Rattle.lrc_named_name_hints.specs.Hints.{IsHintOf, IsUnknownHint, arguments_row, count_of, declared_place, declared_row, earlier_entry, earlier_parameter, indices_row, is_entry, owner_in};
 ghost use Rattle.lrc_named_name_hints.specs.Hints.{is_truth, sense_of, sense_of_entry, sense_of_sort, stood, twice_place, twice_row, use_row};
 ghost use Rattle.lrc_named_name_hints.specs.Seen.{name_at, seen_of};
 ghost use Rattle.lrc_named_entries.specs.View.{entry_seen};
@@ -12,6 +12,7 @@ ghost use Rattle.lrc_named_tree.specs.View.{named_of};
 
 use crate::hint::{Hint, Sense};
 use crate::near::near;
+use crate::owner::owner;
 use crate::seen::{Seen, is_entry, is_parameter};
 use lrc_named_entries::entry::{Entry, Sort};
 use lrc_named_expression_faults::fault::FaultKind;
@@ -34,9 +35,9 @@ pub fn hint_for<'t>(
         FaultKind::NotConstant => Ok(Some(Hint::NotConstant)),
         FaultKind::OverLimit(limit) => Ok(Some(Hint::Over(limit))),
         FaultKind::TooManyNames => Ok(Some(Hint::TooManyNames)),
-        FaultKind::WrongIndices | FaultKind::WrongArguments | FaultKind::IndexOutOfRange => Ok(
-            None,
-        ),
+        FaultKind::WrongIndices => Ok(wrong_indices(seen)),
+        FaultKind::WrongArguments => Ok(wrong_arguments(seen)),
+        FaultKind::IndexOutOfRange => Ok(None),
     }
 }
 
@@ -148,6 +149,38 @@ fn wrong_use<'t>(seen: &Seen<'t>) -> Option<Hint<'t>>
         Some(name) => Some(Hint::Is(name, sense_of(seen, name))),
         None => None,
     }
+}
+
+// The hint that tells how many indices an item has.
+fn wrong_indices<'t>(seen: &Seen<'t>) -> Option<Hint<'t>>
+    ensures { words_of result ≡ indices_row (seen_of seen.now) (owner_in (seen_of seen.now) 0) }
+{
+    match owner(seen.tokens, seen.at, 0) {
+        Some(name) => Some(Hint::Indices(name, count_of(seen, name))),
+        None => None,
+    }
+}
+
+// The hint that tells how many arguments a function takes.
+fn wrong_arguments<'t>(seen: &Seen<'t>) -> Option<Hint<'t>>
+    ensures { words_of result ≡ arguments_row (seen_of seen.now) (owner_in (seen_of seen.now) 1) }
+{
+    match owner(seen.tokens, seen.at, 1) {
+        Some(name) => Some(Hint::Arguments(name, count_of(seen, name))),
+        None => None,
+    }
+}
+
+// How many indices or arguments there are of what a name is; none of what is not declared.
+fn count_of(seen: &Seen<'_>, name: &[u8]) -> usize
+    ensures { result ≡ count_of (seen_of seen.now) name.now }
+{
+    for entry in seen.entries {
+        if is_entry(name, entry) {
+            return entry.count;
+        }
+    }
+    0
 }
 
 // What a name is.

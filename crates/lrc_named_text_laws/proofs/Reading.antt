@@ -25,7 +25,7 @@ tree_of words locks statements =
     record { words = words; locks = locks; statements = block_coded (numbers_among (with_statements [] statements)) statements }
 
 -- the tokens are in the grammar
-parsed : (words locks : ℕ) (statements : Block) → IsProgram (tree_of words locks statements) (program_tokens words locks statements)
+pub parsed : (words locks : ℕ) (statements : Block) → IsProgram (tree_of words locks statements) (program_tokens words locks statements)
 parsed words locks statements =
     let names = with_statements [] statements in
     let ts = program_tokens words locks statements in
@@ -33,13 +33,13 @@ parsed words locks statements =
     let symbols_are : symbols ts ≡ Sy names ts = by_all ts [] ∙ ap (λ n. map (symbol_of n) ts) all_is in
     subst (AreSymbolsOf (tree_of words locks statements)) (sym symbols_are) (grammar.program (block_parsed names statements (finish ∷ [])))
 
-same_token : {t u : Token} → token t ≡ token u → t ≡ u
+pub same_token : {t u : Token} → token t ≡ token u → t ≡ u
 same_token e = cc
 
-head_same : {A : Type 0} {x y : A} {xs ys : List A} → x ∷ xs ≡ y ∷ ys → x ≡ y
+pub head_same : {A : Type 0} {x y : A} {xs ys : List A} → x ∷ xs ≡ y ∷ ys → x ≡ y
 head_same e = cc
 
-tail_same : {A : Type 0} {x y : A} {xs ys : List A} → x ∷ xs ≡ y ∷ ys → xs ≡ ys
+pub tail_same : {A : Type 0} {x y : A} {xs ys : List A} → x ∷ xs ≡ y ∷ ys → xs ≡ ys
 tail_same e = cc
 
 -- the tokens of a text without a fault are what stands in it

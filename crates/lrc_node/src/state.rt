@@ -63,6 +63,7 @@ impl<'c> NodeState<'c> {
         let locks = code.locks();
         let memory = Memory::new(alloc, me, nodes, words, options.size)?;
         let mail = Mail::new(alloc, nodes)?;
+        let clock = Clock::new(alloc, me, nodes, locks)?;
         Ok(NodeState {
             alloc,
             me,
@@ -71,7 +72,7 @@ impl<'c> NodeState<'c> {
             locks,
             options: *options,
             text: Text::new(code, me, nodes, options.steps),
-            clock: Clock::new(me, nodes, locks),
+            clock,
             barrier: Barrier::new(alloc, me, nodes),
             memory,
             mail,

@@ -1,16 +1,17 @@
 // Asking of two accesses what separates them.
-ghost use Rattle.std.specs.Prelude.{◌≡◌, ℕ, ◌<◌, ◌≤◌, ◌↔◌, List, IfOk, IsTrue, OnOk, length};
+ghost use Rattle.std.specs.Prelude.{◌≡◌, ℕ, ◌<◌, ◌≤◌, ◌↔◌, List, IfOk, IsTrue, OnOk, length, slice_index};
 ghost use Rattle.lrc_races_trace.specs.declared.event.Event.{Event as AnyEvent};
 ghost use Rattle.lrc_races_trace.specs.Trace.{Accesses, At};
+ghost use Rattle.lrc_races_detector.specs.Vectors.{entries};
 ghost use Rattle.lrc_races_text.specs.declared.asked.Sought.{Sought as AnySought};
 ghost use Rattle.lrc_races_text.specs.Detecting.{HasTaken};
 ghost use Rattle.lrc_races_locations.specs.Rivals.{IsBehind, Separates};
 ghost use Rattle.lrc_races_claims.specs.Asking.{HasAsked, IsAsking, IsAskingUpTo};
 
+use lrc_races_detector::vectors::Known;
 use lrc_races_text::asked::Sought;
 use lrc_races_text::race_detector::RaceDetector;
 use lrc_races_trace::event::{Event, Pair};
-use lrc_races_witness::past::is_below;
 use lrc_races_witness::relation::Access;
 use std::alloc::{AllocError, Global};
 
@@ -25,15 +26,23 @@ pub struct Asker {
 }
 
 // What separates earlier accesses from the next event, if it is an access of this thread.
-fn known_of(detector: &RaceDetector, thread: u32) -> &[u64]
+fn known_of(detector: &RaceDetector, thread: u32) -> Known<'_>
     ensures { (sought : AnySought) (events : List AnyEvent) (n variable : ℕ) (event : AnyEvent)
         → HasTaken sought events n detector.now → At events n event → event.thread ≡ thread
-        → Accesses event variable → IsBehind sought events n result.now }
+        → Accesses event variable → IsBehind sought events n (entries result) }
 {
     match detector {
         RaceDetector::All(detector) => detector.threads.row(thread as usize),
         RaceDetector::Sure(detector) => detector.threads.row(thread as usize),
     }
+}
+
+// Whether the access is below what is known of its thread.
+fn is_below(known: Known<'_>, access: Access) -> bool
+    ensures { IsTrue result
+        ↔ (access.position < slice_index (entries known.entry) access.thread) }
+{
+    (access.position as u64) < known.of(access.thread)
 }
 
 impl Asker {
@@ -107,6 +116,6 @@ impl Asker {
     {
         self.reach(events, later.position)?;
         let known = known_of(&self.detector, later.thread);
-        Ok(is_below(known, earlier.thread, earlier.position))
+        Ok(is_below(known, earlier))
     }
 }

@@ -1,10 +1,12 @@
 pub mod Pushing
+pub mod Entries
 pub mod Gathering
 pub mod Handing
 pub mod Holding
 pub mod Giving
 pub mod Noting
 pub mod Telling
+pub mod Written
 pub mod Collecting
 pub mod Pairs
 pub mod Placing

@@ -1,8 +1,10 @@
 -- What is kept of a barrier, and what changes of it.
 use Rattle.std.specs.Prelude.{◌≡◌, ◌≢◌, ℕ, ◌+◌, ◌<◌, ◌≤◌, ◌⊎◌, ◌==◌, if◌then◌else◌, List, [], Option, Some, None, max, slice_get, slice_index}
+use Rattle.std.specs.declared.alloc.Global.{Global}
+use Rattle.std.specs.declared.rc.Rc.{Rc}
 use Rattle.lrc_races_detector.specs.declared.barriers.Barrier.{Barrier}
-use Rattle.lrc_races_detector.specs.declared.clocks.Clocks.{Clocks}
-use Rattle.lrc_races_detector.specs.Clocks.{row}
+use Rattle.lrc_races_detector.specs.declared.vectors.Vector.{Vector}
+use Rattle.lrc_races_detector.specs.Vectors.{held}
 
 -- the number of the open cycle; of a barrier that is not kept it is the first
 abbrev pub current_of : Option Barrier → ℕ
@@ -21,12 +23,18 @@ cycle_of None thread = None
 
 -- what the arrives of the open cycle know
 abbrev pub open_of : Option Barrier → List ℕ
-open_of (Some barrier) = barrier.arrived.items
+open_of (Some barrier) = held barrier.arrived
 open_of None = []
+
+-- what a thread shares with others, if it does
+abbrev pub shared_at : Option (Option (Rc Vector Global)) → List ℕ
+shared_at (Some (Some known)) = held known.value
+shared_at (Some None) = []
+shared_at None = []
 
 -- what those of a thread's cycle know, where it is closed
 abbrev pub closed_of : Option Barrier → ℕ → List ℕ
-closed_of (Some barrier) thread = row barrier.closed thread
+closed_of (Some barrier) thread = shared_at (slice_get barrier.closed.items thread)
 closed_of None thread = []
 
 -- what a depart of the thread comes to know, whose last arrive is of this cycle
@@ -49,11 +57,16 @@ pub record IsSet (before after : List (Option ℕ)) (thread cycle : ℕ) : Type 
   pub here : cycle_at (slice_get after thread) ≡ Some cycle
   pub others : (other : ℕ) → other ≢ thread → cycle_at (slice_get after other) ≡ cycle_at (slice_get before other)
 
--- Of the threads below this one, those of the open cycle have what its arrives know; all others have what they had.
-pub record IsKeptBelow (count : ℕ) (before after : Clocks) (of : List (Option ℕ)) (current : ℕ) (known : List ℕ) : Type 0 where
-  pub here : (thread : ℕ) → thread < count → cycle_at (slice_get of thread) ≡ Some current → row after thread ≡ known
-  pub others : (thread : ℕ) → cycle_at (slice_get of thread) ≢ Some current → row after thread ≡ row before thread
-  pub above : (thread : ℕ) → count ≤ thread → row after thread ≡ row before thread
+-- the thread shares this, and all others share what they did
+pub record IsShared (before after : List (Option (Rc Vector Global))) (thread : ℕ) (known : List ℕ) : Type 0 where
+  pub here : shared_at (slice_get after thread) ≡ known
+  pub others : (other : ℕ) → other ≢ thread → shared_at (slice_get after other) ≡ shared_at (slice_get before other)
+
+-- Of the threads below this one, those of the open cycle share what its arrives know; all others share what they did.
+pub record IsKeptBelow (count : ℕ) (before after : List (Option (Rc Vector Global))) (of : List (Option ℕ)) (current : ℕ) (known : List ℕ) : Type 0 where
+  pub here : (thread : ℕ) → thread < count → cycle_at (slice_get of thread) ≡ Some current → shared_at (slice_get after thread) ≡ known
+  pub others : (thread : ℕ) → cycle_at (slice_get of thread) ≢ Some current → shared_at (slice_get after thread) ≡ shared_at (slice_get before thread)
+  pub above : (thread : ℕ) → count ≤ thread → shared_at (slice_get after thread) ≡ shared_at (slice_get before thread)
 
 -- a thread that knows so much has arrived
 pub record IsArrived (before after : Option Barrier) (thread : ℕ) (known : List ℕ) : Type 0 where

@@ -1,12 +1,12 @@
 -- What is known at each index, and what changes there.
-use Rattle.std.specs.Prelude.{◌≡◌, ◌≢◌, ℕ, List, [], Option, Some, None, Vec, max, slice_get, slice_index}
-use Rattle.std.specs.declared.alloc.Global.{Global}
+use Rattle.std.specs.Prelude.{◌≡◌, ◌≢◌, ℕ, List, [], Option, Some, None, max, slice_get, slice_index}
 use Rattle.lrc_races_detector.specs.declared.clocks.Clocks.{Clocks}
-use Rattle.lrc_races_detector.specs.Vectors.{IsPut}
+use Rattle.lrc_races_detector.specs.declared.vectors.Vector.{Vector}
+use Rattle.lrc_races_detector.specs.Vectors.{IsPut, held}
 
 -- the entries of a row; where there is none, none
-abbrev pub entries_of : Option (Vec ℕ Global) → List ℕ
-entries_of (Some row) = row.items
+abbrev pub entries_of : Option Vector → List ℕ
+entries_of (Some row) = held row
 entries_of None = []
 
 abbrev pub row : Clocks → ℕ → List ℕ

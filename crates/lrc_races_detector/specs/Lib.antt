@@ -2,6 +2,7 @@ pub mod Vectors
 pub mod Clocks
 pub mod Barriers
 pub mod Variables
+pub mod Written
 pub mod Knowing
 pub mod Detecting
 pub mod Held

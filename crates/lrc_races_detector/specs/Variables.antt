@@ -1,9 +1,9 @@
 -- What is kept of variables, what changes there, and what is told by it.
 use Rattle.std.specs.Prelude.{◌≡◌, ◌≢◌, ℕ, zero, suc, ◌<◌, ◌≤◌, ◌==◌, nat_lt, Bool, if◌then◌else◌, List, []}
-use Rattle.std.specs.Prelude.{◌∷◌, ◌++◌, length, Option, Some, None, Vec, AllPairs, Contains, option_to_list, slice_get, slice_index, slice_index_or}
-use Rattle.std.specs.declared.alloc.Global.{Global}
+use Rattle.std.specs.Prelude.{◌∷◌, ◌++◌, length, Option, Some, None, AllPairs, Contains, option_to_list, slice_get, slice_index, slice_index_or}
 use Rattle.lrc_races_trace.specs.declared.event.Pair.{Pair}
 use Rattle.lrc_races_trace.specs.declared.event.Placed.{Placed}
+use Rattle.lrc_races_detector.specs.declared.accesses.Accesses.{Accesses}
 use Rattle.lrc_races_detector.specs.declared.variables.Last.{Last}
 use Rattle.lrc_races_detector.specs.declared.variables.Variables.{Variables}
 
@@ -14,8 +14,8 @@ thread_of last = last.access.event.thread
 abbrev pub IsAscending : List Last → Type 0
 IsAscending lasts = AllPairs (λ a b. thread_of a < thread_of b) lasts
 
-abbrev pub items_of : Option (Vec Last Global) → List Last
-items_of (Some row) = row.items
+abbrev pub items_of : Option Accesses → List Last
+items_of (Some row) = row.lasts.items
 items_of None = []
 
 abbrev pub lasts_of : Variables → ℕ → List Last

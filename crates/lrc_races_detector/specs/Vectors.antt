@@ -1,9 +1,17 @@
--- What changes in a vector.
-use Rattle.std.specs.Prelude.{◌≡◌, ◌≢◌, ℕ, ◌≤◌, ◌<◌, List, length, max, slice_index}
+-- What vectors say, and what changes in one.
+use Rattle.std.specs.Prelude.{◌≡◌, ◌≢◌, ◌==◌, if◌then◌else◌, ℕ, zero, suc, ◌≤◌, ◌<◌, List, [], ◌∷◌, Option, Some, None, length, max, slice_index}
+use Rattle.lrc_races_detector.specs.declared.vectors.Entry.{Entry}
+use Rattle.lrc_races_detector.specs.declared.vectors.Known.{Known}
+use Rattle.lrc_races_detector.specs.declared.vectors.Vector.{Vector}
 
 -- the entry has this value, and all others are as before
 pub record IsPut (before after : List ℕ) (thread value : ℕ) : Type 0 where
   pub here : slice_index after thread ≡ value
+  pub others : (other : ℕ) → other ≢ thread → slice_index after other ≡ slice_index before other
+
+-- the entry has at least this value, and all others are as before
+pub record IsRaised (before after : List ℕ) (thread value : ℕ) : Type 0 where
+  pub here : slice_index after thread ≡ max (slice_index before thread) value
   pub others : (other : ℕ) → other ≢ thread → slice_index after other ≡ slice_index before other
 
 -- the first so many entries of the other vector are joined
@@ -11,3 +19,27 @@ pub record IsJoinedBelow (count : ℕ) (before more after : List ℕ) : Type 0 w
   pub long : count ≤ length after
   pub below : (thread : ℕ) → thread < count → slice_index after thread ≡ max (slice_index before thread) (slice_index more thread)
   pub above : (thread : ℕ) → count ≤ thread → slice_index after thread ≡ slice_index before thread
+
+-- entries of which one has at least this value
+abbrev pub raised_at : ℕ → ℕ → List ℕ → List ℕ
+raised_at zero value [] = value ∷ []
+raised_at zero value (x ∷ xs) = max x value ∷ xs
+raised_at (suc thread) value [] = 0 ∷ raised_at thread value []
+raised_at (suc thread) value (x ∷ xs) = x ∷ raised_at thread value xs
+
+-- entries, and one that stands apart from them
+abbrev pub with_apart : Option Entry → List ℕ → List ℕ
+with_apart (Some entry) others = raised_at entry.thread entry.value others
+with_apart None others = others
+
+-- what the one that stands apart says of a thread
+abbrev pub apart_at : Option Entry → ℕ → ℕ
+apart_at (Some entry) thread = if entry.thread == thread then entry.value else 0
+apart_at None thread = 0
+
+-- all entries
+abbrev pub entries : Known → List ℕ
+entries known = with_apart known.apart known.others.now
+
+abbrev pub held : Vector → List ℕ
+held vector = with_apart vector.apart vector.others.items

@@ -1,10 +1,12 @@
 // The cycles of barriers, and what the arrives of the open ones know, and of those that threads still depart from.
 ghost use Rattle.std.specs.Prelude.{◌≡◌, ◌≢◌, ℕ, ◌+◌, ◌^◌, ◌<◌, ◌↔◌, [], IsTrue, OnOk, Option, length, slice_get, vec_len};
-ghost use Rattle.lrc_races_detector.specs.Barriers.{SameBarrier, IsArrived, IsClosed, IsDeparted, IsSet, IsKeptBelow, current_of, cycle_of, known_of, cycle_at};
+ghost use Rattle.lrc_races_detector.specs.Barriers.{SameBarrier, IsArrived, IsClosed, IsDeparted, IsSet, IsShared, IsKeptBelow, current_of, cycle_of, known_of, cycle_at, shared_at};
+ghost use Rattle.lrc_races_detector.specs.Vectors.{entries, held};
 
-use crate::clocks::Clocks;
-use crate::vectors::join;
+use crate::vectors::{Known, Vector};
 use std::alloc::{AllocError, Global};
+use std::mem::replace;
+use std::rc::Rc;
 
 /// One barrier. Its memory grows with its threads, and not with its cycles.
 #[derive(Drop)]
@@ -12,11 +14,11 @@ pub struct Barrier {
     /// The number of the open cycle.
     pub current: usize,
     /// What the arrives of the open cycle know.
-    pub arrived: Vec<u64>,
+    pub arrived: Vector,
     /// For each thread, the cycle of its last arrive.
     pub of: Vec<Option<usize>>,
-    /// For each thread, what the arrives of that cycle know, if the cycle is closed.
-    pub closed: Clocks,
+    /// For each thread, what the arrives of that cycle know, if the cycle is closed. The threads of a cycle share it.
+    pub closed: Vec<Option<Rc<Vector>>>,
 }
 
 // Sets the cycle of a thread.
@@ -39,22 +41,47 @@ fn is_of(cycle: Option<usize>, current: usize) -> bool
     }
 }
 
-// Keeps for each thread of the open cycle what the arrives of that cycle know.
+// Shares with a thread what is known of its cycle.
+fn share(
+    closed: &mut Vec<Option<Rc<Vector>>>,
+    thread: usize,
+    known: &Rc<Vector>,
+) -> Result<(), AllocError>
+    ensures { OnOk result (IsShared closed.old.items closed.new.items thread (held known.now.value)) }
+{
+    while closed.len() <= thread {
+        closed.push(None)?;
+    }
+    closed[thread] = Some(known.clone()?);
+    Ok(())
+}
+
+// Shares with each thread of the open cycle what the arrives of that cycle know.
 fn keep(
-    closed: &mut Clocks,
+    closed: &mut Vec<Option<Rc<Vector>>>,
     of: &[Option<usize>],
     current: usize,
-    known: &[u64],
+    known: &Rc<Vector>,
 ) -> Result<(), AllocError>
     ensures { OnOk result (IsKeptBelow
-        (length of.now) closed.old closed.new of.now current known.now) }
+        (length of.now) closed.old.items closed.new.items of.now current (held known.now.value)) }
 {
     for (thread, cycle) in of.iter().enumerate() {
         if is_of(*cycle, current) {
-            closed.set(thread, known)?;
+            share(closed, thread, known)?;
         }
     }
     Ok(())
+}
+
+// What a thread shares.
+fn shared(closed: &[Option<Rc<Vector>>], thread: usize) -> Known<'_>
+    ensures { entries result ≡ shared_at (slice_get closed.now thread) }
+{
+    match closed.get(thread) {
+        Some(Some(known)) => known.as_ref().known(),
+        _ => Known::nothing(),
+    }
 }
 
 impl Barrier {
@@ -64,34 +91,34 @@ impl Barrier {
     {
         Barrier {
             current: 0,
-            arrived: Vec::new(alloc),
+            arrived: Vector::new(alloc),
             of: Vec::new(alloc),
-            closed: Clocks::new(alloc),
+            closed: Vec::new(alloc),
         }
     }
 
     /// Returns what a depart of the thread learns.
-    pub fn known(&self, thread: usize) -> &[u64]
-        ensures { result.now ≡ known_of (Option.Some self.now) thread }
+    pub fn known(&self, thread: usize) -> Known<'_>
+        ensures { entries result ≡ known_of (Option.Some self.now) thread }
     {
         match self.of.get(thread) {
             Some(Some(cycle)) => {
                 if *cycle == self.current {
-                    self.arrived.as_slice()
+                    self.arrived.known()
                 } else {
-                    self.closed.row(thread)
+                    shared(&self.closed, thread)
                 }
             }
-            _ => &[],
+            _ => Known::nothing(),
         }
     }
 
     /// Records that a thread with this knowledge arrives. It fails if memory runs out.
-    pub fn arrive(&mut self, thread: usize, known: &[u64]) -> Result<(), AllocError>
+    pub fn arrive(&mut self, thread: usize, known: Known<'_>) -> Result<(), AllocError>
         ensures { OnOk result (IsArrived (Option.Some self.old)
-            (Option.Some self.new) thread known.now) }
+            (Option.Some self.new) thread (entries known.entry)) }
     {
-        join(&mut self.arrived, known)?;
+        self.arrived.join(known)?;
         set_cycle(&mut self.of, thread, self.current)?;
         Ok(())
     }
@@ -101,13 +128,10 @@ impl Barrier {
         ensures { OnOk result (self.old.current + 1 < 2 ^ 64
             → IsClosed (Option.Some self.old) (Option.Some self.new)) }
     {
-        keep(
-            &mut self.closed,
-            self.of.as_slice(),
-            self.current,
-            self.arrived.as_slice(),
-        )?;
-        self.arrived.clear();
+        let alloc = *self.of.allocator();
+        let arrived = replace(&mut self.arrived, Vector::new(alloc));
+        let known = Rc::new(alloc, arrived)?;
+        keep(&mut self.closed, self.of.as_slice(), self.current, &known)?;
         self.current = self.current.saturating_add(1);
         Ok(())
     }
@@ -146,12 +170,12 @@ impl Barriers {
     }
 
     /// Returns what a depart of the thread at the barrier learns.
-    pub fn known(&self, barrier: usize, thread: usize) -> &[u64]
-        ensures { result.now ≡ known_of (slice_get self.now.barriers.items barrier) thread }
+    pub fn known(&self, barrier: usize, thread: usize) -> Known<'_>
+        ensures { entries result ≡ known_of (slice_get self.now.barriers.items barrier) thread }
     {
         match self.barriers.get(barrier) {
             Some(barrier) => barrier.known(thread),
-            None => &[],
+            None => Known::nothing(),
         }
     }
 
@@ -169,9 +193,14 @@ impl Barriers {
     }
 
     /// Records that a thread with this knowledge arrives at the barrier. It fails if memory runs out.
-    pub fn arrive(&mut self, barrier: usize, thread: usize, known: &[u64]) -> Result<(), AllocError>
+    pub fn arrive(
+        &mut self,
+        barrier: usize,
+        thread: usize,
+        known: Known<'_>,
+    ) -> Result<(), AllocError>
         ensures here { OnOk result (IsArrived (slice_get self.old.barriers.items barrier)
-            (slice_get self.new.barriers.items barrier) thread known.now) }
+            (slice_get self.new.barriers.items barrier) thread (entries known.entry)) }
         ensures others { OnOk result ((other : ℕ) → other ≢ barrier
             → SameBarrier (slice_get self.new.barriers.items other)
             (slice_get self.old.barriers.items other)) }

@@ -1,15 +1,15 @@
 // Vectors of threads, or of locks.
 ghost use Rattle.std.specs.Prelude.{◌≡◌, ℕ, ◌<◌, [], OnOk, vec_len};
 ghost use Rattle.lrc_races_detector.specs.Clocks.{row, IsGained, IsReplaced, IsMarked};
+ghost use Rattle.lrc_races_detector.specs.Vectors.{entries};
 
-use crate::vectors::{join, put};
+use crate::vectors::{Known, Vector};
 use std::alloc::{AllocError, Global};
 
-/// A row of numbers for each index: for each thread, the last of its positions that is known there plus one, or 0 if
-/// none is. Numbers that are not stored are 0.
+/// A vector for each index: for each thread, the last of its positions that is known there plus one, or 0 if none is.
 #[derive(Drop)]
 pub struct Clocks {
-    rows: Vec<Vec<u64>>,
+    rows: Vec<Vector>,
 }
 
 impl Clocks {
@@ -23,12 +23,12 @@ impl Clocks {
     }
 
     /// Returns what is known at this index.
-    pub fn row(&self, index: usize) -> &[u64]
-        ensures { result.now ≡ row self.now index }
+    pub fn row(&self, index: usize) -> Known<'_>
+        ensures { entries result ≡ row self.now index }
     {
         match self.rows.get(index) {
-            Some(row) => row.as_slice(),
-            None => &[],
+            Some(row) => row.known(),
+            None => Known::nothing(),
         }
     }
 
@@ -39,28 +39,26 @@ impl Clocks {
     {
         let alloc = *self.rows.allocator();
         while self.rows.len() <= index {
-            self.rows.push(Vec::new(alloc))?;
+            self.rows.push(Vector::new(alloc))?;
         }
         Ok(())
     }
 
     /// Adds to what is known at this index: each entry becomes the greater of the two. It fails if memory runs out.
-    pub fn gain(&mut self, index: usize, known: &[u64]) -> Result<(), AllocError>
-        ensures { OnOk result (IsGained self.old self.new index known.now) }
+    pub fn gain(&mut self, index: usize, known: Known<'_>) -> Result<(), AllocError>
+        ensures { OnOk result (IsGained self.old self.new index (entries known.entry)) }
     {
         self.reach(index)?;
-        join(&mut self.rows[index], known)?;
+        self.rows[index].join(known)?;
         Ok(())
     }
 
     /// Sets what is known at this index. It fails if memory runs out.
-    pub fn set(&mut self, index: usize, known: &[u64]) -> Result<(), AllocError>
-        ensures { OnOk result (IsReplaced self.old self.new index known.now) }
+    pub fn set(&mut self, index: usize, known: Known<'_>) -> Result<(), AllocError>
+        ensures { OnOk result (IsReplaced self.old self.new index (entries known.entry)) }
     {
         self.reach(index)?;
-        let row = &mut self.rows[index];
-        row.clear();
-        row.extend_from_slice(known)?;
+        self.rows[index].copy(known)?;
         Ok(())
     }
 
@@ -68,9 +66,9 @@ impl Clocks {
     pub fn hand(&mut self, from: usize, to: usize) -> Result<(), AllocError>
         ensures { OnOk result (IsGained self.old self.new to (row self.old from)) }
     {
-        let alloc = *self.rows.allocator();
-        let known = Vec::from_slice(alloc, self.row(from))?;
-        self.gain(to, known.as_slice())?;
+        let mut known = Vector::new(*self.rows.allocator());
+        known.copy(self.row(from))?;
+        self.gain(to, known.known())?;
         Ok(())
     }
 
@@ -80,7 +78,7 @@ impl Clocks {
     {
         let index = thread as usize;
         self.reach(index)?;
-        put(&mut self.rows[index], thread, value)?;
+        self.rows[index].put(thread, value)?;
         Ok(())
     }
 }

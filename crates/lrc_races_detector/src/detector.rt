@@ -7,10 +7,12 @@ ghost use Rattle.lrc_races_detector.specs.Clocks.{row, IsGained};
 ghost use Rattle.lrc_races_detector.specs.Variables.{lasts_of, told_below, IsNoted};
 ghost use Rattle.lrc_races_detector.specs.Knowing.{Gathers, AreThreads, AreLocks, AreBarriers, AreVariables, IsReached, handed};
 ghost use Rattle.lrc_races_detector.specs.Detecting.{HasTaken};
+ghost use Rattle.lrc_races_detector.specs.Vectors.{entries};
 
 use crate::barriers::Barriers;
 use crate::clocks::Clocks;
-use crate::variables::{Variables, tell};
+use crate::variables::Variables;
+use crate::vectors::Known;
 use lrc_races_trace::event::{Event, Operation, Pair, Placed};
 use std::alloc::{AllocError, Global};
 
@@ -74,9 +76,9 @@ fn give_thread(threads: &mut Clocks, event: Event) -> Result<(), AllocError>
 }
 
 // A lock that is released or posted keeps what the thread knows.
-fn give_lock(locks: &mut Clocks, known: &[u64], event: Event) -> Result<(), AllocError>
+fn give_lock(locks: &mut Clocks, known: Known<'_>, event: Event) -> Result<(), AllocError>
     ensures { OnOk result ((events : List Event) (n : ℕ) → At events n event
-        → Gathers events (λ k. k ≡ n) known.now
+        → Gathers events (λ k. k ≡ n) (entries known.entry)
         → AreLocks events n locks.old → AreLocks events (n + 1) locks.new) }
 {
     match event.operation {
@@ -89,9 +91,9 @@ fn give_lock(locks: &mut Clocks, known: &[u64], event: Event) -> Result<(), Allo
 }
 
 // A barrier at which the thread arrives keeps what it knows; where it departs, a cycle may be closed.
-fn give_barrier(barriers: &mut Barriers, known: &[u64], event: Event) -> Result<(), AllocError>
+fn give_barrier(barriers: &mut Barriers, known: Known<'_>, event: Event) -> Result<(), AllocError>
     ensures { OnOk result ((events : List Event) (n : ℕ) → n + 1 < 2 ^ 64 → At events n event
-        → Gathers events (λ k. k ≡ n) known.now
+        → Gathers events (λ k. k ≡ n) (entries known.entry)
         → AreBarriers events n barriers.old → AreBarriers events (n + 1) barriers.new) }
 {
     let thread = event.thread as usize;
@@ -113,17 +115,17 @@ fn give_barrier(barriers: &mut Barriers, known: &[u64], event: Event) -> Result<
 pub fn access(
     variables: &mut Variables,
     variable: usize,
-    known: &[u64],
+    known: Known<'_>,
     placed: Placed,
     is_write: bool,
     told: &mut Vec<Pair>,
 ) -> Result<(), AllocError>
     ensures told { OnOk result (told.new.items ≡ told.old.items
-        ++ told_below (lasts_of variables.old variable) known.now placed is_write
+        ++ told_below (lasts_of variables.old variable) (entries known.entry) placed is_write
         (length (lasts_of variables.old variable))) }
     ensures noted { OnOk result (IsNoted variables.old variables.new variable placed is_write) }
 {
-    tell(variables.lasts(variable), known, placed, is_write, told)?;
+    variables.tell(variable, known, placed, is_write, told)?;
     variables.note(variable, placed, is_write)?;
     Ok(())
 }
@@ -131,12 +133,12 @@ pub fn access(
 // Tells the pairs of an event, and notes it.
 fn judge(
     variables: &mut Variables,
-    known: &[u64],
+    known: Known<'_>,
     placed: Placed,
     told: &mut Vec<Pair>,
 ) -> Result<(), AllocError>
     ensures { OnOk result ((events : List Event) → At events placed.position placed.event
-        → Gathers events (λ k. k ≡ placed.position) known.now
+        → Gathers events (λ k. k ≡ placed.position) (entries known.entry)
         → AreVariables events placed.position variables.old
         → told.old.items ≡ []
         → AreVariables events (placed.position + 1) variables.new

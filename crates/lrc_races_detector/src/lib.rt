@@ -10,6 +10,7 @@
 //! `waits` the threads that wait at a barrier, and `threads` those that were joined and those that are known.
 #![tactic(auto)]
 
+pub mod accesses;
 pub mod barriers;
 pub mod clocks;
 pub mod detector;
@@ -19,5 +20,5 @@ mod held;
 mod threads;
 pub mod trace;
 pub mod variables;
-mod vectors;
+pub mod vectors;
 mod waits;

@@ -1,7 +1,12 @@
 // The last accesses of variables.
-ghost use Rattle.std.specs.Prelude.{◌≡◌, ◌≢◌, ℕ, ◌<◌, ◌≤◌, [], ◌++◌, OnOk, length};
+ghost use Rattle.std.specs.Prelude.{◌≡◌, ◌≢◌, ℕ, ◌<◌, ◌≤◌, [], ◌++◌, ◌||◌, OnOk, false, length};
+ghost use Rattle.std.specs.Bool.{OnFalse};
 ghost use Rattle.lrc_races_detector.specs.Variables.{lasts_of, noted, told_one, told_below, IsAscending, IsNoted, IsRowNoted, IsPlace};
+ghost use Rattle.lrc_races_detector.specs.Vectors.{entries};
+ghost use Rattle.lrc_races_detector.specs.Written.{any_written};
 
+use crate::accesses::Accesses;
+use crate::vectors::Known;
 use lrc_races_trace::event::{Pair, Placed};
 use std::alloc::{AllocError, Global};
 
@@ -13,8 +18,8 @@ pub struct Last {
 }
 
 // The pair of an access with the last one of a thread, where that thread is another and the access does not know of it.
-fn told_one(last: &Last, known: &[u64], later: Placed, is_write: bool) -> Option<Pair>
-    ensures { result ≡ told_one last.now known.now later is_write }
+fn told_one(last: &Last, known: Known<'_>, later: Placed, is_write: bool) -> Option<Pair>
+    ensures { result ≡ told_one last.now (entries known.entry) later is_write }
 {
     let thread = last.access.event.thread;
     if thread == later.event.thread {
@@ -26,27 +31,23 @@ fn told_one(last: &Last, known: &[u64], later: Placed, is_write: bool) -> Option
         last.write
     };
     let earlier = found?;
-    let known_there = match known.get(thread as usize) {
-        Some(value) => *value,
-        None => 0,
-    };
-    if earlier.position < known_there {
+    if earlier.position < known.of(thread) {
         return None;
     }
     Some(Pair { earlier, later })
 }
 
-/// Adds to `told` the pairs of an access with the last accesses of the variable, if `known` is what the access's thread
-/// knows. It fails if memory runs out.
-pub fn tell(
+// Adds to `told` the pairs of an access with these last accesses of its variable, if `known` is what the access's thread
+// knows. It fails if memory runs out.
+fn tell_all(
     lasts: &[Last],
-    known: &[u64],
+    known: Known<'_>,
     later: Placed,
     is_write: bool,
     told: &mut Vec<Pair>,
 ) -> Result<(), AllocError>
     ensures { OnOk result (told.new.items
-        ≡ told.old.items ++ told_below lasts.now known.now later is_write (length lasts.now)) }
+        ≡ told.old.items ++ told_below lasts.now (entries known.entry) later is_write (length lasts.now)) }
 {
     for last in lasts {
         if let Some(pair) = told_one(last, known, later, is_write) {
@@ -83,8 +84,14 @@ fn noted(old: Option<Last>, placed: Placed, is_write: bool) -> Last
 }
 
 // Notes an access among the last ones of its variable.
-fn note_last(lasts: &mut Vec<Last>, placed: Placed, is_write: bool) -> Result<(), AllocError>
-    ensures { OnOk result (IsRowNoted lasts.old.items lasts.new.items placed is_write) }
+pub(crate) fn note_last(
+    lasts: &mut Vec<Last>,
+    placed: Placed,
+    is_write: bool,
+) -> Result<(), AllocError>
+    ensures noted { OnOk result (IsRowNoted lasts.old.items lasts.new.items placed is_write) }
+    ensures written { OnOk result (any_written lasts.new.items
+        ≡ (any_written lasts.old.items || is_write)) }
 {
     let thread = placed.event.thread;
     let at = place_of(lasts.as_slice(), thread);
@@ -102,7 +109,7 @@ fn note_last(lasts: &mut Vec<Last>, placed: Placed, is_write: bool) -> Result<()
 /// All variables.
 #[derive(Drop)]
 pub struct Variables {
-    rows: Vec<Vec<Last>>,
+    rows: Vec<Accesses>,
 }
 
 impl Variables {
@@ -120,9 +127,39 @@ impl Variables {
         ensures { result.now ≡ lasts_of self.now variable }
     {
         match self.rows.get(variable) {
-            Some(row) => row.as_slice(),
+            Some(row) => row.lasts.as_slice(),
             None => &[],
         }
+    }
+
+    // Whether a thread may have written the variable.
+    fn is_written(&self, variable: usize) -> bool
+        ensures { OnFalse result (any_written (lasts_of self.now variable) ≡ false) }
+    {
+        match self.rows.get(variable) {
+            Some(row) => row.written,
+            None => false,
+        }
+    }
+
+    /// Adds to `told` the pairs of an access with the last accesses of the variable, if `known` is what the access's
+    /// thread knows. A read looks at a variable only if it was written. It fails if memory runs out.
+    pub fn tell(
+        &self,
+        variable: usize,
+        known: Known<'_>,
+        later: Placed,
+        is_write: bool,
+        told: &mut Vec<Pair>,
+    ) -> Result<(), AllocError>
+        ensures { OnOk result (told.new.items
+            ≡ told.old.items ++ told_below (lasts_of self.now variable) (entries known.entry) later
+            is_write (length (lasts_of self.now variable))) }
+    {
+        if is_write || self.is_written(variable) {
+            return tell_all(self.lasts(variable), known, later, is_write, told);
+        }
+        Ok(())
     }
 
     // Makes a row for the variable, where there is none.
@@ -132,7 +169,7 @@ impl Variables {
     {
         let alloc = *self.rows.allocator();
         while self.rows.len() <= variable {
-            self.rows.push(Vec::new(alloc))?;
+            self.rows.push(Accesses::new(alloc))?;
         }
         Ok(())
     }
@@ -147,7 +184,7 @@ impl Variables {
         ensures { OnOk result (IsNoted self.old self.new variable placed is_write) }
     {
         self.reach(variable)?;
-        note_last(&mut self.rows[variable], placed, is_write)?;
+        self.rows[variable].note(placed, is_write)?;
         Ok(())
     }
 }

@@ -2,6 +2,7 @@
 ghost use Rattle.std.specs.Prelude.{◌≡◌, ℕ, ◌+◌, ◌^◌, ◌<◌, List, IfOk, OnOk, length};
 ghost use Rattle.lrc_races_trace.specs.declared.event.Event.{Event as AnyEvent};
 ghost use Rattle.lrc_races_trace.specs.Trace.{Accesses, At};
+ghost use Rattle.lrc_races_detector.specs.Vectors.{entries};
 ghost use Rattle.lrc_races_text.specs.declared.asked.Sought.{Sought as AnySought};
 ghost use Rattle.lrc_races_text.specs.Detecting.{HasTaken, position_of};
 ghost use Rattle.lrc_races_locations.specs.Rivals.{IsBehind};
@@ -9,6 +10,7 @@ ghost use Rattle.lrc_races_locations.specs.Located.{AreShown};
 ghost use Rattle.lrc_races_locations.specs.Taking.{HasLocated};
 
 use crate::locator::Locator;
+use lrc_races_detector::vectors::Known;
 use lrc_races_text::asked::Sought;
 use lrc_races_text::race_detector::RaceDetector;
 use lrc_races_trace::event::{Event, Pair, Placed};
@@ -27,10 +29,10 @@ pub struct LocationDetector {
 }
 
 // What comes before the next event, if it is an access of this thread.
-fn known_of(detector: &RaceDetector, thread: u32) -> &[u64]
+fn known_of(detector: &RaceDetector, thread: u32) -> Known<'_>
     ensures { (sought : AnySought) (events : List AnyEvent) (n variable : ℕ) (event : AnyEvent)
         → HasTaken sought events n detector.now → At events n event → event.thread ≡ thread
-        → Accesses event variable → IsBehind sought events n result.now }
+        → Accesses event variable → IsBehind sought events n (entries result) }
 {
     match detector {
         RaceDetector::All(detector) => detector.threads.row(thread as usize),

@@ -2,6 +2,7 @@
 ghost use Rattle.std.specs.Prelude.{◌≡◌, ℕ, ◌+◌, ◌<◌, ◌↔◌, [], List, AllPairs, IsTrue, OnOk, length};
 ghost use Rattle.lrc_races_trace.specs.declared.event.Event.{Event as AnyEvent};
 ghost use Rattle.lrc_races_trace.specs.Trace.{Accesses, At};
+ghost use Rattle.lrc_races_detector.specs.Vectors.{entries};
 ghost use Rattle.lrc_races_text.specs.declared.asked.Sought.{Sought as AnySought};
 ghost use Rattle.lrc_races_locations.specs.Rivals.{IsBehind};
 ghost use Rattle.lrc_races_locations.specs.Located.{AreShown};
@@ -10,6 +11,7 @@ ghost use Rattle.lrc_races_locations.specs.Finding.{IsRival, IsOffered, IsConsid
 use crate::spots::{is_write, note, row_of, side_of};
 use indexmap::IndexSet;
 use lrc_races_detector::groups::Sides;
+use lrc_races_detector::vectors::Known;
 use lrc_races_trace::event::{Operation, Pair, Placed};
 use std::alloc::{AllocError, Global};
 
@@ -23,8 +25,8 @@ pub struct Locator {
 }
 
 // Whether an access races with a later one of its variable, if `known` is what comes before that.
-fn is_rival(known: &[u64], later: Placed, earlier: Placed) -> bool
-    ensures { IsTrue result ↔ IsRival known.now later earlier }
+fn is_rival(known: Known<'_>, later: Placed, earlier: Placed) -> bool
+    ensures { IsTrue result ↔ IsRival (entries known.entry) later earlier }
 {
     let thread = earlier.event.thread;
     if thread == later.event.thread {
@@ -33,11 +35,7 @@ fn is_rival(known: &[u64], later: Placed, earlier: Placed) -> bool
     if !is_write(earlier.event.operation) && !is_write(later.event.operation) {
         return false;
     }
-    let known_there = match known.get(thread as usize) {
-        Some(value) => *value,
-        None => 0,
-    };
-    known_there <= earlier.position
+    known.of(thread) <= earlier.position
 }
 
 // Puts a pair before those that are found, if its locations and kinds are new.
@@ -61,11 +59,11 @@ fn offer(sides: &mut IndexSet<Sides>, found: &mut Vec<Pair>, pair: Pair) -> Resu
 fn consider(
     sides: &mut IndexSet<Sides>,
     found: &mut Vec<Pair>,
-    known: &[u64],
+    known: Known<'_>,
     later: Placed,
     earlier: Placed,
 ) -> Result<(), AllocError>
-    ensures { OnOk result (IsConsidered known.now later earlier sides.old.keys sides.new.keys
+    ensures { OnOk result (IsConsidered (entries known.entry) later earlier sides.old.keys sides.new.keys
         found.old.items found.new.items) }
 {
     if !is_rival(known, later, earlier) {
@@ -80,12 +78,12 @@ fn find(
     sides: &mut IndexSet<Sides>,
     found: &mut Vec<Pair>,
     row: &[Placed],
-    known: &[u64],
+    known: Known<'_>,
     later: Placed,
 ) -> Result<(), AllocError>
     requires { found.old.items ≡ [] }
     ensures { OnOk result (AllPairs (λ p q. p.position < q.position) row.now
-        → AreFoundFrom 0 row.now known.now later sides.old.keys sides.new.keys found.new.items) }
+        → AreFoundFrom 0 row.now (entries known.entry) later sides.old.keys sides.new.keys found.new.items) }
 {
     for place in (0..row.len()).rev() {
         let earlier = row[place];
@@ -107,10 +105,10 @@ impl Locator {
     }
 
     // Takes an access of a variable.
-    fn access(&mut self, known: &[u64], variable: u32, placed: Placed) -> Result<(), AllocError>
+    fn access(&mut self, known: Known<'_>, variable: u32, placed: Placed) -> Result<(), AllocError>
         ensures { OnOk result ((sought : AnySought) (events : List AnyEvent)
             → At events placed.position placed.event → Accesses placed.event variable
-            → IsBehind sought events placed.position known.now
+            → IsBehind sought events placed.position (entries known.entry)
             → HasShown sought events placed.position self.old
             → HasShown sought events (placed.position + 1) self.new) }
     {
@@ -125,11 +123,11 @@ impl Locator {
 
     /// Takes the next event of a trace; `known` has what comes before it, if it is an access. It fails if memory runs
     /// out, and then the locator is of no use.
-    pub fn take(&mut self, known: &[u64], placed: Placed) -> Result<(), AllocError>
+    pub fn take(&mut self, known: Known<'_>, placed: Placed) -> Result<(), AllocError>
         ensures { OnOk result ((sought : AnySought) (events : List AnyEvent)
             → At events placed.position placed.event
             → ((variable : ℕ) → Accesses placed.event variable
-            → IsBehind sought events placed.position known.now)
+            → IsBehind sought events placed.position (entries known.entry))
             → HasShown sought events placed.position self.old
             → HasShown sought events (placed.position + 1) self.new) }
     {

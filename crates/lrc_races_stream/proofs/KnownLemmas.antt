@@ -11,7 +11,8 @@ use Rattle.lrc_races_notes.specs.declared.noter.Noter.{Noter}
 use Rattle.lrc_races_score.specs.declared.report.LinedClaim.{LinedClaim}
 use Rattle.lrc_races_scored.specs.declared.traced.Traced.{Traced}
 use Rattle.lrc_shell_sources.specs.Known.{Held}
-use Rattle.lrc_races_stream.specs.Locations.{IsReported, most_lines}
+use Rattle.lrc_races_stream.specs.Reach.{most_lines}
+use Rattle.lrc_races_stream.specs.Locations.{IsReported}
 use Rattle.lrc_races_stream.specs.Locations as located
 use Rattle.lrc_races_stream.specs.Noted.{IsKnown, IsKnownAt, IsOf}
 use Rattle.lrc_races_stream.specs.Score.{IsScored}

@@ -6,6 +6,7 @@ mod Paths
 mod Reached
 mod SeekerLemmas
 mod StrictLemmas
+mod HearingLemmas
 mod KnownLemmas
 mod NotedLemmas
 mod ScoreLemmas

@@ -7,8 +7,8 @@ use Rattle.lrc_races_text.specs.declared.form.Form.{Form}
 use Rattle.lrc_races_locations.specs.Lines.{HasToldAll, IsLocated, IsTold}
 use Rattle.lrc_races_locations.specs.declared.located.Located.{Located}
 use Rattle.lrc_shell_sources.specs.Known.{Held}
-use Rattle.lrc_races_stream.specs.Locations.{IsReported, Reports, lacking, most_lines, reported, stopped, told}
-use Rattle.lrc_races_stream.specs.Reach.{IsHalt, halted, out_of_memory, past}
+use Rattle.lrc_races_stream.specs.Locations.{IsReported, Reports, lacking, reported, stopped, told}
+use Rattle.lrc_races_stream.specs.Reach.{IsHalt, halted, most_lines, out_of_memory, past}
 use Rattle.lrc_races_stream.specs.declared.answer.Answer.{Answer}
 use Rattle.lrc_races_stream.specs.declared.answer.Answer.TheVariants.{Answered}
 use Rattle.lrc_races_stream.specs.declared.answer.Stop.TheVariants.{Past}

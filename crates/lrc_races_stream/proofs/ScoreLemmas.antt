@@ -12,8 +12,7 @@ use Rattle.lrc_races_text.specs.declared.asked.Sought.{Sought}
 use Rattle.lrc_races_text.specs.declared.form.Form.{Form}
 use Rattle.lrc_races_witness.specs.Relations.{AreByLine}
 use Rattle.lrc_shell_sources.specs.Known.{Held}
-use Rattle.lrc_races_stream.specs.Locations.{most_lines}
-use Rattle.lrc_races_stream.specs.Reach.{IsHalt, halted, out_of_memory, past}
+use Rattle.lrc_races_stream.specs.Reach.{IsHalt, halted, most_lines, out_of_memory, past}
 use Rattle.lrc_races_stream.specs.Score.{IsScored, Scores, lacking, scored, stopped, told}
 use Rattle.lrc_races_stream.specs.declared.answer.Answer.{Answer}
 use Rattle.lrc_races_stream.specs.declared.answer.Answer.TheVariants.{Answered}

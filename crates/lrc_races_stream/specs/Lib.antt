@@ -1,5 +1,6 @@
 pub mod Answer
 pub mod Comes
+pub mod Heard
 pub mod Lines
 pub mod Locations
 pub mod Noted

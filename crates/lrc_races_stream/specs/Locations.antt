@@ -14,15 +14,11 @@ use Rattle.lrc_shell_sources.specs.Lines.{IsTold as IsSaid, read_line}
 use Rattle.lrc_races_stream.specs.Answer.{IsAnswerTold}
 use Rattle.lrc_races_stream.specs.Noted.{Notes}
 use Rattle.lrc_races_stream.specs.Plays.{IsNamed}
-use Rattle.lrc_races_stream.specs.Reach.{AreAll, ArePermitted, IsHalt}
+use Rattle.lrc_races_stream.specs.Reach.{AreAll, ArePermitted, IsHalt, most_lines}
 use Rattle.lrc_races_stream.specs.declared.answer.Answer.{Answer}
 use Rattle.lrc_races_stream.specs.declared.answer.Answer.TheVariants.{Answered, Stopped}
 use Rattle.lrc_races_stream.specs.declared.answer.Stop.{Stop}
 use Rattle.lrc_races_stream.specs.declared.answer.Stop.TheVariants.{Faulted, IllFormed, Past, Unread}
-
--- more lines than a trace may have
-abbrev pub most_lines : ℕ
-most_lines = 18446744073709551615
 
 -- a line is bad, or says an event that no program would give, or memory ran out, or the trace can be read no further
 abbrev pub IsFault : Stop → Type 0

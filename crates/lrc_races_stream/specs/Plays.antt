@@ -7,6 +7,7 @@ use Rattle.lrc_races_text.specs.declared.form.Form.{Form}
 use Rattle.lrc_shell_sources.specs.Known.{Held, IsCause, Known}
 use Rattle.lrc_shell_sources.specs.Lines.{IsTold, memory_line, read_line}
 use Rattle.lrc_races_stream.specs.Comes.{Comes}
+use Rattle.lrc_races_stream.specs.Heard.{Hears}
 use Rattle.lrc_races_stream.specs.Lines.{IsToldOrLacks, bad_line, ill_line}
 use Rattle.lrc_races_stream.specs.declared.outcome.Outcome.{Outcome}
 use Rattle.lrc_races_stream.specs.declared.outcome.Outcome.TheVariants.{Ended, BadEvent, IllFormed, NoMemory, Unread, Unwritten}
@@ -28,5 +29,5 @@ IsNamed known path held = ((path ≡ codes "-") × (held ≡ known.input)) ⊎ (
 pub data IsRacesPlayed (known : Known) (path : List ℕ) (form : Form) (asked : Asked) (out out' err err' : Option (List ℕ)) (status : ℕ) : Type 0 where
   unopened : (kind : ErrorKind) → path ≢ codes "-" → IsCause (known.files path) kind → IsTold err err' (read_line kind) → Keeps out out'
       → status ≡ 1 → IsRacesPlayed known path form asked out out' err err' status
-  told : (held : Held) (outcome : Outcome) → IsNamed known path held → Comes form asked held out out' outcome
-      → IsConcluded outcome err err' status → IsRacesPlayed known path form asked out out' err err' status
+  told : (held : Held) (outcome : Outcome) (mid : Option (List ℕ)) → IsNamed known path held → Comes form asked held out out' outcome
+      → Hears form held err mid outcome → IsConcluded outcome mid err' status → IsRacesPlayed known path form asked out out' err err' status

@@ -18,6 +18,10 @@ use Rattle.lrc_shell_sources.specs.Known.{Held, IsAtEnd, IsCause, IsReadOff}
 use Rattle.lrc_races_stream.specs.declared.answer.Stop.{Stop}
 use Rattle.lrc_races_stream.specs.declared.answer.Stop.TheVariants.{Past, Faulted, IllFormed, Unread}
 
+-- more lines than a trace may have
+abbrev pub most_lines : ℕ
+most_lines = 18446744073709551615
+
 -- these are all lines of what is held: what stands behind its last line feed is one too, if it is not empty
 pub record AreAll (held : Held) (lines : List (List ℕ)) : Type 0 where
   pub bytes : List ℕ

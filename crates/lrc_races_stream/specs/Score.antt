@@ -24,10 +24,10 @@ use Rattle.lrc_shell_sources.specs.Lines.{IsTold as IsSaid, memory_line, read_li
 use Rattle.lrc_races_front.specs.declared.front.Front.{Front}
 use Rattle.lrc_races_stream.specs.Answer.{IsAnswerTold}
 use Rattle.lrc_races_stream.specs.Lines.{IsToldOrLacks}
-use Rattle.lrc_races_stream.specs.Locations.{IsFault, most_lines}
+use Rattle.lrc_races_stream.specs.Locations.{IsFault}
 use Rattle.lrc_races_stream.specs.Noted.{Notes}
 use Rattle.lrc_races_stream.specs.Plays.{IsNamed}
-use Rattle.lrc_races_stream.specs.Reach.{AreAll, ArePermitted, IsHalt, IsSeeking}
+use Rattle.lrc_races_stream.specs.Reach.{AreAll, ArePermitted, IsHalt, IsSeeking, most_lines}
 use Rattle.lrc_races_stream.specs.declared.answer.Answer.{Answer}
 use Rattle.lrc_races_stream.specs.declared.answer.Answer.TheVariants.{Answered, Stopped}
 use Rattle.lrc_races_stream.specs.declared.answer.Stop.{Stop}

@@ -4,6 +4,7 @@
 #![tactic(auto)]
 
 mod answer;
+mod hearing;
 mod lines;
 mod locating;
 mod noted;

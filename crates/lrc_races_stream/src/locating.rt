@@ -6,10 +6,10 @@ ghost use Rattle.lrc_shell_sources.specs.Known.{Held};
 ghost use Rattle.std.specs.Prelude.{ℕ, List, Option};
 ghost use Rattle.lrc_races_notes.specs.Noting.{KeepsBoth};
 ghost use Rattle.lrc_races_stream.specs.Noted.{IsKnown, Notes};
-ghost use Rattle.lrc_races_stream.specs.Reach.{IsSeeking};
+ghost use Rattle.lrc_races_stream.specs.Reach.{IsSeeking, most_lines};
 ghost use Rattle.lrc_races_stream.specs.Answer.{IsAnswerTold};
 ghost use Rattle.lrc_races_stream.specs.declared.answer.Answer.{Answer as AnyAnswer};
-ghost use Rattle.lrc_races_stream.specs.Locations.{IsLocationsPlayed, IsReported, Reports, most_lines};
+ghost use Rattle.lrc_races_stream.specs.Locations.{IsLocationsPlayed, IsReported, Reports};
 
 use crate::answer::{Answer, Stop, conclude};
 use crate::noted::note;

@@ -1,6 +1,8 @@
 // From a path to the status: the races of a file.
 
+ghost use Rattle.std.specs.Prelude.{ℕ, List, Option};
 ghost use Rattle.lrc_races_stream.specs.Comes.{Comes};
+ghost use Rattle.lrc_races_stream.specs.Heard.{Hears};
 ghost use Rattle.lrc_races_stream.specs.Plays.{IsConcluded, IsRacesPlayed};
 ghost use Rattle.lrc_races_stream.specs.declared.outcome.Outcome.{Outcome as AnyOutcome};
 
@@ -16,7 +18,8 @@ use std::alloc::Global;
 use std::io::Write;
 
 /// Reports the races of the trace in a file, in this form, while it is read, and returns the exit status. The path `-`
-/// is standard input. The races that are asked for go to `out`, and a fault goes to `err`.
+/// is standard input. The races that are asked for go to `out`. What is to be noted of the lines goes to `err`, and a
+/// fault behind it.
 pub fn play_races<F: Sources, W: Write, E: Write>(
     alloc: Global,
     path: &str,
@@ -38,7 +41,7 @@ pub fn play_races<F: Sources, W: Write, E: Write>(
     }
 }
 
-// Tells the races of a trace, and says what it came to.
+// Tells the races of a trace, notes what is to be noted of its lines, and says what it came to.
 fn play_trace<B: Blocks + Drop, W: Write, E: Write>(
     alloc: Global,
     form: Form,
@@ -49,10 +52,11 @@ fn play_trace<B: Blocks + Drop, W: Write, E: Write>(
 ) -> u8
     ensures { (outcome : AnyOutcome) × Comes form asked (B.left trace) (W.contents out.old)
         (W.contents out.new) outcome
-        × IsConcluded outcome (E.contents err.old) (E.contents err.new) result }
+        × ((mid : Option (List ℕ)) × Hears form (B.left trace) (E.contents err.old) mid outcome
+        × IsConcluded outcome mid (E.contents err.new) result) }
 {
     let mut trace = trace;
-    let outcome = tell_races(alloc, form, asked, &mut trace, out);
+    let outcome = tell_races(alloc, form, asked, &mut trace, out, err);
     conclude(alloc, outcome, err)
 }
 

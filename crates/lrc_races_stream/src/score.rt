@@ -7,10 +7,9 @@ ghost use Rattle.lrc_races_witness.specs.Relations.{AreByLine};
 ghost use Rattle.lrc_races_text.specs.declared.form.Form.{Form as AnyForm};
 ghost use Rattle.lrc_shell_sources.specs.Known.{Held};
 ghost use Rattle.lrc_races_stream.specs.Answer.{IsAnswerTold};
-ghost use Rattle.lrc_races_stream.specs.Locations.{most_lines};
 ghost use Rattle.lrc_races_notes.specs.Noting.{KeepsBoth};
 ghost use Rattle.lrc_races_stream.specs.Noted.{IsKnown, Notes};
-ghost use Rattle.lrc_races_stream.specs.Reach.{IsSeeking};
+ghost use Rattle.lrc_races_stream.specs.Reach.{IsSeeking, most_lines};
 ghost use Rattle.lrc_races_stream.specs.Score.{IsBegunTrace, IsReportCause, IsReportRead, IsReportRefused, IsScored, IsScorePlayed, IsTraceScored, Scores, bad_claim_line};
 ghost use Rattle.lrc_races_stream.specs.declared.answer.Answer.{Answer as AnyAnswer};
 

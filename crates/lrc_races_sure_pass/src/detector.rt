@@ -6,6 +6,7 @@ ghost use Rattle.lrc_races_trace.specs.Order.{Precedes};
 ghost use Rattle.lrc_races_sure.specs.Sure.{AreSureToldAt};
 ghost use Rattle.lrc_races_detector.specs.Clocks.{row, IsGained};
 ghost use Rattle.lrc_races_detector.specs.Knowing.{AreVariables};
+ghost use Rattle.lrc_races_detector.specs.Vectors.{entries};
 ghost use Rattle.lrc_races_sure_pass.specs.Knowing.{Gathers, AreThreads, AreLocks, AreBarriers, AreWrites, IsAsked, IsReached, written};
 ghost use Rattle.lrc_races_sure_pass.specs.Detecting.{HasTaken};
 
@@ -13,6 +14,7 @@ use lrc_races_detector::barriers::Barriers;
 use lrc_races_detector::clocks::Clocks;
 use lrc_races_detector::detector::{access, receive};
 use lrc_races_detector::variables::Variables;
+use lrc_races_detector::vectors::Known;
 use lrc_races_trace::event::{Event, Operation, Pair, Placed};
 use std::alloc::{AllocError, Global};
 
@@ -36,12 +38,12 @@ pub struct SureDetector {
 // Tells the sure pairs of an event, and notes it.
 fn judge(
     variables: &mut Variables,
-    known: &[u64],
+    known: Known<'_>,
     placed: Placed,
     told: &mut Vec<Pair>,
 ) -> Result<(), AllocError>
     ensures { OnOk result ((events : List Event) → At events placed.position placed.event
-        → Gathers events (λ k. Precedes events k placed.position) known.now
+        → Gathers events (λ k. Precedes events k placed.position) (entries known.entry)
         → AreVariables events placed.position variables.old
         → told.old.items ≡ []
         → AreVariables events (placed.position + 1) variables.new
@@ -75,9 +77,9 @@ fn learn(threads: &mut Clocks, writes: &Clocks, event: Event) -> Result<(), Allo
 }
 
 // A variable that is written keeps what the thread knows.
-fn give_write(writes: &mut Clocks, known: &[u64], event: Event) -> Result<(), AllocError>
+fn give_write(writes: &mut Clocks, known: Known<'_>, event: Event) -> Result<(), AllocError>
     ensures { OnOk result ((events : List Event) (n : ℕ) → At events n event
-        → Gathers events (λ k. k ≡ n) known.now
+        → Gathers events (λ k. k ≡ n) (entries known.entry)
         → AreWrites events n writes.old → AreWrites events (n + 1) writes.new) }
 {
     match event.operation {
@@ -105,9 +107,9 @@ fn give_thread(threads: &mut Clocks, event: Event) -> Result<(), AllocError>
 }
 
 // A lock that is released or posted keeps what the thread knows.
-fn give_lock(locks: &mut Clocks, known: &[u64], event: Event) -> Result<(), AllocError>
+fn give_lock(locks: &mut Clocks, known: Known<'_>, event: Event) -> Result<(), AllocError>
     ensures { OnOk result ((events : List Event) (n : ℕ) → At events n event
-        → Gathers events (λ k. k ≡ n) known.now
+        → Gathers events (λ k. k ≡ n) (entries known.entry)
         → AreLocks events n locks.old → AreLocks events (n + 1) locks.new) }
 {
     match event.operation {
@@ -120,9 +122,9 @@ fn give_lock(locks: &mut Clocks, known: &[u64], event: Event) -> Result<(), Allo
 }
 
 // A barrier at which the thread arrives keeps what it knows; where it departs, a cycle may be closed.
-fn give_barrier(barriers: &mut Barriers, known: &[u64], event: Event) -> Result<(), AllocError>
+fn give_barrier(barriers: &mut Barriers, known: Known<'_>, event: Event) -> Result<(), AllocError>
     ensures { OnOk result ((events : List Event) (n : ℕ) → n + 1 < 2 ^ 64 → At events n event
-        → Gathers events (λ k. k ≡ n) known.now
+        → Gathers events (λ k. k ≡ n) (entries known.entry)
         → AreBarriers events n barriers.old → AreBarriers events (n + 1) barriers.new) }
 {
     let thread = event.thread as usize;

@@ -6,6 +6,7 @@ ghost use Rattle.lrc_races_detector.specs.Barriers.{SameBarrier, IsArrived, IsDe
 ghost use Rattle.lrc_races_why.specs.Cycles.{cycle_in, AreNumbers, AreCycles};
 
 use lrc_races_detector::barriers::Barrier;
+use lrc_races_detector::vectors::Known;
 use lrc_races_trace::event::{Event, Operation};
 use std::alloc::{AllocError, Global};
 
@@ -63,7 +64,7 @@ fn arrive(barriers: &mut Vec<Barrier>, barrier: usize, thread: usize) -> Result<
 {
     let alloc = *barriers.allocator();
     reach(alloc, barriers, barrier)?;
-    barriers[barrier].arrive(thread, &[])?;
+    barriers[barrier].arrive(thread, Known::nothing())?;
     Ok(())
 }
 

@@ -1,6 +1,7 @@
 -- What a detector knows of an event is what comes before it.
 use Rattle.std.proofs.Common.{◌≡◌, ℕ, ◌+◌, ◌<◌, List, inl, inr, refl, sym, subst, arith}
 use Rattle.std.proofs.lemmas.Bool.{cases_eq}
+use Rattle.std.specs.Prelude.{slice_index}
 use Rattle.lrc_races_trace.specs.declared.event.Event.{Event}
 use Rattle.lrc_races_trace.specs.Trace.{At}
 use Rattle.lrc_races_trace.specs.Order.{Precedes, program, fork, base, Reaches}
@@ -31,6 +32,23 @@ module _ (events : List Event) (j : ℕ) (b : Event) (here : At events j b) wher
       λ reaches. (are b.thread).complete p j a at (omega arith, (b, here, inl refl)) reaches,
     );
   })
+
+-- the same entries
+pub past_equal : (events : List Event) (j : ℕ) (x z : List ℕ) → ((t : ℕ) → slice_index z t ≡ slice_index x t) → IsPast events j x → IsPast events j z
+past_equal events j x z same h = record {
+  exact = λ p a at.
+      let e = same a.thread in
+      let was = h.exact p a at in
+      (λ lt. was.0 (omega arith), λ reaches. let lt = was.1 reaches in omega arith);
+}
+
+pub way_equal : (events : List Event) (j : ℕ) (x z : List ℕ) → ((t : ℕ) → slice_index z t ≡ slice_index x t) → IsWay events j x → IsWay events j z
+way_equal events j x z same h = record {
+  exact = λ p a at.
+      let e = same a.thread in
+      let was = h.exact p a at in
+      (λ lt. was.0 (omega arith), λ through. let lt = was.1 through in omega arith);
+}
 
 -- what is known of the events that come right before one is by way of which events it was reached
 module _ (events : List Event) (j : ℕ) where

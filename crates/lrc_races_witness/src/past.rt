@@ -64,8 +64,7 @@ pub fn past_of(alloc: Global, events: &[Event], position: usize) -> Result<Vec<u
     let mut detector = Detector::new(alloc);
     take_first(alloc, &mut detector, events, position + 1)?;
     let thread = events[position].thread;
-    let known = Vec::from_slice(alloc, detector.threads.row(thread as usize))?;
-    Ok(known)
+    detector.threads.row(thread as usize).list(alloc)
 }
 
 /// Returns by way of which events the event at a position was reached: for each thread a number, below which stand
@@ -83,6 +82,5 @@ pub fn way_of(alloc: Global, events: &[Event], position: usize) -> Result<Vec<u6
         &detector.barriers,
         event,
     )?;
-    let known = Vec::from_slice(alloc, detector.threads.row(event.thread as usize))?;
-    Ok(known)
+    detector.threads.row(event.thread as usize).list(alloc)
 }

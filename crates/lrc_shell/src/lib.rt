@@ -2,6 +2,7 @@
 //! that they name, carries out the request, and returns the exit status.
 #![tactic(auto)]
 
+mod more;
 mod played;
 mod progress;
 mod races;
@@ -10,8 +11,10 @@ mod refusal;
 mod scoring;
 mod starting;
 mod topic;
+mod tracing;
 mod watched;
 
+pub use lrc_shell_more::outlet::{Kept, Outlet};
 pub use lrc_shell_sources::sources::{Sources, System, read_up_to};
 pub use played::play;
 pub use progress::{Late, LateLine, Watch};

@@ -1,11 +1,13 @@
 // What a choice names: the text of its FILE, and that of its events.
 
-ghost use Rattle.std.specs.Prelude.{◌≡◌, ◌⊎◌, IfErr, IfOk, is_some, option_map};
+ghost use Rattle.std.specs.Prelude.{◌≡◌, IfErr, IfOk, Some, is_some, option_map};
 ghost use Rattle.std.specs.IoError.{error_kind};
 ghost use Rattle.lrc_cli_args.specs.Files.{events_of, file_of, names_events, reads_acts};
-ghost use Rattle.lrc_shell.specs.Plays.{AreEventsRead, IsEventsCause, IsTextCause, IsTextRead, most_read};
+ghost use Rattle.lrc_shell.specs.Plays.{AreEventsRead, IsTextCause, IsTextRead, IsUnread, most_read};
+ghost use Rattle.lrc_shell_sources.specs.Known.{IsCause};
 
 use lrc_cli_args::choice::Choice;
+use lrc_shell_more::more::Unread;
 use lrc_shell_sources::sources::Sources;
 use std::alloc::Global;
 use std::io;
@@ -35,19 +37,42 @@ pub(crate) struct Texts {
 }
 
 /// Reads the texts that a choice names. It fails if one of them cannot be read.
-pub(crate) fn read<F: Sources>(alloc: Global, sources: &F, choice: &Choice<'_>) -> io::Result<Texts>
+pub(crate) fn read<'w, F: Sources>(
+    alloc: Global,
+    sources: &F,
+    choice: &Choice<'w>,
+) -> Result<Texts, Unread<'w>>
     ensures named { IfOk result (λ read. is_some read.events ≡ names_events choice.now) }
     ensures text { IfOk result (λ read. IsTextRead (F.known sources.now)
         (most_read (reads_acts choice.now)) (file_of choice.now) read.text.items) }
     ensures events { IfOk result (λ read. AreEventsRead (F.known sources.now) (events_of choice.now)
         (option_map (λ e. e.items) read.events)) }
-    ensures err { IfErr result (λ error. IsTextCause (F.known sources.now) (file_of choice.now)
-        (error_kind error) ⊎ IsEventsCause (F.known sources.now) (events_of choice.now)
-        (error_kind error)) }
+    ensures err { IfErr result (λ unread. IsUnread (F.known sources.now) choice.now
+        unread.path.now unread.error) }
 {
-    let text = read_text(alloc, sources, choice)?;
+    let text = read_named(alloc, sources, choice)?;
     let events = read_events(alloc, sources, choice)?;
     Ok(Texts { text, events })
+}
+
+// Reads the text of the FILE.
+fn read_named<'w, F: Sources>(
+    alloc: Global,
+    sources: &F,
+    choice: &Choice<'w>,
+) -> Result<Vec<u8>, Unread<'w>>
+    ensures ok { IfOk result (λ text. IsTextRead (F.known sources.now)
+        (most_read (reads_acts choice.now)) (file_of choice.now) text.items) }
+    ensures err { IfErr result (λ unread. (unread.path.now ≡ file_of choice.now)
+        × IsTextCause (F.known sources.now) unread.path.now (error_kind unread.error)) }
+{
+    match read_text(alloc, sources, choice) {
+        Ok(text) => Ok(text),
+        Err(error) => Err(Unread {
+            path: choice.file(),
+            error,
+        }),
+    }
 }
 
 // Reads the text of a program, or of acts. The path `-` is standard input.
@@ -78,19 +103,22 @@ fn most_read(choice: &Choice<'_>) -> u64
 }
 
 // Reads the text of the events, where a choice names one.
-fn read_events<F: Sources>(
+fn read_events<'w, F: Sources>(
     alloc: Global,
     sources: &F,
-    choice: &Choice<'_>,
-) -> io::Result<Option<Vec<u8>>>
+    choice: &Choice<'w>,
+) -> Result<Option<Vec<u8>>, Unread<'w>>
     ensures named { IfOk result (λ events. is_some events ≡ names_events choice.now) }
     ensures ok { IfOk result (λ events. AreEventsRead (F.known sources.now) (events_of choice.now)
         (option_map (λ e. e.items) events)) }
-    ensures err { IfErr result (λ error. IsEventsCause (F.known sources.now) (events_of choice.now)
-        (error_kind error)) }
+    ensures err { IfErr result (λ unread. (events_of choice.now ≡ Some unread.path.now)
+        × IsCause ((F.known sources.now).files unread.path.now) (error_kind unread.error)) }
 {
-    match choice.events() {
-        Some(path) => Ok(Some(sources.file(alloc, path, EVENTS_READ)?)),
-        None => Ok(None),
+    let Some(path) = choice.events() else {
+        return Ok(None);
+    };
+    match sources.file(alloc, path, EVENTS_READ) {
+        Ok(events) => Ok(Some(events)),
+        Err(error) => Err(Unread { path, error }),
     }
 }

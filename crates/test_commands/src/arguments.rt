@@ -1,7 +1,7 @@
 // What is said where the system gives no words.
 
 use crate::checks::passes;
-use lrc_shell::{LateLine, System, start};
+use lrc_shell::{Kept, LateLine, System, start};
 use std::fs::Files;
 use std::io;
 use std::io::{Eprint, ErrorKind, Input};
@@ -37,12 +37,12 @@ fn is_refused<R>(rt: &R, row: &Row) -> bool
 where
     R: Threads + Wait + Sync + Clock + Files + Input + Eprint + AllocGlobal,
 {
-    let mut out = Vec::new(rt.alloc());
+    let mut out = Kept::new(Vec::new(rt.alloc()));
     let mut err = Vec::new(rt.alloc());
     let unread = Err(io::Error::from(row.kind));
     let late: Option<LateLine<'_, R>> = None;
     let given = start(rt, unread, &System { rt }, late, &mut out, &mut err);
-    given == row.status && out.is_empty() && err.as_slice() == row.line
+    given == row.status && out.writer.is_empty() && err.as_slice() == row.line
 }
 
 fn first_wrong<R>(rt: &R) -> Option<&'static str>

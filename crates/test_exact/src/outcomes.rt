@@ -580,6 +580,14 @@ const RACES: &[Row] = &[
         collect: 0,
         outcomes: &[b"node 0 ended / node 1 prints 0 / node 1 prints 0 / node 1 ended"],
     },
+    Row {
+        name: "spin_flag",
+        text: b"words 1; locks 0; if me == 0 { [0] = 1; } else { while x == 0 { x = [0]; } print x; }",
+        nodes: 2,
+        page_words: 64,
+        collect: 0,
+        outcomes: &[],
+    },
 ];
 
 #[test]

@@ -192,6 +192,38 @@ fn dekker(rt: HostRuntime) {
     passes(&rt, first_wrong(rt.alloc(), DEKKER));
 }
 
+const GOES_ON_FOR_EVER: &[Row] = &[
+    Row {
+        name: "goes_on_for_ever and prints",
+        text: b"words 1; locks 0; while 1 { print 1; }",
+        nodes: 2,
+        outcomes: &[],
+    },
+    Row {
+        name: "goes_on_for_ever and prints what it reads",
+        text: b"words 1; locks 1; if me == 0 { acquire 0; [0] = 7; release 0; } if me == 1 { while 1 { x = [0]; print x; } }",
+        nodes: 2,
+        outcomes: &[],
+    },
+    Row {
+        name: "goes_on_for_ever after a long turn",
+        text: b"words 1; locks 0; while 1 { i = (i + 1) % 1000; [0] = 1; }",
+        nodes: 2,
+        outcomes: &[],
+    },
+    Row {
+        name: "goes_on_for_ever where it learned of a write",
+        text: b"words 1; locks 1; acquire 0; x = [0]; if me == 0 { [0] = 1; } release 0; while x { print x; } print x;",
+        nodes: 2,
+        outcomes: &[b"node 0 prints 0 / node 0 ended / node 1 prints 0 / node 1 ended"],
+    },
+];
+
+#[test]
+fn goes_on_for_ever(rt: HostRuntime) {
+    passes(&rt, first_wrong(rt.alloc(), GOES_ON_FOR_EVER));
+}
+
 const IRIW_LOCKS: &[Row] = &[Row {
     name: "iriw_locks",
     text: b"words 2; locks 2; if me < 2 { acquire me; [me] = 1; release me; } else { acquire me - 2; x = [me - 2]; release me - 2; acquire 3 - me; y = [3 - me]; release 3 - me; print x; print y; }",

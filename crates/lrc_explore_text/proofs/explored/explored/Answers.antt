@@ -1,6 +1,6 @@
 use Rattle.std.specs.Prelude.{false, map, true}
 use Rattle.lrc_explain_waits.specs.Traps.{wording_of}
-use Rattle.lrc_explore_text.proofs.Telling.{fits_in, fits_noted, gives_up, of_orders, of_outcomes}
+use Rattle.lrc_explore_text.proofs.Telling.{gives_up, of_orders, of_outcomes}
 use Rattle.lrc_explore_text.proofs.explored.explored.Goals as goal
 
 pub returns-then-outcomes-clause-ok : goal.returns-then-outcomes-clause-ok
@@ -12,14 +12,6 @@ pub returns-else-outcomes-clause-ok : goal.returns-else-outcomes-clause-ok
 returns-else-outcomes-clause-ok c =
     of_orders (wording_of c.args.wording.now) c.args.program.now c.args.nodes c.args.lines.now c.args.outcomes c.orders_told.result c.if-outcomes.false
     c.orders_told.ensures.ok
-
-pub returns-then-outcomes-clause-fits : goal.returns-then-outcomes-clause-fits
-returns-then-outcomes-clause-fits c =
-    fits_noted c.args.program.now c.args.nodes c.args.most c.args.outcomes c.outcomes_told.result c.if-outcomes.true c.outcomes_told.ensures.fits
-
-pub returns-else-outcomes-clause-fits : goal.returns-else-outcomes-clause-fits
-returns-else-outcomes-clause-fits c =
-    fits_in c.args.program.now c.args.nodes c.args.most c.args.outcomes c.orders_told.result c.if-outcomes.false c.orders_told.ensures.fits
 
 pub returns-then-outcomes-clause-too_many : goal.returns-then-outcomes-clause-too_many
 returns-then-outcomes-clause-too_many c =

@@ -4,7 +4,6 @@ use Rattle.lrc_orders.specs.declared.outcomes.Outcome.{Outcome}
 use Rattle.lrc_orders.specs.declared.search.ExploreFault.TheVariants.{NoMemory}
 use Rattle.lrc_orders.proofs.Faults.{fault_up}
 use Rattle.lrc_explore.specs.Answers.{IsSearchFault}
-use Rattle.lrc_explore.proofs.Seeking.{of_step}
 use Rattle.lrc_explore_text.specs.OutcomeRun.{IsPlaceOfNumber}
 use Rattle.lrc_explore_text.proofs.Numbered.{fewer, no_memory, numbered}
 use Rattle.lrc_explore_text.proofs.outcome_run.run_of.Goals as goal
@@ -24,7 +23,7 @@ run_at-requires-clause-within c =
 pub returns-in_err-acts-in-Some-clause-faults : goal.returns-in_err-acts-in-Some-clause-faults
 returns-in_err-acts-in-Some-clause-faults c =
     fault_up c.from_residual-in_err-acts-in-Some.result c.in_err-acts-in-Some.field-0.0 (IsSearchFault c.args.task.now false) c.from_residual-in_err-acts-in-Some.ensures.1
-    (of_step c.args.task.now false _ c.in_err-acts-in-Some.ensures.faults)
+    c.in_err-acts-in-Some.ensures.faults
 
 pub returns-in-Some-clause-run : goal.returns-in-Some-clause-run
 returns-in-Some-clause-run c =

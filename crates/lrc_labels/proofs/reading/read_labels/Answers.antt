@@ -6,6 +6,7 @@ loop-place-preserved c = (
   said_more c.args.words c.args.locks (λ line. line.now) _ c.loop-place.place _ c.loop-place-test.true _ _ c.loop-place.invariant.0 c.in_ok-read_line.ensures.said,
   idle_more c.args.words c.args.locks (λ line. line.now) _ c.loop-place.place _ c.loop-place-test.true _ _ _ c.loop-place.invariant.0 c.loop-place.invariant.1
       c.in_ok-read_line.ensures.idle,
+  c.in_ok-read_line.ensures.known,
 )
 
 pub returns-clause-said : goal.returns-clause-said

@@ -1,13 +1,15 @@
 -- The entry of the thread is set, or put in.
-use Rattle.std.proofs.Common.{length, sym, subst, ◌∙◌, ap, arith}
+use Rattle.std.proofs.Common.{◌<◌, suc, length, refl, sym, subst, ◌∙◌, ap, arith}
 use Rattle.std.proofs.lemmas.List.{get_or_default}
+use Rattle.std.proofs.lemmas.Option.{slice_get_read}
 use Rattle.lrc_races_detector.specs.Variables.{thread_of, IsAscending, IsPlace}
 use Rattle.lrc_races_detector.proofs.Placing.{noted_again, noted_first}
+use Rattle.lrc_races_detector.proofs.Written.{written_put, written_set}
 use Rattle.lrc_races_detector.proofs.variables.note_last.Goals as goal
 use Rattle.lrc_races_detector.proofs.variables.note_last.Goals.{then-at-len+else-last-thread, else-at-len}
 
-pub returns-then-last-thread : goal.returns-then-last-thread
-returns-then-last-thread c = record {
+pub returns-then-last-thread-clause-noted : goal.returns-then-last-thread-clause-noted
+returns-then-last-thread-clause-noted c = record {
   noted = λ ascending.
       let xs = c.args.lasts.now.items in
       let long = c.as_slice.ensures.len in
@@ -20,8 +22,27 @@ returns-then-last-thread c = record {
       c.index-last.result.now _ (omega arith) c.index-last.ensures c.if-last-thread.true);
 }
 
-pub returns : goal.returns
-returns c = record {
+pub returns-then-last-thread-clause-written : goal.returns-then-last-thread-clause-written
+returns-then-last-thread-clause-written c =
+    let xs = c.args.lasts.now.items in
+    let at = c.place_of-at.result in
+    let len = c.len.ensures in
+    let within = c.if-at-len.true in
+    let within' : at < length xs = omega arith in
+    rw c.noted.ensures (written_set xs at c.index-last.result.now c.args.placed c.args.is_write
+    (slice_get_read xs (length xs) at c.index-last.result.now refl within' c.index-last.ensures))
+
+pub returns-clause-written : goal.returns-clause-written
+returns-clause-written c =
+    let xs = c.args.lasts.now.items in
+    let long = c.as_slice.ensures.len in
+    let same = ap length c.as_slice.ensures.value in
+    let within = c.place_of-at.ensures.within in
+    let within' : c.place_of-at.result < suc (length xs) = omega arith in
+    rw (c.in_ok-insert.ensures.items, c.noted-2.ensures) (written_put xs c.place_of-at.result c.args.placed c.args.is_write within')
+
+pub returns-clause-noted : goal.returns-clause-noted
+returns-clause-noted c = record {
   noted = λ ascending.
       let xs = c.args.lasts.now.items in
       let at = c.place_of-at.result in

@@ -2,8 +2,8 @@
 use Rattle.std.proofs.Common.{[], inl, refl}
 use Rattle.lrc_races_locations.specs.Lines.{IsLocated}
 use Rattle.lrc_races_notes.specs.Noting.{KeepsBoth}
-use Rattle.lrc_races_stream.specs.Locations.{most_lines, stopped}
-use Rattle.lrc_races_stream.specs.Reach.{out_of_memory}
+use Rattle.lrc_races_stream.specs.Locations.{stopped}
+use Rattle.lrc_races_stream.specs.Reach.{most_lines, out_of_memory}
 use Rattle.lrc_races_stream.proofs.SeekerLemmas.{seeking_first}
 use Rattle.lrc_races_stream.proofs.TellerLemmas.{nothing_written}
 use Rattle.lrc_races_stream.proofs.locating.report.Goals as goal

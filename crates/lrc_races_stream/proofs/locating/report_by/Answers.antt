@@ -1,6 +1,6 @@
 -- What is noted is told before the report.
-use Rattle.lrc_races_stream.specs.Locations.{Reports, most_lines, stopped}
-use Rattle.lrc_races_stream.specs.Reach.{out_of_memory}
+use Rattle.lrc_races_stream.specs.Locations.{Reports, stopped}
+use Rattle.lrc_races_stream.specs.Reach.{most_lines, out_of_memory}
 use Rattle.lrc_races_stream.proofs.NotedLemmas.{noted_so}
 use Rattle.lrc_races_stream.proofs.locating.report_by.Goals as goal
 

@@ -1,9 +1,9 @@
 -- What is kept of all lines is told, or why they were not read.
 use Rattle.std.proofs.Common.{subst}
 use Rattle.lrc_races_locations.specs.Lines.{IsLocated}
-use Rattle.lrc_races_stream.specs.Locations.{most_lines, stopped}
+use Rattle.lrc_races_stream.specs.Locations.{stopped}
 use Rattle.lrc_races_stream.specs.Noted.{IsKnownAt}
-use Rattle.lrc_races_stream.specs.Reach.{IsHalt, out_of_memory}
+use Rattle.lrc_races_stream.specs.Reach.{IsHalt, most_lines, out_of_memory}
 use Rattle.lrc_races_stream.specs.declared.answer.Stop.{Stop}
 use Rattle.lrc_races_stream.proofs.KnownLemmas.{known_reported}
 use Rattle.lrc_races_stream.proofs.LocationLemmas.{all_reported}

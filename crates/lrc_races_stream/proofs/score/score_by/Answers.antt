@@ -1,6 +1,5 @@
 -- What is noted is told before the score.
-use Rattle.lrc_races_stream.specs.Locations.{most_lines}
-use Rattle.lrc_races_stream.specs.Reach.{out_of_memory}
+use Rattle.lrc_races_stream.specs.Reach.{most_lines, out_of_memory}
 use Rattle.lrc_races_stream.specs.Score.{Scores, stopped}
 use Rattle.lrc_races_stream.proofs.NotedLemmas.{noted_so}
 use Rattle.lrc_races_stream.proofs.score.score_by.Goals as goal

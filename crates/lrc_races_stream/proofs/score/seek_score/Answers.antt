@@ -1,9 +1,8 @@
 -- The claims about all lines are scored, or why they were not read.
 use Rattle.std.proofs.Common.{subst}
 use Rattle.lrc_races_scored.specs.Traced.{HasTraced}
-use Rattle.lrc_races_stream.specs.Locations.{most_lines}
 use Rattle.lrc_races_stream.specs.Noted.{IsKnownAt}
-use Rattle.lrc_races_stream.specs.Reach.{IsHalt, out_of_memory}
+use Rattle.lrc_races_stream.specs.Reach.{IsHalt, most_lines, out_of_memory}
 use Rattle.lrc_races_stream.specs.Score.{stopped}
 use Rattle.lrc_races_stream.specs.declared.answer.Stop.{Stop}
 use Rattle.lrc_races_stream.proofs.KnownLemmas.{known_scored}

@@ -7,6 +7,7 @@ use Rattle.lrc_races_detector.specs.declared.barriers.Barrier.{Barrier}
 use Rattle.lrc_races_detector.specs.Barriers.{SameBarrier}
 use Rattle.lrc_races_sure_pass.specs.Knowing.{IsBarrier}
 use Rattle.lrc_races_sure_pass.proofs.Giving.{barrier_kept, barrier_arrived, barrier_departed}
+use Rattle.lrc_races_detector.specs.Vectors.{entries}
 use Rattle.lrc_races_sure_pass.proofs.detector.give_barrier.Goals as goal
 
 same : (o : Option Barrier) → SameBarrier o o
@@ -27,7 +28,7 @@ returns-in_ok-arrive-in-Arrive c = λ events n few here g old x.
       | inl here_too ↦
           subst (λ z. IsBarrier events (n + 1) z (slice_get c.arrive.new.self.barriers.items z)) (sym here_too)
           (barrier_arrived events n c.args.event here y c.in-Arrive.is (slice_get c.args.barriers.now.barriers.items y)
-          (slice_get c.arrive.new.self.barriers.items y) c.args.known.now g c.in_ok-arrive-in-Arrive.ensures.here (old y))
+          (slice_get c.arrive.new.self.barriers.items y) (entries c.args.known) g c.in_ok-arrive-in-Arrive.ensures.here (old y))
       | inr other ↦
           barrier_kept events n c.args.event here x
           (λ e. let one : x ≡ y = cc in other one) (λ e. let never : ⊥ = cc in never) old_x new_x

@@ -1,8 +1,7 @@
 use Rattle.std.proofs.Common.{option_map, subst, sym}
-use Rattle.std.specs.IoError.{error_kind}
 use Rattle.lrc_cli_args.specs.Files.{events_of, file_of, reads_acts}
 use Rattle.lrc_shell.specs.Plays.{AreEventsRead, IsTextRead, most_read, performed, unread}
-use Rattle.lrc_shell.proofs.PlayLemmas.{same}
+use Rattle.lrc_shell_more.proofs.MoreLemmas.{same}
 use Rattle.lrc_shell.proofs.played.play_choice.Goals as goal
 
 pub returns-in-Ok : goal.returns-in-Ok
@@ -14,5 +13,5 @@ returns-in-Ok g c =
 
 pub returns-in-Err : goal.returns-in-Err
 returns-in-Err g c =
-    unread (error_kind c.in-Err.error) c.in-Err.ensures.err c.refuse_file.ensures.told
-    (same (g.W.Write.contents c.args.out.now)) c.refuse_file.ensures.status
+    unread c.in-Err.unread.path.now c.in-Err.unread.error c.in-Err.ensures.err c.refuse_unread.ensures.told
+    (same (g.W.Write.contents c.args.out.now)) c.refuse_unread.ensures.status

@@ -1,21 +1,17 @@
-use Rattle.std.proofs.Common.{◌∙◌, ap, drop, map, string_bytes, subst, sym}
-use Rattle.std.proofs.lemmas.List.{drop-map}
-use Rattle.std.specs.IoError.{error_kind}
-use Rattle.std.specs.Result.{result_map_both}
-use Rattle.lrc_cli_args.specs.CommandLine.{words_meant}
-use Rattle.lrc_shell.specs.Plays.{Plays, Starts}
+use Rattle.std.proofs.Common.{◌≡◌, Bool, Option, subst}
+use Rattle.std.specs.declared.io.Error.{Error}
+use Rattle.lrc_shell_more.specs.More.{IsMoreTold, failure_lines}
 use Rattle.lrc_shell.proofs.starting.start.Goals as goal
 
-pub returns-in-Ok : goal.returns-in-Ok
-returns-in-Ok g c =
-    let known = g.F.Sources.known c.args.sources.now in
-    let out = g.W.Write.contents c.args.out.now in
-    let out' = g.W.Write.contents c.play.new.out in
-    let err = g.E.Write.contents c.args.err.now in
-    let err' = g.E.Write.contents c.play.new.err in
-    subst
-    (λ arguments. Starts known (result_map_both (λ given. map string_bytes given.items) error_kind arguments) out out' err err' c.play.result)
-    (sym c.in-Ok.is)
-    (subst (λ words. Plays known (words_meant words) out out' err err' c.play.result)
-    (ap (λ given. map string_bytes (drop 1 given)) c.deref.ensures.value ∙ sym (drop-map string_bytes 1 c.in-Ok.arguments.items))
-    c.play.ensures)
+pub returns : goal.returns
+returns g c =
+    let between = g.E.Write.contents c.begin-status.new.err in
+    let err' = g.E.Write.contents c.tell_failure.new.err in
+    record {
+      between = between;
+      begins = c.begin-status.ensures;
+      more = subst (λ (terminal : Bool). IsMoreTold terminal (λ lines. lines ≡ failure_lines (g.W.Outlet.failure_of c.begin-status.new.out)) between err')
+          c.is_some-terminal.ensures
+          (subst (λ (failure : Option Error). IsMoreTold c.is_some-terminal.result (λ lines. lines ≡ failure_lines failure) between err') c.failure.ensures
+          c.tell_failure.ensures);
+    }

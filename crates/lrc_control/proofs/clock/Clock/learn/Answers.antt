@@ -27,8 +27,8 @@ invariant_of-self c =
     let counted : length c.args.time.now ≡ length n.time = c.requires ∙ sym (ap (λ (l : Locks). length l.time) c.self.view_is) in
     let same = ap length c.join.ensures ∙ length-joined_same n.time c.args.time.now (sym counted) in
     as_long n.me
-    (record { time = n.time; held = n.held; managed = n.managed })
-    (record { time = c.join.new.self; held = n.held; managed = n.managed })
+    (record { time = n.time; held = n.held.value; managed = n.managed })
+    (record { time = c.join.new.self; held = n.held.value; managed = n.managed })
     refl refl same c.self.invariant
 
 pub returns-clause-same : goal.returns-clause-same
@@ -36,5 +36,5 @@ returns-clause-same c =
     let n = c.self.inside in
     let counted : length c.args.time.now ≡ length n.time = c.requires ∙ sym (ap (λ (l : Locks). length l.time) c.self.view_is) in
     let same = ap length c.join.ensures ∙ length-joined_same n.time c.args.time.now (sym counted) in
-    let after : Locks = record { time = c.join.new.self; held = n.held; managed = n.managed } in
+    let after : Locks = record { time = c.join.new.self; held = n.held.value; managed = n.managed } in
     subst (λ (l : Locks). SameClock l after) c.self.view_is (stays _ after refl same)

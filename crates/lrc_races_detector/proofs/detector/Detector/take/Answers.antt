@@ -3,6 +3,7 @@ use Rattle.std.proofs.Common.{◌≡◌, ◌+◌, ◌<◌, ◌^◌, ◌∙◌, s
 use Rattle.lrc_races_trace.specs.Trace.{At}
 use Rattle.lrc_races_trace.specs.Races.{AreToldAt}
 use Rattle.lrc_races_detector.specs.Knowing.{Gathers, AreLocks, AreBarriers, AreVariables}
+use Rattle.lrc_races_detector.specs.Vectors.{entries}
 use Rattle.lrc_races_detector.proofs.detector.Detector.take.Goals as goal
 
 pub returns : goal.returns
@@ -11,11 +12,11 @@ returns c = λ events n here old.
     let between = c.reach.new.self in
     let reached = c.in_ok-reach.ensures.reached events n here old in
     let at : between.position ≡ n = c.reach.ensures.position ∙ old.position in
-    let own : Gathers events (λ k. k ≡ n) c.row-known.result.now = subst (λ x. Gathers events (λ k. k ≡ n) x) (sym c.row-known.ensures) reached.own in
+    let own : Gathers events (λ k. k ≡ n) (entries c.row-known.result) = subst (λ x. Gathers events (λ k. k ≡ n) x) (sym c.row-known.ensures) reached.own in
     let variables : AreVariables events between.position between.variables =
     subst (λ m. AreVariables events m between.variables) (sym at) (subst (λ v. AreVariables events n v) (sym c.reach.ensures.variables) old.variables) in
     let judged = c.in_ok-judge.ensures events (subst (λ m. At events m c.args.event) (sym at) here)
-    (subst (λ m. Gathers events (λ k. k ≡ m) c.row-known.result.now) (sym at) own) variables c.clear.ensures.items in
+    (subst (λ m. Gathers events (λ k. k ≡ m) (entries c.row-known.result)) (sym at) own) variables c.clear.ensures.items in
     let locks : AreLocks events n between.locks = subst (λ l. AreLocks events n l) (sym c.reach.ensures.locks) old.locks in
     let barriers : AreBarriers events n between.barriers = subst (λ b. AreBarriers events n b) (sym c.reach.ensures.barriers) old.barriers in
     let few : n + 1 < 2 ^ 64 = subst (λ m. m + 1 < 2 ^ 64) old.position c.requires in (

@@ -5,6 +5,7 @@ use Rattle.lrc_races_trace.specs.Order.{Precedes}
 use Rattle.lrc_races_sure.specs.Sure.{AreSureToldAt}
 use Rattle.lrc_races_detector.specs.Knowing.{AreVariables}
 use Rattle.lrc_races_sure_pass.specs.Knowing.{Gathers, AreLocks, AreBarriers, AreWrites}
+use Rattle.lrc_races_detector.specs.Vectors.{entries}
 use Rattle.lrc_races_sure_pass.proofs.detector.SureDetector.take.Goals as goal
 
 pub returns : goal.returns
@@ -14,15 +15,15 @@ returns c = λ events n here old.
     let reached = c.reach.new.self in
     let is_asked = c.in_ok-ask.ensures.asked events n here old in
     let at : asked.position ≡ n = c.ask.ensures.position ∙ old.position in
-    let own : Gathers events (λ k. Precedes events k n) c.row-asked.result.now =
+    let own : Gathers events (λ k. Precedes events k n) (entries c.row-asked.result) =
     subst (λ x. Gathers events (λ k. Precedes events k n) x) (sym c.row-asked.ensures) is_asked.own in
     let variables : AreVariables events asked.position asked.variables =
     subst (λ m. AreVariables events m asked.variables) (sym at) (subst (λ v. AreVariables events n v) (sym c.ask.ensures.variables) old.variables) in
     let judged = c.in_ok-judge.ensures events (subst (λ m. At events m c.args.event) (sym at) here)
-    (subst (λ m. Gathers events (λ k. Precedes events k m) c.row-asked.result.now) (sym at) own) variables c.clear.ensures.items in
+    (subst (λ m. Gathers events (λ k. Precedes events k m) (entries c.row-asked.result)) (sym at) own) variables c.clear.ensures.items in
     let writes : AreWrites events n asked.writes = subst (λ w. AreWrites events n w) (sym c.ask.ensures.writes) old.writes in
     let is_reached = c.in_ok-reach.ensures.reached events n here at writes is_asked in
-    let known : Gathers events (λ k. k ≡ n) c.row-known.result.now =
+    let known : Gathers events (λ k. k ≡ n) (entries c.row-known.result) =
     subst (λ x. Gathers events (λ k. k ≡ n) x) (sym c.row-known.ensures) is_reached.own in
     let writes_now : AreWrites events n reached.writes = subst (λ w. AreWrites events n w) (sym c.reach.ensures.writes) writes in
     let locks : AreLocks events n reached.locks =

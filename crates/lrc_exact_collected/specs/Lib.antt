@@ -1,0 +1,3 @@
+pub mod Collected
+pub mod Keepers
+pub mod Laws

@@ -1,0 +1,4 @@
+pub mod Named
+pub mod Closing
+pub mod Learning
+pub mod Accessing

@@ -1,0 +1,3 @@
+pub mod Passing
+pub mod Enough
+pub mod Outcomes

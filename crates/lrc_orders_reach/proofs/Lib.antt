@@ -1,0 +1,5 @@
+pub mod Afterwards
+pub mod Led
+pub mod Placed
+pub mod Coming
+pub mod Values

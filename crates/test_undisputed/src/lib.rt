@@ -1,0 +1,5 @@
+//! Tests of acts that are known to be undisputed.
+#![tactic(auto)]
+
+#[cfg(test)]
+mod undisputed;
