@@ -2,14 +2,14 @@
 use Rattle.std.proofs.Common.{◌≡◌, ◌≤◌, ◌⊎◌, ℕ, Bool, true, List, [], ◌++◌, append-nil, Option, Some, None, append_assoc, refl, sym, subst, ap, ◌∙◌}
 use Rattle.std.proofs.Common.{arith, inl, inr}
 use Rattle.std.specs.Prelude.{◌&&◌, IfSome, MatchOption}
-use Rattle.lrc_lang.specs.declared.program.Program.{Program}
+use Rattle.lrc_program.specs.declared.Program.{Program}
 use Rattle.lrc_trace.specs.declared.act.Act.{Act}
 use Rattle.lrc_trace.specs.Conflict.{IsFirstRace, IsRaceFree}
 use Rattle.lrc_trace.specs.Reading.{ReadsLazily}
 use Rattle.lrc_trace.specs.Synchronization.{IsWellSynchronized}
 use Rattle.lrc_judge.specs.Reading.{Misreads}
 use Rattle.lrc_judge.specs.Synchronization.{Breaks, acquire, release, depart}
-use Rattle.lrc_consistency_laws.specs.Follows.{FollowsText}
+use Rattle.lrc_exec.specs.Follows.{FollowsText}
 use Rattle.lrc_consistency_laws.proofs.UpToRace.{in_range}
 use Rattle.lrc_protocol.proofs.Texts.{text}
 use Rattle.lrc_order_laws.proofs.Timed.{synchronized}

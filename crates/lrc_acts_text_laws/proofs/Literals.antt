@@ -7,8 +7,8 @@ use Rattle.lrc_lang.specs.Lexemes.{Lexes, passes_blank, passes_line_feed, passes
 use Rattle.lrc_lang.specs.Lexemes.{takes_name, takes_sign}
 use Rattle.lrc_lang.specs.Lexemes.{stops_at_number, stops_at_byte, stops_at_end}
 use Rattle.lrc_lang.specs.Symbol.{Symbol, Names, names_with, symbol_of, symbol_of_sign, symbols_after, symbols}
-use Rattle.lrc_lang.specs.Statements.{Expression, Statement, Block}
-use Rattle.lrc_lang.specs.Tree.{ProgramTree}
+use Rattle.lrc_program.specs.Statements.{Expression, Statement, Block}
+use Rattle.lrc_program.specs.Tree.{ProgramTree}
 use Rattle.lrc_lang.specs.Grammar.{IsFactor, a_number, a_name, parentheses, IsTerm, factor, product, IsSum, term, sum}
 use Rattle.lrc_lang.specs.Grammar.{IsExpression, one_sum}
 use Rattle.lrc_lang.specs.Grammar.{comparison, IsStatement, IsBlock, braces, AreStatements, none, one_more, AreSymbolsOf, program}

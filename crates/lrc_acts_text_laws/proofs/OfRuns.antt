@@ -1,7 +1,7 @@
 -- Every run meets the premises of the law on the order in the form of RAPID.
 use Rattle.std.proofs.Common.{◌≡◌, ℕ, List}
 use Rattle.std.specs.Prelude.{Some, ◌≢◌, ◌↔◌}
-use Rattle.lrc_lang.specs.declared.program.Program.{Program}
+use Rattle.lrc_program.specs.declared.Program.{Program}
 use Rattle.lrc_trace.specs.Conflict.{Accesses}
 use Rattle.lrc_trace.specs.Order.{HappensBefore}
 use Rattle.lrc_protocol.specs.declared.event.Event.{Event}

@@ -3,7 +3,7 @@ use Rattle.std.proofs.Common.{◌≡◌, ℕ, zero, suc, ◌<◌, List, [], ◌�
 use Rattle.std.specs.Prelude.{Option, Some, None}
 use Rattle.std.proofs.lemmas.Bool.{cases_eq}
 use Rattle.std.proofs.lemmas.Option.{same_Some}
-use Rattle.lrc_lang.specs.declared.program.Program.{Program}
+use Rattle.lrc_program.specs.declared.Program.{Program}
 use Rattle.lrc_trace.specs.declared.act.Act.{Act}
 use Rattle.lrc_trace.specs.declared.act.Deed.{Deed}
 use Rattle.lrc_trace.specs.declared.act.Deed.TheVariants.{Acquire, Release}
@@ -12,8 +12,8 @@ use Rattle.lrc_trace.proofs.Positions.{Does-within}
 use Rattle.lrc_exec.specs.Meaning.{Setting, Thread, Next}
 use Rattle.lrc_exec.specs.Plain.{start_of}
 use Rattle.lrc_exec.proofs.NextLaws.{IsFine, next_of-fine}
-use Rattle.lrc_consistency_laws.specs.Follows.{Goes, quietly, printing, reading, writing, acquiring, releasing, arriving}
-use Rattle.lrc_consistency_laws.specs.Follows.{departing, trapping, ending, Makes, deeds_of, FollowsText}
+use Rattle.lrc_exec.specs.Follows.{Goes, quietly, printing, reading, writing, acquiring, releasing, arriving}
+use Rattle.lrc_exec.specs.Follows.{departing, trapping, ending, Makes, deeds_of, FollowsText}
 use Rattle.lrc_consistency_laws.proofs.Runs.{Makes_first, makes_first, deeds_of-own, deeds_of-other}
 use Rattle.lrc_consistency_laws.proofs.UpToRace.{in_range}
 use Rattle.lrc_acts_text.specs.RapidOrder.{IsOf}

@@ -4,14 +4,14 @@ use Rattle.std.proofs.Common.{map, drop, fold}
 use Rattle.std.proofs.Common.{length-append}
 use Rattle.std.specs.Prelude.{if◌then◌else◌, nat_lt, slice_index, slice_index_or}
 use Rattle.std.specs.List.{All}
-use Rattle.lrc_lang.specs.declared.program.Program.{Program}
+use Rattle.lrc_program.specs.declared.Program.{Program}
 use Rattle.lrc_lang.specs.Token.{Placed}
 use Rattle.lrc_lang.specs.Lexemes.{IsSpan, Lexes, passes_blank, passes_line_feed, passes_comment, takes_number}
 use Rattle.lrc_lang.specs.Lexemes.{takes_keyword, takes_name, takes_sign}
 use Rattle.lrc_lang.specs.Lexemes.{sign_text, stops_at_number, stops_at_byte, stops_at_end}
 use Rattle.lrc_lang.specs.Lines.{HasLines, line_of}
 use Rattle.lrc_lang.specs.Symbol.{Symbol}
-use Rattle.lrc_lang.specs.Tree.{ProgramTree}
+use Rattle.lrc_program.specs.Tree.{ProgramTree}
 use Rattle.lrc_trace.specs.declared.act.Act.{Act}
 use Rattle.lrc_lines.specs.Places.{StandsAmong, in_order}
 use Rattle.lrc_lines.specs.Tasks.{Task, next_line}

@@ -2,15 +2,15 @@
 
 ghost use Rattle.std.specs.Prelude.{◌≡◌, ◌≢◌, ◌<◌, ◌≤◌, ◌⊎◌, ◌↔◌, ◌++◌, ℕ, All, Bool, List, length};
 ghost use Rattle.std.specs.Prelude.{IfSome, MatchResult, None, Option, Result, Some};
-ghost use Rattle.lrc_lang.specs.declared.program.Program.{Program};
+ghost use Rattle.lrc_program.specs.declared.Program.{Program};
 ghost use Rattle.lrc_lang.specs.Faults.{IsText};
-ghost use Rattle.lrc_lang.specs.Tree.{program_of};
+ghost use Rattle.lrc_program.specs.Tree.{program_of};
 ghost use Rattle.lrc_trace.specs.declared.act.Act.{Act};
 ghost use Rattle.lrc_trace.specs.Conflict.{Accesses, IsRaceFree};
 ghost use Rattle.lrc_trace.specs.Order.{HappensBefore};
 ghost use Rattle.lrc_trace.specs.Reading.{ReadsLazily};
 ghost use Rattle.lrc_trace.specs.Synchronization.{WaitsAtBarriers};
-ghost use Rattle.lrc_consistency_laws.specs.Follows.{FollowsText};
+ghost use Rattle.lrc_exec.specs.Follows.{FollowsText};
 ghost use Rattle.lrc_protocol.specs.declared.event.Event.{Event};
 ghost use Rattle.lrc_protocol.specs.Node.{OptionsRecord};
 ghost use Rattle.lrc_protocol.specs.Run.{World, run_of};

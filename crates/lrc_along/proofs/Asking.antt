@@ -1,6 +1,6 @@
 -- What a node asks for, and the deed that it makes.
 use Rattle.std.proofs.Common.{◌≡◌, ◌∙◌, Bool, true, false, List, [], ◌∷◌, Option, inl, inr, refl, sym, ap, subst, map}
-use Rattle.lrc_lang.specs.declared.program.Statement.{Statement}
+use Rattle.lrc_program.specs.declared.Statement.{Statement}
 use Rattle.lrc_trace.specs.declared.act.Deed.{Deed}
 use Rattle.lrc_trace.specs.declared.act.Deed.TheVariants as deeds
 use Rattle.lrc_exec.specs.declared.machine.Ask.{Ask}
@@ -8,7 +8,7 @@ use Rattle.lrc_exec.specs.declared.machine.Ask.TheVariants as asks
 use Rattle.lrc_exec.specs.Ask.{ask_of, deed_asked}
 use Rattle.lrc_exec.specs.Meaning.{Next, Thread, departs, first_act, next_of, next_of_statement}
 use Rattle.std.specs.Prelude.{if◌then◌else◌}
-use Rattle.lrc_consistency_laws.specs.Follows.{Goes, acquiring, arriving, departing, ending, printing, quietly, reading, releasing, trapping, writing}
+use Rattle.lrc_exec.specs.Follows.{Goes, acquiring, arriving, departing, ending, printing, quietly, reading, releasing, trapping, writing}
 use Rattle.lrc_lines.specs.Makes.{MakesNext, barrier, end, statement}
 use Rattle.lrc_lines.specs.Standing.{Agrees}
 use Rattle.lrc_lines.specs.Tasks.{Task}

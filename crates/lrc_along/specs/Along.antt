@@ -1,6 +1,6 @@
 -- Runs along an order of acts.
 use Rattle.std.specs.Prelude.{◌≡◌, ◌⊎◌, ◌≤◌, ℕ, true, false, Some, None, List, [], ◌∷◌, ◌++◌, All, length, map, position, slice_get, take}
-use Rattle.lrc_lang.specs.declared.program.Program.{Program}
+use Rattle.lrc_program.specs.declared.Program.{Program}
 use Rattle.lrc_trace.specs.declared.act.Act.{Act}
 use Rattle.lrc_trace.specs.declared.act.Deed.TheVariants.{Depart}
 use Rattle.lrc_lines.specs.Statements.{act_statements}

@@ -1,7 +1,7 @@
 // The lines of the turns of a part of a run.
 
 ghost use Rattle.std.specs.Prelude.{◌≡◌, ◌+◌, ◌<◌, ◌≤◌, ◌∷◌, ◌++◌, [], IfOk, List, OnOk, option_map};
-ghost use Rattle.lrc_node.specs.Logged.{seen_input};
+ghost use Rattle.lrc_log.specs.Input.{seen_input};
 ghost use Rattle.lrc_turns_text.specs.Turns.{Made};
 ghost use Rattle.lrc_bytes_text.specs.BytesText.{turn_line};
 ghost use Rattle.lrc_bytes_turns.specs.Seen.{Sees};
@@ -11,7 +11,7 @@ use crate::seen::Seen;
 use lrc_bytes_text::{Line, push_line};
 use lrc_chart_rows::TurnOf;
 use lrc_envelope::Envelope;
-use lrc_node::Input;
+use lrc_log::Input;
 use lrc_protocol::Event;
 use std::alloc::{AllocError, Global};
 

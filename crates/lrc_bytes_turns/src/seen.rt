@@ -1,7 +1,7 @@
 // What is known of the turns so far.
 
 ghost use Rattle.std.specs.Prelude.{◌≡◌, ℕ, ◌+◌, ◌<◌, ◌≤◌, ◌||◌, ◌∷◌, ◌++◌, [], cond, is_some, IfOk, List, OnOk};
-ghost use Rattle.lrc_node.specs.Logged.{seen_input};
+ghost use Rattle.lrc_log.specs.Input.{seen_input};
 ghost use Rattle.lrc_turns_text.specs.Told.{holds_input, holds_key};
 ghost use Rattle.lrc_turns_text.specs.Turns.{Made};
 ghost use Rattle.lrc_turns_text.specs.TurnsText.{took_before, takes_numbered};
@@ -9,7 +9,7 @@ ghost use Rattle.lrc_bytes_turns.specs.Seen.{Sees};
 
 use lrc_chart_rows::TurnOf;
 use lrc_envelope::Envelope;
-use lrc_node::{Entry, Input};
+use lrc_log::{Entry, Input};
 use std::alloc::{AllocError, Global};
 use std::collections::HashSet;
 

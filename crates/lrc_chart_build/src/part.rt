@@ -6,7 +6,7 @@ ghost use Rattle.lrc_chart_build.specs.Course.{past_place, place_of, place_of_ac
 ghost use Rattle.lrc_chart_rows.specs.Rows.{takes_some};
 
 use lrc_chart_rows::{Row, TurnOf};
-use lrc_node::Input;
+use lrc_log::Input;
 use lrc_trace::act::{Act, Deed};
 use std::alloc::{AllocError, Global};
 

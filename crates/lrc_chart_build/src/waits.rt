@@ -2,7 +2,7 @@
 
 ghost use Rattle.std.specs.Prelude.{◌≡◌, ◌++◌, [], IfOk, OnOk, codes, if◌then◌else◌, map};
 ghost use Rattle.lrc_labels.specs.Reading.{label_seen};
-ghost use Rattle.lrc_node.specs.Logged.{seen_input};
+ghost use Rattle.lrc_log.specs.Input.{seen_input};
 ghost use Rattle.lrc_chart_build.specs.Waits.{begins_collection, collects, first_wish, idle_kind, idle_words, kind_by, turn_kind, turn_words, wish_of};
 
 use crate::course::Course;
@@ -13,7 +13,7 @@ use lrc_chart_model::Kind;
 use lrc_chart_rows::TurnOf;
 use lrc_envelope::{Envelope, Message};
 use lrc_labels::label::Label;
-use lrc_node::Input;
+use lrc_log::Input;
 use lrc_text::push_number;
 use lrc_trace::act::Act;
 use std::alloc::{AllocError, Global};

@@ -8,7 +8,8 @@ ghost use Rattle.lrc_chart_invalid.specs.Invalidated.{invalid_since, invalidated
 
 use crate::copies::{invalid_since, readable};
 use lrc_exec::code::Code;
-use lrc_node::{Options, Turn};
+use lrc_log::Turn;
+use lrc_node::Options;
 use lrc_protocol::Event;
 use lrc_replay::Replay;
 use std::alloc::{AllocError, Global};

@@ -3,7 +3,7 @@
 ghost use Rattle.std.specs.Prelude.{◌≡◌, ◌↔◌, ℕ, Contains, List, Some, map, slice_get};
 ghost use Rattle.lrc_chart_invalid.specs.Invalidated.{invalidated_at};
 ghost use Rattle.lrc_chart_laws.specs.Told.{BecomesInvalid, nodes_of, step_made, step_told};
-ghost use Rattle.lrc_lang.specs.declared.program.Program.{Program};
+ghost use Rattle.lrc_program.specs.declared.Program.{Program};
 ghost use Rattle.lrc_protocol.specs.declared.event.Event.{Event};
 ghost use Rattle.lrc_protocol.specs.Node.{OptionsRecord};
 ghost use Rattle.lrc_protocol.specs.Pages.{copy_at};

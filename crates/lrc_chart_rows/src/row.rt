@@ -4,7 +4,7 @@ ghost use Rattle.std.specs.Prelude.{◌≡◌, ◌≤◌, ◌∷◌, ◌++◌, [
 ghost use Rattle.lrc_chart_rows.specs.Rows.{has_act, row_at, rows_of, shows, takes_some};
 
 use crate::turn::TurnOf;
-use lrc_node::Input;
+use lrc_log::Input;
 use std::alloc::{AllocError, Global};
 
 /// A row of a picture.

@@ -7,7 +7,7 @@ ghost use Rattle.lrc_chart_rows.specs.Takings.{AreTakings, IsFromTo, name_of};
 use crate::taking::{Span, Takings};
 use crate::turn::TurnOf;
 use lrc_envelope::Envelope;
-use lrc_node::Input;
+use lrc_log::Input;
 use std::alloc::{AllocError, Global};
 
 /// Returns whether a turn takes the message.

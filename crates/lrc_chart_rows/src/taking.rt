@@ -9,7 +9,7 @@ ghost use Rattle.lrc_chart_rows.specs.Takings.{AreTakings, first_or, name_cmp, n
 
 use crate::turn::TurnOf;
 use lrc_envelope::Envelope;
-use lrc_node::Input;
+use lrc_log::Input;
 use std::alloc::{AllocError, Global};
 use std::collections::BTreeMap;
 

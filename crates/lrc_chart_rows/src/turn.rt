@@ -6,7 +6,7 @@ ghost use Rattle.lrc_turns_text.specs.Turns.{next, turns_told};
 ghost use Rattle.lrc_chart_rows.specs.Counts.{Counts};
 
 use crate::counts::Made;
-use lrc_node::Entry;
+use lrc_log::Entry;
 use lrc_turns_text::entry_of;
 use std::alloc::{AllocError, Global};
 use std::marker::Model;

@@ -1,7 +1,7 @@
 -- How a text is read.
 use Rattle.std.proofs.Common.{◌≡◌, ◌⊎◌, ℕ, IfErr, IfOk, List, Option, Result, inr, subst}
 use Rattle.std.proofs.lemmas.Result.{IfErr-weaker, IfOk-weaker}
-use Rattle.lrc_lang.specs.declared.program.Program.{Program}
+use Rattle.lrc_program.specs.declared.Program.{Program}
 use Rattle.lrc_text.specs.Parts.{whole_text}
 use Rattle.lrc_cli_answer.specs.Texts.{IsTextFault, IsTextOf}
 use Rattle.lrc_cli_answer.specs.declared.printout.Printout.{Printout}

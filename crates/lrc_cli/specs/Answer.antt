@@ -3,7 +3,7 @@ use Rattle.std.specs.Prelude.{◌≡◌, ◌≢◌, ◌⊎◌, ◌&&◌, ℕ, Bo
 use Rattle.lrc_acts.specs.ActsText.{ReadsActs}
 use Rattle.lrc_acts.specs.declared.reading.ActsFault.TheVariants.{BadAct, TooLong}
 use Rattle.lrc_exec.specs.Rounds.{AreActsOfRounds}
-use Rattle.lrc_lang.specs.declared.program.Program.{Program}
+use Rattle.lrc_program.specs.declared.Program.{Program}
 use Rattle.lrc_trace.specs.declared.act.Act.{Act}
 use Rattle.lrc_text.specs.Parts.{whole_text}
 use Rattle.lrc_explore.specs.Answers.{FitsSettled, MetTooMany}

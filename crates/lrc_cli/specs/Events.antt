@@ -1,6 +1,6 @@
 -- What is answered to `explore` where events are asked for.
 use Rattle.std.specs.Prelude.{◌≡◌, ℕ, List, Option, None, Some, not}
-use Rattle.lrc_lang.specs.declared.program.Program.{Program}
+use Rattle.lrc_program.specs.declared.Program.{Program}
 use Rattle.lrc_cli_args.specs.declared.choice.Exploring.{Exploring}
 use Rattle.lrc_cli_args.specs.declared.choice.OutcomeNumber.{OutcomeNumber}
 use Rattle.lrc_cli_args.specs.declared.choice.Tell.{Tell}

@@ -1,6 +1,6 @@
 -- What is answered to `explore` of the exact memory, where outcomes are asked for.
 use Rattle.std.specs.Prelude.{◌≡◌, ℕ, List}
-use Rattle.lrc_lang.specs.declared.program.Program.{Program}
+use Rattle.lrc_program.specs.declared.Program.{Program}
 use Rattle.lrc_page.specs.Page.{words_of}
 use Rattle.lrc_exact.specs.Rule.{Shape}
 use Rattle.lrc_exact_search.specs.Searching.{MeetsMore}

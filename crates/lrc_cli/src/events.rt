@@ -10,8 +10,8 @@ use lrc_cli_answer::printout::{Printout, in_one};
 use lrc_cli_args::choice::{Exploring, Tell};
 use lrc_explore_events_text::outcome::outcome_shown;
 use lrc_explore_events_text::told::{Line, line_shown};
-use lrc_lang::program::Program;
 use lrc_orders::search::ExploreFault;
+use lrc_program::Program;
 use std::alloc::Global;
 
 /// Answers the command `explore` with the events along the order that it tells.

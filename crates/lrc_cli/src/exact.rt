@@ -11,8 +11,8 @@ use lrc_cli_args::choice::{ExactOptions, Exploring};
 use lrc_exact_judge::layout::Layout;
 use lrc_exact_text::listed::exact_outcomes_told;
 use lrc_exact_text::one::exact_run_told;
-use lrc_lang::program::Program;
 use lrc_orders::search::ExploreFault;
+use lrc_program::Program;
 use std::alloc::Global;
 
 /// Says what the outcomes of all exact runs are.

@@ -5,7 +5,7 @@ ghost use Rattle.lrc_cli.specs.Answer.{HasFindingsFault, HasLazyFault, HasLazyRu
 ghost use Rattle.lrc_cli.specs.Answer.{IsLazyAnswer, IsLazyFault, IsSaid, IsSearchFault, Prints, ShowsEnds, ShowsFindings, ShowsLazyOutcomes, ShowsLazyRun, ShowsOrders, ShowsOutcome, tries_asked};
 ghost use Rattle.lrc_cli_answer.specs.Texts.{IsTextFault, IsTextOf};
 ghost use Rattle.lrc_explain_waits.specs.Traps.{wording_of};
-ghost use Rattle.lrc_lang.specs.declared.program.Program.{Program as AnyProgram};
+ghost use Rattle.lrc_program.specs.declared.Program.{Program as AnyProgram};
 ghost use Rattle.lrc_text.specs.Parts.{whole_text};
 ghost use Rattle.lrc_cli_args.specs.declared.choice.Choice.TheVariants.{Explore};
 
@@ -21,10 +21,10 @@ use lrc_explore_text::orders::findings_told;
 use lrc_explore_text::outcome_run::outcome_run_told;
 use lrc_labels::read_labels;
 use lrc_lang::parse;
-use lrc_lang::program::Program;
 use lrc_lazy_text::listed::lazy_outcomes_told;
 use lrc_lazy_text::one::lazy_run_told;
 use lrc_orders::search::ExploreFault;
+use lrc_program::Program;
 use lrc_source::read_text::ReadText;
 use std::alloc::Global;
 

@@ -1,6 +1,6 @@
 -- The labels of the words and the locks of a program, as its text gives them.
 use Rattle.std.specs.Prelude.{ℕ, List}
-use Rattle.lrc_lang.specs.declared.program.Program.{Program}
+use Rattle.lrc_program.specs.declared.Program.{Program}
 use Rattle.lrc_labels.specs.declared.cut.Divider.TheVariants.{LineFeed}
 use Rattle.lrc_labels.specs.Cut.{cut, divides}
 use Rattle.lrc_labels.specs.Reading.{Label, labels_of}

@@ -1,8 +1,8 @@
 -- The text of a program.
 use Rattle.std.specs.Prelude.{ℕ, List}
 use Rattle.lrc_lang.specs.Faults.{HasFirstFault, IsText}
-use Rattle.lrc_lang.specs.Tree.{program_of}
-use Rattle.lrc_lang.specs.declared.program.Program.{Program}
+use Rattle.lrc_program.specs.Tree.{program_of}
+use Rattle.lrc_program.specs.declared.Program.{Program}
 use Rattle.lrc_cli_answer.specs.declared.fault.Fault.{Fault}
 use Rattle.lrc_cli_answer.specs.declared.fault.Fault.TheVariants.{Text, NoMemory}
 

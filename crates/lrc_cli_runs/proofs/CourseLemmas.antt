@@ -4,7 +4,7 @@ use Rattle.lrc_clock.specs.Keeping.{KeepsTime}
 use Rattle.lrc_judge.specs.FirstPairs.{AreFirstPairs}
 use Rattle.lrc_judge.specs.declared.lanes.Pair.{Pair}
 use Rattle.lrc_labels.specs.Reading.{Label}
-use Rattle.lrc_lang.specs.declared.program.Program.{Program}
+use Rattle.lrc_program.specs.declared.Program.{Program}
 use Rattle.lrc_chart_build.specs.Course.{CourseRecord}
 use Rattle.lrc_run.specs.Run.{turns_of_nodes}
 use Rattle.lrc_source.specs.Telling.{ReadText}

@@ -1,7 +1,7 @@
 -- What is known of a run that was made.
 use Rattle.std.proofs.Common.{◌≡◌, ◌∙◌, ◌<◌, ◌≤◌, ℕ, List, ap, All as Every, IfOk, Option, None, Some, Result, Ok, Err, arith, get_or, sym, subst}
 use Rattle.lrc_clock.specs.Keeping.{KeepsTime}
-use Rattle.lrc_lang.specs.declared.program.Program.{Program}
+use Rattle.lrc_program.specs.declared.Program.{Program}
 use Rattle.lrc_lines.specs.Statements.{act_statements}
 use Rattle.lrc_timeline.specs.Timeline.{times_in}
 use Rattle.lrc_trace.specs.declared.act.Act.{Act}

@@ -1,6 +1,6 @@
 -- What is answered to a choice of a run: what is shown of it, or a fault.
 use Rattle.std.proofs.Common.{◌≡◌, inr, ℕ, List, Option, Result, Ok, Err, IfErr, IfOk}
-use Rattle.lrc_lang.specs.declared.program.Program.{Program}
+use Rattle.lrc_program.specs.declared.Program.{Program}
 use Rattle.lrc_world.specs.declared.run.Run.{Run}
 use Rattle.lrc_cli_answer.specs.Texts.{IsTextOf}
 use Rattle.lrc_cli_runs.specs.Runs.{IsRunOfWay}

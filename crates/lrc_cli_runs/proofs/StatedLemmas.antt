@@ -1,7 +1,7 @@
 -- What is shown of a run's turns, and why it is not.
 use Rattle.std.proofs.Common.{◌≡◌, ℕ, List, Option, subst, sym}
 use Rattle.lrc_trace.specs.declared.act.Act.{Act}
-use Rattle.lrc_lang.specs.declared.program.Program.{Program}
+use Rattle.lrc_program.specs.declared.Program.{Program}
 use Rattle.lrc_source.specs.Telling.{ReadText}
 use Rattle.lrc_world.specs.declared.run.Run.{Run}
 use Rattle.lrc_cli_args.specs.declared.choice.Form.{Form}

@@ -5,7 +5,7 @@ use Rattle.lrc_chart_svg.specs.Marks.{all_marks, is_space, named_once, attribute
 use Rattle.lrc_chart_svg.specs.Root.{IsRootOf}
 use Rattle.lrc_chart_svg.specs.Shown.{picture_marks}
 use Rattle.lrc_judge.specs.FirstPairs.{AreFirstPairs}
-use Rattle.lrc_lang.specs.declared.program.Program.{Program}
+use Rattle.lrc_program.specs.declared.Program.{Program}
 use Rattle.lrc_explain_waits.specs.Circles.{waits_of}
 use Rattle.lrc_explain_waits.specs.Stand.{stands_of}
 use Rattle.lrc_trace.specs.declared.act.Act.{Act}

@@ -1,6 +1,6 @@
 -- The report of a run with reasons.
 use Rattle.std.specs.Prelude.{◌≡◌, ℕ, List, Option}
-use Rattle.lrc_lang.specs.declared.program.Program.{Program}
+use Rattle.lrc_program.specs.declared.Program.{Program}
 use Rattle.lrc_trace.specs.declared.act.Act.{Act}
 use Rattle.lrc_explain.specs.Explain.{explain_text}
 use Rattle.lrc_explain_waits.specs.Traps.{traps_told}

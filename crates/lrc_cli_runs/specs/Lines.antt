@@ -1,6 +1,6 @@
 -- The lines of the text that acts are of.
 use Rattle.std.specs.Prelude.{◌≡◌, ℕ, List}
-use Rattle.lrc_lang.specs.declared.program.Program.{Program}
+use Rattle.lrc_program.specs.declared.Program.{Program}
 use Rattle.lrc_trace.specs.declared.act.Act.{Act}
 use Rattle.lrc_lines.specs.Walks.{act_lines}
 use Rattle.lrc_source.specs.Telling.{AreLines, ReadText}

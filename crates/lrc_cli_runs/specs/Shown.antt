@@ -1,7 +1,7 @@
 -- What is shown of a run.
 use Rattle.std.specs.Prelude.{◌≡◌, ℕ, List, Option, length, map}
 use Rattle.lrc_clock.specs.Keeping.{KeepsTime}
-use Rattle.lrc_lang.specs.declared.program.Program.{Program}
+use Rattle.lrc_program.specs.declared.Program.{Program}
 use Rattle.lrc_events.specs.Writing.{events_text}
 use Rattle.lrc_acts_text.specs.ActsText.{acts_text}
 use Rattle.lrc_acts_text.specs.Json.{json_of_acts}

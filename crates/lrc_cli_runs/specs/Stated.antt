@@ -1,6 +1,6 @@
 -- The turns of a run with the states of its nodes, and the document that shows them.
 use Rattle.std.specs.Prelude.{◌≡◌, ℕ, ◌+◌, ◌==◌, ◌++◌, ◌∷◌, [], List, Option, None, Some, fold, if◌then◌else◌, length, min}
-use Rattle.lrc_lang.specs.declared.program.Program.{Program}
+use Rattle.lrc_program.specs.declared.Program.{Program}
 use Rattle.lrc_world.specs.declared.run.Run.{Run}
 use Rattle.lrc_cli_args.specs.declared.choice.Form.{Form}
 use Rattle.lrc_cli_args.specs.declared.choice.Form.TheVariants.{States}

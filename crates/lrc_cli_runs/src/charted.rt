@@ -4,7 +4,7 @@ ghost use Rattle.std.specs.Prelude.{◌≡◌, IfErr, IfOk, Some, map, option_ma
 ghost use Rattle.lrc_cli_runs.specs.Charted.{AreInvalidIn, AreWaitsIn, IsChart, IsCharted, IsChartFault, IsDrawn, part_of, source_of};
 ghost use Rattle.lrc_cli_runs.specs.Runs.{IsRunWith, turns_in};
 ghost use Rattle.lrc_cli_runs.specs.Shown.{IsShowFault};
-ghost use Rattle.lrc_lang.specs.declared.program.Program.{Program as AnyProgram};
+ghost use Rattle.lrc_program.specs.declared.Program.{Program as AnyProgram};
 ghost use Rattle.lrc_explain_waits.specs.Circles.{waits_of};
 ghost use Rattle.lrc_explain_waits.specs.Stand.{stands_of};
 ghost use Rattle.lrc_text.specs.Parts.{whole_text};

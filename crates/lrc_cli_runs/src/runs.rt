@@ -10,7 +10,7 @@ ghost use Rattle.lrc_node.specs.Options.{options_of as options_in};
 use lrc_cli_answer::fault::Fault;
 use lrc_cli_args::choice::{RunChoice, RunOptions, Then, Way};
 use lrc_events::events::events_of;
-use lrc_lang::program::Program;
+use lrc_program::Program;
 use lrc_setting::setting::Setting;
 use lrc_world::keep::Keep;
 use lrc_world::lead::Lead;

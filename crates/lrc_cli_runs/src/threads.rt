@@ -14,7 +14,7 @@ use lrc_cli_answer::fault::Fault;
 use lrc_cli_answer::printout::Printout;
 use lrc_cli_args::choice::{RunChoice, RunOptions, Shape};
 use lrc_envelope::Picker;
-use lrc_lang::program::Program;
+use lrc_program::Program;
 use lrc_run::{Halt, OpenGate, ThreadedRun, run_on_threads};
 use lrc_source::read_text::ReadText;
 use lrc_source::source::Source;

@@ -11,7 +11,7 @@ ghost use Rattle.lrc_cli_args.specs.declared.choice.Form.TheVariants.{Bytes, Sta
 ghost use Rattle.lrc_cli_args.specs.declared.choice.Part.{Part as ShownPart};
 ghost use Rattle.lrc_cli_args.specs.declared.choice.RunOptions.{RunOptions as AnyOptions};
 ghost use Rattle.lrc_cli_args.specs.declared.choice.Shape.TheVariants.{Trace};
-ghost use Rattle.lrc_lang.specs.declared.program.Program.{Program as AnyProgram};
+ghost use Rattle.lrc_program.specs.declared.Program.{Program as AnyProgram};
 ghost use Rattle.lrc_lines.specs.Statements.{act_statements};
 ghost use Rattle.lrc_timeline.specs.Timeline.{times_in};
 ghost use Rattle.lrc_trace.specs.declared.act.Act.{Act as AnyAct};
@@ -29,7 +29,7 @@ use lrc_cli_answer::printout::in_one;
 use lrc_cli_args::choice::{Form, Part, RunOptions};
 use lrc_events::events_part;
 use lrc_lines::statements::lines_of_statements;
-use lrc_node::Entry;
+use lrc_log::Entry;
 use lrc_protocol::Event;
 use lrc_source::source::Source;
 use lrc_turns_text::messages_part;

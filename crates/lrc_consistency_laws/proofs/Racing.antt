@@ -4,7 +4,7 @@ use Rattle.std.specs.Prelude.{Some}
 use Rattle.std.proofs.lemmas.Bool.{cases_lt}
 use Rattle.std.proofs.lemmas.List.{take-append-drop, length-take, map-append}
 use Rattle.std.proofs.lemmas.Option.{same_Some}
-use Rattle.lrc_lang.specs.declared.program.Program.{Program}
+use Rattle.lrc_program.specs.declared.Program.{Program}
 use Rattle.lrc_trace.specs.declared.act.Act.{Act}
 use Rattle.lrc_trace.specs.declared.act.Deed.{Deed}
 use Rattle.lrc_trace.specs.Run.{Does, act_of}
@@ -17,7 +17,7 @@ use Rattle.lrc_trace.proofs.Intervals.{act_at}
 use Rattle.lrc_trace.proofs.Prefixes.{Races-shorter}
 use Rattle.lrc_trace.proofs.Outlines.{same_races}
 use Rattle.lrc_exec.specs.Plain.{plain}
-use Rattle.lrc_consistency_laws.specs.Follows.{nodes_of_acts, FollowsText}
+use Rattle.lrc_exec.specs.Follows.{nodes_of_acts, FollowsText}
 use Rattle.lrc_consistency_laws.specs.Kinds.{SameKind, same, reads}
 use Rattle.lrc_consistency_laws.specs.Racing.{HasNoRace, PlainToRace}
 use Rattle.lrc_consistency_laws.proofs.Ahead.{take_ahead}

@@ -9,7 +9,7 @@ use Rattle.std.proofs.lemmas.List.{length-replicate, get_or-replicate, length-ma
 use Rattle.std.proofs.lemmas.List.FromFn.{length-range_with_len, get_or-range_with_len}
 use Rattle.std.proofs.lemmas.List.Sums.{AllPass-from_list_all, list_all-from_AllPass}
 use Rattle.std.proofs.lemmas.Option.{same_Some}
-use Rattle.lrc_lang.specs.declared.program.Program.{Program}
+use Rattle.lrc_program.specs.declared.Program.{Program}
 use Rattle.lrc_trace.specs.declared.act.Act.{Act}
 use Rattle.lrc_trace.specs.declared.act.Deed.{Deed}
 use Rattle.lrc_trace.specs.declared.act.Deed.TheVariants.{Read, Acquire, Release, Depart}
@@ -17,8 +17,8 @@ use Rattle.lrc_trace.specs.Run.{Does, arrives_before, departs_before}
 use Rattle.lrc_trace.specs.Synchronization.{Holds}
 use Rattle.lrc_exec.specs.Meaning.{Thread, Next, next_of}
 use Rattle.lrc_exec.specs.Plain.{Plain, nobody_holds, all_arrived, deed_done, thread_in, plain_step, plain_from, plain_start, start_of, with_thread}
-use Rattle.lrc_consistency_laws.specs.Follows.{Goes, quietly, printing, reading, writing, acquiring, releasing, arriving, departing}
-use Rattle.lrc_consistency_laws.specs.Follows.{trapping, ending, Makes, and_then, deeds_of, nodes_of_acts, FollowsText}
+use Rattle.lrc_exec.specs.Follows.{Goes, quietly, printing, reading, writing, acquiring, releasing, arriving, departing}
+use Rattle.lrc_exec.specs.Follows.{trapping, ending, Makes, and_then, deeds_of, nodes_of_acts, FollowsText}
 use Rattle.lrc_consistency_laws.specs.InOrder.{last_value}
 use Rattle.lrc_consistency_laws.proofs.Ahead.{does_ahead, drop_ahead}
 use Rattle.lrc_exec.proofs.NextLaws.{IsFine, next_of-fine}

@@ -3,7 +3,7 @@ use Rattle.std.proofs.Common.{◌≡◌, ℕ, zero, suc, ◌+◌, ◌<◌, ◌�
 use Rattle.std.specs.Prelude.{Option, Some, slice_get, slice_index, slice_index_or, option_map, option_and_then}
 use Rattle.std.proofs.lemmas.List.{take-append-drop, length-take, map-append, take_all}
 use Rattle.std.proofs.lemmas.Option.{get_or_from_slice_get}
-use Rattle.lrc_lang.specs.declared.program.Program.{Program}
+use Rattle.lrc_program.specs.declared.Program.{Program}
 use Rattle.lrc_trace.specs.declared.act.Act.{Act}
 use Rattle.lrc_trace.specs.declared.act.Deed.{Deed}
 use Rattle.lrc_trace.specs.declared.act.Deed.TheVariants.{Quiet, Print, Read, Write, Acquire, Release, Arrive, Depart, Trap, End}
@@ -14,8 +14,8 @@ use Rattle.lrc_trace.specs.Synchronization.{IsWellSynchronized}
 use Rattle.lrc_trace.proofs.Positions.{Does-within}
 use Rattle.lrc_exec.specs.Meaning.{Thread, Next, next_of}
 use Rattle.lrc_exec.specs.Plain.{Plain, deed_done, thread_in, plain_step, plain_from, plain, plain_start}
-use Rattle.lrc_consistency_laws.specs.Follows.{Goes, quietly, printing, reading, writing, acquiring, releasing, arriving}
-use Rattle.lrc_consistency_laws.specs.Follows.{departing, trapping, ending, Makes, nodes_of_acts, FollowsText}
+use Rattle.lrc_exec.specs.Follows.{Goes, quietly, printing, reading, writing, acquiring, releasing, arriving}
+use Rattle.lrc_exec.specs.Follows.{departing, trapping, ending, Makes, nodes_of_acts, FollowsText}
 use Rattle.lrc_consistency_laws.specs.Kinds.{SameKind, same, reads, PlainUpTo}
 use Rattle.lrc_consistency_laws.proofs.Ahead.{take_ahead}
 use Rattle.lrc_exec.proofs.NextLaws.{IsFine, next_of-fine}

@@ -3,7 +3,7 @@ use Rattle.std.proofs.Common.{◌≡◌, ℕ, zero, suc, ◌+◌, ◌≤◌, Lis
 use Rattle.std.specs.Prelude.{◌==◌, Option, Some, None, if◌then◌else◌}
 use Rattle.std.proofs.lemmas.Bool.{cases_Bool, cases_eq, eq-eqb, ne_eqb, false≢true}
 use Rattle.std.proofs.lemmas.Option.{same_Some}
-use Rattle.lrc_lang.specs.declared.program.Program.{Program}
+use Rattle.lrc_program.specs.declared.Program.{Program}
 use Rattle.lrc_trace.specs.declared.act.Act.{Act}
 use Rattle.lrc_trace.specs.declared.act.Deed.{Deed}
 use Rattle.lrc_trace.specs.declared.act.Deed.TheVariants.{Depart}
@@ -13,8 +13,8 @@ use Rattle.lrc_trace.proofs.Positions.{Does-within}
 use Rattle.lrc_trace.proofs.Outlines.{count_of-cons}
 use Rattle.lrc_exec.specs.Meaning.{Thread, Next, departs, first_act, next_of}
 use Rattle.lrc_exec.specs.Plain.{start_of}
-use Rattle.lrc_consistency_laws.specs.Follows.{Goes, quietly, printing, reading, writing, acquiring, releasing, arriving}
-use Rattle.lrc_consistency_laws.specs.Follows.{departing, trapping, ending, Makes, deeds_of, FollowsText}
+use Rattle.lrc_exec.specs.Follows.{Goes, quietly, printing, reading, writing, acquiring, releasing, arriving}
+use Rattle.lrc_exec.specs.Follows.{departing, trapping, ending, Makes, deeds_of, FollowsText}
 use Rattle.lrc_exec.proofs.NextLaws.{IsFine, next_of-fine}
 use Rattle.lrc_consistency_laws.specs.Matching.{IsPaired}
 use Rattle.lrc_consistency_laws.proofs.Runs.{makes_first, deeds_of-own, deeds_of-other}

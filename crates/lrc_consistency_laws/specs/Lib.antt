@@ -1,4 +1,3 @@
-pub mod Follows
 pub mod Kinds
 pub mod InOrder
 pub mod Racing

@@ -1,10 +1,10 @@
 -- Races of a program, and of a run up to its first race.
 use Rattle.std.specs.Prelude.{◌≡◌, ℕ, ◌+◌, Some, List, take}
-use Rattle.lrc_lang.specs.declared.program.Program.{Program}
+use Rattle.lrc_program.specs.declared.Program.{Program}
 use Rattle.lrc_trace.specs.declared.act.Act.{Act}
 use Rattle.lrc_trace.specs.Conflict.{Races, IsRaceFree}
 use Rattle.lrc_exec.specs.Plain.{plain}
-use Rattle.lrc_consistency_laws.specs.Follows.{nodes_of_acts}
+use Rattle.lrc_exec.specs.Follows.{nodes_of_acts}
 use Rattle.lrc_consistency_laws.specs.Kinds.{PlainUpTo}
 
 -- no order gives the plain machine a run with a race

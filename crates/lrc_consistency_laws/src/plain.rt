@@ -1,7 +1,7 @@
 // From lazy reading to the plain machine. Each function is a theorem: its body is empty, and its clause is the law.
 
 ghost use Rattle.std.specs.Prelude.{◌≡◌, ℕ, ◌+◌, ◌<◌, ◌≤◌, List, Some, map, take, length};
-ghost use Rattle.lrc_lang.specs.declared.program.Program.{Program};
+ghost use Rattle.lrc_program.specs.declared.Program.{Program};
 ghost use Rattle.lrc_trace.specs.declared.act.Act.{Act};
 ghost use Rattle.lrc_trace.specs.declared.act.Deed.{Deed};
 ghost use Rattle.lrc_trace.specs.Run.{Does};
@@ -9,7 +9,7 @@ ghost use Rattle.lrc_trace.specs.Conflict.{Races, IsRaceFree};
 ghost use Rattle.lrc_trace.specs.Reading.{ReadsLazily};
 ghost use Rattle.lrc_trace.specs.Synchronization.{IsWellSynchronized, WaitsAtBarriers};
 ghost use Rattle.lrc_exec.specs.Plain.{plain};
-ghost use Rattle.lrc_consistency_laws.specs.Follows.{FollowsText, nodes_of_acts};
+ghost use Rattle.lrc_exec.specs.Follows.{FollowsText, nodes_of_acts};
 ghost use Rattle.lrc_consistency_laws.specs.Kinds.{PlainUpTo};
 ghost use Rattle.lrc_consistency_laws.specs.InOrder.{ReadsInOrder};
 ghost use Rattle.lrc_consistency_laws.specs.Racing.{HasNoRace, PlainToRace};

@@ -39,7 +39,7 @@ pub struct Text<'c> {
 impl<'c> Model for Text<'c> {
     ghost use Rattle.std.specs.Prelude.{◌≡◌, false};
     ghost use Rattle.std.specs.Coded.{codes};
-    ghost use Rattle.lrc_lang.specs.contracts.program.Statement as statement;
+    ghost use Rattle.lrc_program.specs.contracts.Statement as statement;
     ghost use Rattle.lrc_control.specs.Text.{TextRecord, course_in};
 
     ghost Value = { TextRecord };

@@ -5,7 +5,7 @@ use Rattle.std.proofs.Common.{◌∙◌, arith, add-one}
 use Rattle.std.specs.Prelude.{Some, slice_get, unwrap_or, count_by}
 use Rattle.std.proofs.lemmas.Bool.{cases_eq, cases_lt, and_parts, and_from}
 use Rattle.std.proofs.lemmas.List.{take_all, nil_from_length, take-append-drop}
-use Rattle.lrc_lang.specs.declared.program.Program.{Program}
+use Rattle.lrc_program.specs.declared.Program.{Program}
 use Rattle.lrc_trace.specs.declared.act.Act.{Act}
 use Rattle.lrc_trace.specs.declared.act.Deed.{Deed}
 use Rattle.lrc_trace.specs.declared.act.Deed.TheVariants.{Read, Acquire, Release, Arrive, Depart}
@@ -16,7 +16,7 @@ use Rattle.lrc_trace.proofs.Intervals.{act_at, count_of-more, count_of-same, cou
 use Rattle.lrc_exec.specs.Plain.{start_of}
 use Rattle.lrc_clock.specs.Times.{is_release, acts_at, releases_at, arrives_at}
 use Rattle.lrc_clock.proofs.Passing.{acts_at-true, acts_at-act, releases_at-true, releases_at-act, arrives_at-true, arrives_at-act}
-use Rattle.lrc_consistency_laws.specs.Follows.{FollowsText, Makes, deeds_of}
+use Rattle.lrc_exec.specs.Follows.{FollowsText, Makes, deeds_of}
 use Rattle.lrc_exact.specs.LocalRule.{LocalRule, KeepsStates, state_before, released_state, arrived_state, arrives_there, state_after}
 use Rattle.lrc_exact.proofs.LocalRules.{same_function, last-cases}
 use Rattle.lrc_exact_laws.specs.Order.{is_acquire, acquirers, Begins, OneBeginsOther}

@@ -11,7 +11,7 @@ use Rattle.lrc_trace.specs.declared.act.Deed.{Deed}
 use Rattle.lrc_trace.specs.declared.act.Deed.TheVariants.{Acquire}
 use Rattle.lrc_trace.specs.Run.{Does, act_of, count_of}
 use Rattle.lrc_trace.proofs.Positions.{Does-within}
-use Rattle.lrc_consistency_laws.specs.Follows.{deeds_of}
+use Rattle.lrc_exec.specs.Follows.{deeds_of}
 use Rattle.lrc_exact_laws.specs.Order.{is_acquire, acquirers}
 use Rattle.lrc_exact_laws.proofs.Lists.{one_if, count-cons, count-all, is_number}
 

@@ -5,7 +5,7 @@ use Rattle.std.specs.Prelude.{Some, slice_get}
 use Rattle.std.proofs.lemmas.Bool.{cases_lt}
 use Rattle.std.proofs.lemmas.List.{take_all, take-take, take-append-drop, length-map}
 use Rattle.std.proofs.lemmas.Option.{same_Some, slice_get_within}
-use Rattle.lrc_lang.specs.declared.program.Program.{Program}
+use Rattle.lrc_program.specs.declared.Program.{Program}
 use Rattle.lrc_trace.specs.declared.act.Act.{Act}
 use Rattle.lrc_trace.specs.declared.act.Deed.{Deed}
 use Rattle.lrc_trace.specs.declared.act.Deed.TheVariants.{Read}
@@ -13,7 +13,7 @@ use Rattle.lrc_trace.specs.Run.{Does, act_of, is_arrive, is_depart, count_of}
 use Rattle.lrc_trace.proofs.Positions.{slice_get-front, Does-node, Does-deed}
 use Rattle.lrc_trace.proofs.Intervals.{act_at}
 use Rattle.lrc_exec.specs.Plain.{start_of}
-use Rattle.lrc_consistency_laws.specs.Follows.{Makes, deeds_of, nodes_of_acts}
+use Rattle.lrc_exec.specs.Follows.{Makes, deeds_of, nodes_of_acts}
 use Rattle.lrc_exact.specs.LocalRule.{LocalRule}
 use Rattle.lrc_exact.proofs.LocalRules.{AreAlike, before-same, after-same}
 use Rattle.lrc_exact_laws.specs.Order.{Begins}

@@ -1,11 +1,11 @@
 -- What decides the acts of runs that read exactly.
 use Rattle.std.specs.Prelude.{ℕ, List}
-use Rattle.lrc_lang.specs.declared.program.Program.{Program}
+use Rattle.lrc_program.specs.declared.Program.{Program}
 use Rattle.lrc_trace.specs.declared.act.Act.{Act}
 use Rattle.lrc_trace.specs.declared.act.Deed.TheVariants.{Acquire}
 use Rattle.lrc_trace.specs.Run.{Does}
 use Rattle.lrc_trace.specs.Synchronization.{IsWellSynchronized}
-use Rattle.lrc_consistency_laws.specs.Follows.{FollowsText, deeds_of, nodes_of_acts}
+use Rattle.lrc_exec.specs.Follows.{FollowsText, deeds_of, nodes_of_acts}
 use Rattle.lrc_exact.specs.Rule.{Shape, ReadsExactly}
 use Rattle.lrc_exact_laws.specs.Order.{acquirers, Begins, OneBeginsOther}
 

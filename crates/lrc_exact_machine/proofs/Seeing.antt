@@ -10,8 +10,8 @@ use Rattle.lrc_trace.specs.Run.{Does}
 use Rattle.lrc_exec.specs.Meaning.{Thread, Next, quiet, prints, reads, writes, acquires, releases, arrives, departs, traps, ends}
 use Rattle.lrc_exec.specs.Plain.{Plain, nobody_holds, all_arrived, deed_done, with_thread, thread_in}
 use Rattle.lrc_exec.proofs.NextLaws.{IsFine}
-use Rattle.lrc_consistency_laws.specs.Follows.{Goes, quietly, printing, reading, writing, acquiring, releasing, arriving, departing}
-use Rattle.lrc_consistency_laws.specs.Follows.{trapping, ending}
+use Rattle.lrc_exec.specs.Follows.{Goes, quietly, printing, reading, writing, acquiring, releasing, arriving, departing}
+use Rattle.lrc_exec.specs.Follows.{trapping, ending}
 use Rattle.lrc_consistency_laws.specs.Matching.{Matches}
 use Rattle.lrc_consistency_laws.proofs.Step.{IsNoLock, passes_on, step}
 use Rattle.lrc_consistency_laws.proofs.Runs.{CanDo, SoundAt, can_do, is_sound}

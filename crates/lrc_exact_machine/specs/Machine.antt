@@ -1,7 +1,7 @@
 -- The exact machine: the plain machine, in which each node sees what the exact memory has for it in place of one flat memory.
 use Rattle.std.specs.Prelude.{ℕ, Option, Some, List, [], ◌∷◌, ◌++◌, length, map, option_map, option_and_then}
 use Rattle.std.specs.List.{range_with_len}
-use Rattle.lrc_lang.specs.declared.program.Program.{Program}
+use Rattle.lrc_program.specs.declared.Program.{Program}
 use Rattle.lrc_trace.specs.declared.act.Act.{Act}
 use Rattle.lrc_trace.specs.declared.act.Deed.{Deed}
 use Rattle.lrc_trace.specs.Run.{act_of}

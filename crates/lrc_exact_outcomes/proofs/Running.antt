@@ -3,7 +3,7 @@ use Rattle.std.proofs.Common.{◌≡◌, ℕ, List, [], ◌∷◌, ◌++◌, len
 use Rattle.std.specs.Prelude.{◌↔◌, Option, Some}
 use Rattle.std.proofs.lemmas.List.{length-append, length-take-le, map-append, take-append-drop}
 use Rattle.std.proofs.lemmas.Option.{same_Some}
-use Rattle.lrc_lang.specs.declared.program.Program.{Program}
+use Rattle.lrc_program.specs.declared.Program.{Program}
 use Rattle.lrc_trace.specs.declared.act.Act.{Act}
 use Rattle.lrc_trace.specs.declared.act.Deed.{Deed}
 use Rattle.lrc_trace.specs.declared.act.Deed.TheVariants.{Read}
@@ -12,7 +12,7 @@ use Rattle.lrc_trace.proofs.Positions.{Does-last, Does-longer, Does-within}
 use Rattle.lrc_trace.proofs.Prefixes.{IsWellSynchronized-more, IsWellSynchronized-shorter, MayGoOn-last}
 use Rattle.lrc_exec.specs.Meaning.{Thread}
 use Rattle.lrc_exec.specs.Plain.{start_of}
-use Rattle.lrc_consistency_laws.specs.Follows.{Makes, nothing_more, and_then, deeds_of, nodes_of_acts}
+use Rattle.lrc_exec.specs.Follows.{Makes, nothing_more, and_then, deeds_of, nodes_of_acts}
 use Rattle.lrc_consistency_laws.specs.Kinds.{SameKind, same, reads}
 use Rattle.lrc_consistency_laws.proofs.UpToRace.{in_range}
 use Rattle.lrc_exact.specs.Rule.{Shape, State, exact_rule, exact_value, KeepsExact, ReadsExactly}

@@ -1,6 +1,6 @@
 -- Runs over the exact memory after which no node can act, and what they have printed.
 use Rattle.std.specs.Prelude.{◌≡◌, List, ◌++◌}
-use Rattle.lrc_lang.specs.declared.program.Program.{Program}
+use Rattle.lrc_program.specs.declared.Program.{Program}
 use Rattle.lrc_trace.specs.declared.act.Act.{Act}
 use Rattle.lrc_orders.specs.Notes.{notes_of}
 use Rattle.lrc_lazy.specs.Lazy.{IsOver}

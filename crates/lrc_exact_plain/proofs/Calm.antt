@@ -1,11 +1,11 @@
 -- Without a race, to read exactly and to read lazily are one.
 use Rattle.std.proofs.Common.{◌≡◌, ℕ, List, sym, ◌∙◌}
 use Rattle.std.specs.Prelude.{Some}
-use Rattle.lrc_lang.specs.declared.program.Program.{Program}
+use Rattle.lrc_program.specs.declared.Program.{Program}
 use Rattle.lrc_trace.specs.declared.act.Act.{Act}
 use Rattle.lrc_trace.specs.Conflict.{IsRaceFree}
 use Rattle.lrc_exec.specs.Plain.{plain}
-use Rattle.lrc_consistency_laws.specs.Follows.{nodes_of_acts}
+use Rattle.lrc_exec.specs.Follows.{nodes_of_acts}
 use Rattle.lrc_consistency_laws.specs.Racing.{HasNoRace}
 use Rattle.lrc_consistency_laws.proofs.UpToRace.{in_range}
 use Rattle.lrc_consistency_laws.proofs.Waiting.{waits_at_barriers}

@@ -1,9 +1,9 @@
 -- What holds of the exact runs of programs without a race.
 use Rattle.std.specs.Prelude.{◌≡◌, ◌↔◌, List, Some}
-use Rattle.lrc_lang.specs.declared.program.Program.{Program}
+use Rattle.lrc_program.specs.declared.Program.{Program}
 use Rattle.lrc_trace.specs.declared.act.Act.{Act}
 use Rattle.lrc_exec.specs.Plain.{plain}
-use Rattle.lrc_consistency_laws.specs.Follows.{nodes_of_acts}
+use Rattle.lrc_exec.specs.Follows.{nodes_of_acts}
 use Rattle.lrc_consistency_laws.specs.Racing.{HasNoRace}
 use Rattle.lrc_orders.specs.Outcome.{IsOutcome}
 use Rattle.lrc_exact.specs.Rule.{Shape}

@@ -1,6 +1,6 @@
 -- What a read gives, and what the exact memory has for it, in the terms of the writes that happen before.
 use Rattle.std.specs.Prelude.{◌≡◌, ℕ, ◌<◌, ◌≤◌, false, List, Some, length}
-use Rattle.lrc_lang.specs.declared.program.Program.{Program}
+use Rattle.lrc_program.specs.declared.Program.{Program}
 use Rattle.lrc_trace.specs.declared.act.Act.{Act}
 use Rattle.lrc_trace.specs.declared.act.Deed.{Deed}
 use Rattle.lrc_trace.specs.declared.act.Deed.TheVariants.{Read}
@@ -9,7 +9,7 @@ use Rattle.lrc_trace.specs.Conflict.{IsRaceFree}
 use Rattle.lrc_trace.specs.Reading.{MayRead, ReadsLazily}
 use Rattle.lrc_trace.specs.Synchronization.{IsWellSynchronized, WaitsAtBarriers}
 use Rattle.lrc_exec.specs.Plain.{plain}
-use Rattle.lrc_consistency_laws.specs.Follows.{nodes_of_acts}
+use Rattle.lrc_exec.specs.Follows.{nodes_of_acts}
 use Rattle.lrc_consistency_laws.specs.InOrder.{last_value}
 use Rattle.lrc_exact.specs.Rule.{Shape, State, exact_value, KeepsExact, ReadsExactly}
 use Rattle.lrc_exact_laws.specs.Laws.{IsExactRun}

@@ -1,7 +1,7 @@
 -- What reports without collections say of the exact memory.
 use Rattle.std.specs.Prelude.{◌≡◌, ℕ}
-use Rattle.lrc_lang.specs.declared.program.Program.{Program}
-use Rattle.lrc_consistency_laws.specs.Follows.{deeds_of, nodes_of_acts}
+use Rattle.lrc_program.specs.declared.Program.{Program}
+use Rattle.lrc_exec.specs.Follows.{deeds_of, nodes_of_acts}
 use Rattle.lrc_orders.specs.Notes.{notes_of}
 use Rattle.lrc_lazy.specs.Lazy.{IsOver}
 use Rattle.lrc_protocol.specs.Node.{OptionsRecord}

@@ -3,7 +3,7 @@ use Rattle.std.proofs.Common.{◌≡◌, ℕ, ◌+◌, ◌<◌, ◌≤◌, List,
 use Rattle.std.specs.Prelude.{Option, Some, None, option_map, slice_index, slice_set}
 use Rattle.std.proofs.lemmas.List.{get_or-set_same, length_push, take-append-drop, take_more}
 use Rattle.std.proofs.lemmas.Option.{same_Some}
-use Rattle.lrc_lang.specs.declared.program.Program.{Program}
+use Rattle.lrc_program.specs.declared.Program.{Program}
 use Rattle.lrc_trace.specs.declared.act.Act.{Act}
 use Rattle.lrc_trace.specs.declared.act.Deed.{Deed}
 use Rattle.lrc_trace.specs.declared.act.Deed.TheVariants.{Read}
@@ -15,7 +15,7 @@ use Rattle.lrc_exec.specs.Meaning.{Thread, next_of}
 use Rattle.lrc_exec.specs.Plain.{Plain, plain_step, thread_in}
 use Rattle.lrc_exec.specs.States.{plain_at, IsFirst, IsStateOf}
 use Rattle.lrc_exec.proofs.NextLaws.{next_of-fine}
-use Rattle.lrc_consistency_laws.specs.Follows.{Goes}
+use Rattle.lrc_exec.specs.Follows.{Goes}
 use Rattle.lrc_consistency_laws.proofs.Runs.{CanDo, is_sound}
 use Rattle.lrc_consistency_laws.proofs.UpToRace.{in_range}
 use Rattle.lrc_consistency_laws.proofs.Waiting.{waits_at_barriers}

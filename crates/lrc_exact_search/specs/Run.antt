@@ -1,13 +1,13 @@
 -- Exact runs so far, and where their acts have led the nodes.
 use Rattle.std.specs.Prelude.{◌≡◌, ℕ, ◌<◌, ◌≤◌, List, [], ◌∷◌, ◌++◌, Some, length, slice_index}
-use Rattle.lrc_lang.specs.declared.program.Program.{Program}
+use Rattle.lrc_program.specs.declared.Program.{Program}
 use Rattle.lrc_trace.specs.declared.act.Act.{Act}
 use Rattle.lrc_trace.specs.declared.act.Deed.{Deed}
 use Rattle.lrc_trace.specs.declared.act.Deed.TheVariants.{Quiet, Print, Read}
 use Rattle.lrc_exec.specs.Flat.{IsCodeOf}
 use Rattle.lrc_exec.specs.Plain.{Plain, start_of, thread_in}
 use Rattle.lrc_exec.specs.States.{plain_at, IsStateOf}
-use Rattle.lrc_consistency_laws.specs.Follows.{FollowsText, deeds_of}
+use Rattle.lrc_exec.specs.Follows.{FollowsText, deeds_of}
 use Rattle.lrc_consistency_laws.specs.Matching.{Matches}
 use Rattle.lrc_lazy.specs.Following.{IsFlatOf}
 use Rattle.lrc_lazy.specs.Standing.{with_memory, Comes}

@@ -12,7 +12,7 @@ use lrc_exact_judge::layout::Layout;
 use lrc_exact_judge::memory::Memory;
 use lrc_exec::spot::Flat;
 use lrc_exec::state::State;
-use lrc_lang::program::Program;
+use lrc_program::Program;
 use lrc_trace::act::{Act, Deed};
 use std::alloc::{AllocError, Global};
 

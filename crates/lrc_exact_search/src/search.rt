@@ -17,10 +17,10 @@ use lrc_exact_judge::layout::Layout;
 use lrc_exec::code::Code;
 use lrc_exec::spot::Flat;
 use lrc_exec::state::copied;
-use lrc_lang::program::Program;
 use lrc_orders::notes::note;
 use lrc_orders::outcomes::Outcome;
 use lrc_orders::search::ExploreFault;
+use lrc_program::Program;
 use lrc_trace::act::{Act, Deed};
 use std::alloc::{AllocError, Global};
 

@@ -1,6 +1,6 @@
 -- What is known of a program of which no order races.
 use Rattle.std.specs.Prelude.{◌↔◌, ℕ, List}
-use Rattle.lrc_lang.specs.declared.program.Program.{Program}
+use Rattle.lrc_program.specs.declared.Program.{Program}
 use Rattle.lrc_trace.specs.declared.act.Act.{Act}
 use Rattle.lrc_orders.specs.declared.outcomes.Outcome.{Outcome}
 use Rattle.lrc_orders.specs.Outcome.{HasOutcome, IsOutcome}

@@ -1,7 +1,7 @@
 -- Every outcome of the exact runs of a program, as it is printed.
 use Rattle.std.specs.Prelude.{◌≡◌, ◌↔◌, ℕ, List, ◌++◌, Option, None, codes, decimal, length, replicate}
 use Rattle.std.specs.List.{IsDistinct, flat_map}
-use Rattle.lrc_lang.specs.declared.program.Program.{Program}
+use Rattle.lrc_program.specs.declared.Program.{Program}
 use Rattle.lrc_trace.specs.declared.act.Act.{Act}
 use Rattle.lrc_consistency_laws.specs.Racing.{HasNoRace}
 use Rattle.lrc_orders.specs.declared.outcomes.Outcome.{Outcome}

@@ -8,9 +8,9 @@ ghost use Rattle.lrc_exact_text.specs.Calm.{AreCalmOutcomes, IsCalmRun};
 use indexmap::IndexSet;
 use lrc_explore_less::answers::{explore, outcomes};
 use lrc_explore_text::outcome_run::outcome_run;
-use lrc_lang::program::Program;
 use lrc_orders::outcomes::Outcome;
 use lrc_orders::search::{ExploreFault, Verdict};
+use lrc_program::Program;
 use lrc_trace::act::Act;
 use std::alloc::{AllocError, Global};
 

@@ -14,10 +14,10 @@ use crate::calm::calm_outcomes;
 use indexmap::IndexSet;
 use lrc_exact_judge::layout::Layout;
 use lrc_exact_search::search::exact_outcomes;
-use lrc_lang::program::Program;
 use lrc_lazy_text::listed::{all_lines, push_none_ends, sorted_lines};
 use lrc_orders::outcomes::Outcome;
 use lrc_orders::search::ExploreFault;
+use lrc_program::Program;
 use lrc_text::push_number;
 use std::alloc::{AllocError, Global};
 

@@ -12,8 +12,8 @@ use lrc_exact_search::search::exact_outcomes;
 use lrc_exec::state::copied;
 use lrc_explore_text::orders::acts_told;
 use lrc_explore_text::outcome_run::place_of;
-use lrc_lang::program::Program;
 use lrc_orders::search::ExploreFault;
+use lrc_program::Program;
 use lrc_trace::act::Act;
 use std::alloc::Global;
 

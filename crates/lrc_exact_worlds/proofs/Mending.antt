@@ -3,7 +3,7 @@ use Rattle.std.proofs.Common.{◌≡◌, ℕ, ◌<◌, List, [], true, false, le
 use Rattle.std.specs.Prelude.{Some, None, is_none, slice_index, All, Contains}
 use Rattle.std.proofs.lemmas.Bool.{cases_lt, true≢false}
 use Rattle.std.proofs.lemmas.List.Elements.{All-head}
-use Rattle.lrc_lang.specs.declared.program.Program.{Program}
+use Rattle.lrc_program.specs.declared.Program.{Program}
 use Rattle.lrc_time.specs.Time.{entry, weight_of, Covers}
 use Rattle.lrc_time.proofs.Times.{weight-covers_strictly}
 use Rattle.lrc_page.specs.declared.size.Size.{Size}

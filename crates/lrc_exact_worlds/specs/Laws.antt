@@ -1,9 +1,9 @@
 -- What runs of the protocol machine read, and what was made in them.
 use Rattle.std.specs.Prelude.{◌≡◌, ℕ, ◌<◌, Some, List, Contains}
-use Rattle.lrc_lang.specs.declared.program.Program.{Program}
+use Rattle.lrc_program.specs.declared.Program.{Program}
 use Rattle.lrc_page.specs.Page.{words_of}
 use Rattle.lrc_page.specs.Changes.{change_at}
-use Rattle.lrc_consistency_laws.specs.Follows.{deeds_of, nodes_of_acts}
+use Rattle.lrc_exec.specs.Follows.{deeds_of, nodes_of_acts}
 use Rattle.lrc_clock.specs.Cover.{ClosesAt}
 use Rattle.lrc_store.specs.Store.{StoredRecord}
 use Rattle.lrc_copies.specs.Stamps.{stamp_index}

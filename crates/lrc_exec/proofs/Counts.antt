@@ -1,11 +1,11 @@
 -- Code that grows by an instruction for each statement.
 use Rattle.std.proofs.Common.{◌≡◌, ℕ, ◌+◌, ◌≤◌, List, [], ◌∷◌, ◌++◌, Result, Ok, Err, ap, sym, subst, length, length-append, arith, refl}
 use Rattle.std.specs.Prelude.{IfOk}
-use Rattle.lrc_lang.specs.declared.program.Expression.{Expression}
-use Rattle.lrc_lang.specs.declared.program.Statement.{Statement}
-use Rattle.lrc_lang.specs.declared.program.Statement.TheVariants.{Assign, Read, Write, Acquire, Release, Barrier, Print, If', While', If, While}
-use Rattle.lrc_lang.specs.Statements.{statement_of, block_of}
-use Rattle.lrc_lang.proofs.Trees.{row_of_hidden}
+use Rattle.lrc_program.specs.declared.Expression.{Expression}
+use Rattle.lrc_program.specs.declared.Statement.{Statement}
+use Rattle.lrc_program.specs.declared.Statement.TheVariants.{Assign, Read, Write, Acquire, Release, Barrier, Print, If', While', If, While}
+use Rattle.lrc_program.specs.Statements.{statement_of, block_of}
+use Rattle.lrc_program.proofs.Trees.{row_of_hidden}
 use Rattle.lrc_exec.specs.declared.code.Instruction.{Instruction}
 use Rattle.lrc_exec.specs.Flat.{IsGrown, IsPut, statements_in, statements_in_statement}
 use Rattle.lrc_exec.specs.Laid.{nothing, IsLaid}

@@ -8,11 +8,11 @@ use Rattle.std.proofs.Math.Seq.{get_or-append_seam, set-append_seam}
 use Rattle.std.proofs.lemmas.Bool.{cases_lt}
 use Rattle.std.proofs.lemmas.List.{append-nil}
 use Rattle.std.proofs.lemmas.Option.{slice_get-get_or, slice_get_within, get_or_from_slice_get}
-use Rattle.lrc_lang.specs.declared.program.Statement.{Statement, Row_of-Statement, end_of-Statement, more_of-Statement, items-the_row-Statement}
-use Rattle.lrc_lang.specs.declared.program.Statement.{items_hidden-the_row-Statement-0, roll-Statement, roll-out-Statement}
-use Rattle.lrc_lang.specs.declared.program.Statement.TheBlock.{hidden-the_row-Statement-0, shown-the_row-Statement-0}
-use Rattle.lrc_lang.specs.declared.program.Statement.TheVariants.{Assign, Read, Write, Acquire, Release, Barrier, Print, If', While', If}
-use Rattle.lrc_lang.specs.declared.program.Statement.TheVariants.{While, outs-If', outs-While', rolls-If, rolls-While}
+use Rattle.lrc_program.specs.declared.Statement.{Statement, Row_of-Statement, end_of-Statement, more_of-Statement, items-the_row-Statement}
+use Rattle.lrc_program.specs.declared.Statement.{items_hidden-the_row-Statement-0, roll-Statement, roll-out-Statement}
+use Rattle.lrc_program.specs.declared.Statement.TheBlock.{hidden-the_row-Statement-0, shown-the_row-Statement-0}
+use Rattle.lrc_program.specs.declared.Statement.TheVariants.{Assign, Read, Write, Acquire, Release, Barrier, Print, If', While', If}
+use Rattle.lrc_program.specs.declared.Statement.TheVariants.{While, outs-If', outs-While', rolls-If, rolls-While}
 use Rattle.lrc_exec.specs.declared.code.Instruction.{Instruction}
 use Rattle.lrc_exec.specs.Laid.{IsLaid}
 use Rattle.lrc_exec.specs.Meaning.{block}

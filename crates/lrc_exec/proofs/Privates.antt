@@ -1,12 +1,12 @@
 -- What stands in a statement takes no more private names than the statement.
 use Rattle.std.proofs.Common.{◌≤◌, ℕ, max, List, [], ◌∷◌, ◌++◌, subst, arith}
 use Rattle.std.proofs.Math.Nat.{max-le, le-max_left, le-max_right}
-use Rattle.lrc_lang.specs.declared.program.Expression.{Expression}
-use Rattle.lrc_lang.specs.declared.program.Statement.{Statement}
-use Rattle.lrc_lang.specs.declared.program.Statement.TheVariants.{If, While}
-use Rattle.lrc_lang.specs.Statements.{statement_of, block_of}
-use Rattle.lrc_lang.specs.Sizes.{names_in_statement, names_in}
-use Rattle.lrc_lang.proofs.Trees.{row_of_hidden}
+use Rattle.lrc_program.specs.declared.Expression.{Expression}
+use Rattle.lrc_program.specs.declared.Statement.{Statement}
+use Rattle.lrc_program.specs.declared.Statement.TheVariants.{If, While}
+use Rattle.lrc_program.specs.Statements.{statement_of, block_of}
+use Rattle.lrc_program.specs.Sizes.{names_in_statement, names_in}
+use Rattle.lrc_program.proofs.Trees.{row_of_hidden}
 
 left_of : (a b n : ℕ) → max a b ≤ n → a ≤ n
 left_of a b n h = omega (arith, le-max_left a b, h)

@@ -10,7 +10,7 @@ use Rattle.lrc_exec.proofs.PlainParts.{thread_within, where_true}
 use Rattle.lrc_trace.specs.declared.act.Act.{Act}
 use Rattle.lrc_trace.specs.declared.act.Deed.{Deed}
 use Rattle.lrc_exec.specs.Meaning.{Thread, Next, quiet, prints, reads, writes, acquires, releases, arrives, departs, traps, ends, next_of}
-use Rattle.lrc_lang.specs.declared.program.Program.{Program}
+use Rattle.lrc_program.specs.declared.Program.{Program}
 use Rattle.lrc_exec.specs.Plain.{Plain, plain_start, nobody_holds, all_arrived, deed_done, thread_in, plain_step, plain_from, plain}
 use Rattle.lrc_exec.specs.Ask.{steps_of}
 use Rattle.lrc_exec.specs.Rounds.{Paced, turn, turns, round, rounds, paced_start, AreActsOfRounds}

@@ -4,10 +4,10 @@ use Rattle.std.proofs.Common.{get_or, Option, Some, None, refl, sym, ap, ◌∙�
 use Rattle.std.specs.Prelude.{slice_get, slice_set, unwrap_or, nat_lt, if◌then◌else◌}
 use Rattle.std.proofs.lemmas.Bool.{ltb-true}
 use Rattle.std.proofs.lemmas.Option.{same_Some, slice_get-get_or}
-use Rattle.lrc_lang.specs.declared.program.Expression.{Expression}
-use Rattle.lrc_lang.specs.declared.program.Statement.{Statement}
-use Rattle.lrc_lang.specs.declared.program.Statement.TheVariants.{Assign, Read, Write, Acquire, Release, Barrier, Print, If', While', If, While}
-use Rattle.lrc_lang.specs.declared.program.Statement.TheBlock.{shape-the_row-Statement-0, hidden-the_row-Statement-0}
+use Rattle.lrc_program.specs.declared.Expression.{Expression}
+use Rattle.lrc_program.specs.declared.Statement.{Statement}
+use Rattle.lrc_program.specs.declared.Statement.TheVariants.{Assign, Read, Write, Acquire, Release, Barrier, Print, If', While', If, While}
+use Rattle.lrc_program.specs.declared.Statement.TheBlock.{shape-the_row-Statement-0, hidden-the_row-Statement-0}
 use Rattle.lrc_trace.specs.declared.act.Cause.{Cause}
 use Rattle.lrc_trace.specs.declared.act.Cause.TheVariants.{WordOutOfRange, LockOutOfRange, LockHeld, LockNotHeld}
 use Rattle.lrc_exec.specs.declared.code.Instruction.{Instruction}

@@ -1,7 +1,7 @@
 -- The condition that a thread evaluates next.
 use Rattle.std.specs.Prelude.{ℕ, Bool, true, false, Option, Some, None, List, ◌∷◌}
-use Rattle.lrc_lang.specs.declared.program.Statement.{Statement}
-use Rattle.lrc_lang.specs.declared.program.Statement.TheVariants.{If', While'}
+use Rattle.lrc_program.specs.declared.Statement.{Statement}
+use Rattle.lrc_program.specs.declared.Statement.TheVariants.{If', While'}
 use Rattle.lrc_exec.specs.Meaning.{Thread, chosen, value_in}
 
 -- whether a condition of this value holds; one without a value does not

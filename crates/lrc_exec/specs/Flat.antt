@@ -1,9 +1,9 @@
 -- Flat code: which statements are still to do at each place, and what makes an instruction sound.
 use Rattle.std.specs.Prelude.{◌≡◌, ℕ, ◌+◌, ◌≤◌, Some, List, [], ◌∷◌, ◌++◌, length, slice_get, slice_index_or}
-use Rattle.lrc_lang.specs.declared.program.Statement.{Statement}
-use Rattle.lrc_lang.specs.declared.program.Statement.TheVariants.{If', While'}
-use Rattle.lrc_lang.specs.Statements.{Statement as Tree, if_else, while_do, Block, empty, next, statement_of, block_of}
-use Rattle.lrc_lang.specs.Sizes.{names_in_statement, names_in}
+use Rattle.lrc_program.specs.declared.Statement.{Statement}
+use Rattle.lrc_program.specs.declared.Statement.TheVariants.{If', While'}
+use Rattle.lrc_program.specs.Statements.{Statement as Tree, if_else, while_do, Block, empty, next, statement_of, block_of}
+use Rattle.lrc_program.specs.Sizes.{names_in_statement, names_in}
 use Rattle.lrc_exec.specs.declared.code.Instruction.{Instruction}
 use Rattle.lrc_exec.specs.Laid.{IsLaid}
 use Rattle.lrc_exec.specs.Meaning.{block}

@@ -1,6 +1,7 @@
 pub mod Ask
 pub mod Condition
 pub mod Flat
+pub mod Follows
 pub mod Laid
 pub mod Meaning
 pub mod Nodes

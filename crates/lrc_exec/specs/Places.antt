@@ -1,7 +1,7 @@
 -- Where a thread stands in flat code once its statement is done.
 use Rattle.std.specs.Prelude.{ℕ, zero, suc, Option, Some, None, List, slice_get, if◌then◌else◌}
-use Rattle.lrc_lang.specs.declared.program.Statement.{Statement}
-use Rattle.lrc_lang.specs.declared.program.Statement.TheVariants.{If', While'}
+use Rattle.lrc_program.specs.declared.Statement.{Statement}
+use Rattle.lrc_program.specs.declared.Statement.TheVariants.{If', While'}
 use Rattle.lrc_exec.specs.declared.code.Instruction.{Instruction}
 use Rattle.lrc_exec.specs.Condition.{value_is_met}
 use Rattle.lrc_exec.specs.Meaning.{Thread, value_in}

@@ -2,7 +2,7 @@
 use Rattle.std.specs.Prelude.{◌≡◌, ℕ, zero, suc, ◌-◌, Option, Some, None, List, [], ◌∷◌, ◌++◌, is_some, nat_le}
 use Rattle.std.specs.Prelude.{if◌then◌else◌, option_and_then, replicate, slice_index, slice_set, unwrap_or}
 use Rattle.std.specs.List.{range_with_len}
-use Rattle.lrc_lang.specs.declared.program.Program.{Program}
+use Rattle.lrc_program.specs.declared.Program.{Program}
 use Rattle.lrc_trace.specs.declared.act.Act.{Act}
 use Rattle.lrc_exec.specs.Ask.{steps_of}
 use Rattle.lrc_exec.specs.Plain.{Plain, plain_start, plain_step, plain}

@@ -4,7 +4,7 @@ ghost use Rattle.std.specs.Prelude.{◌≡◌, ◌+◌, ◌≤◌, [], ◌∷◌
 ghost use Rattle.lrc_exec.specs.Meaning.{chosen};
 
 use crate::emit::put_block;
-use lrc_lang::program::{Program, Statement};
+use lrc_program::{Program, Statement};
 use std::alloc::{AllocError, Global};
 use std::marker::Model;
 
@@ -44,8 +44,8 @@ pub struct Code<'p> {
 }
 
 impl<'p> Model for Code<'p> {
-    ghost use Rattle.lrc_lang.specs.declared.program.Program.{Program};
-    ghost use Rattle.lrc_lang.specs.contracts.program.Statement as statement;
+    ghost use Rattle.lrc_program.specs.declared.Program.{Program};
+    ghost use Rattle.lrc_program.specs.contracts.Statement as statement;
     ghost use Rattle.std.specs.Coded.{codes};
 
     ghost Value = { Program };

@@ -4,7 +4,7 @@ ghost use Rattle.std.specs.Prelude.{◌≡◌, ◌+◌, ◌≤◌, [], ◌∷◌
 ghost use Rattle.lrc_exec.specs.Flat.{IsPut};
 
 use crate::code::Instruction;
-use lrc_lang::program::Statement;
+use lrc_program::Statement;
 use std::alloc::AllocError;
 
 // One more instruction: its place.

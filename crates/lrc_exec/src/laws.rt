@@ -1,7 +1,7 @@
 // Laws of the plain machine and of its rounds. These functions do nothing: each contract states a law.
 
 ghost use Rattle.std.specs.Prelude.{◌≡◌, ℕ, ◌++◌, List, Option, Some, map, option_map, take};
-ghost use Rattle.lrc_lang.specs.declared.program.Program.{Program};
+ghost use Rattle.lrc_program.specs.declared.Program.{Program};
 ghost use Rattle.lrc_trace.specs.declared.act.Act.{Act};
 ghost use Rattle.lrc_exec.specs.Plain.{Plain, plain_start, plain_from, plain};
 ghost use Rattle.lrc_exec.specs.Rounds.{AreActsOfRounds};

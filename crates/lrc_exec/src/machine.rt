@@ -85,7 +85,7 @@ pub struct Machine<'c> {
 
 impl<'c> Model for Machine<'c> {
     ghost use Rattle.std.specs.Coded.{codes};
-    ghost use Rattle.lrc_lang.specs.contracts.program.Statement as statement;
+    ghost use Rattle.lrc_program.specs.contracts.Statement as statement;
     ghost use Rattle.lrc_exec.specs.Meaning.{Thread};
     ghost use Rattle.lrc_exec.specs.Running.{IsRunning};
     ghost use Rattle.lrc_exec.specs.Spots.{thread_at};

@@ -6,7 +6,7 @@ ghost use Rattle.lrc_exec.specs.Plain.{plain};
 use crate::code::Code;
 use crate::spot::Flat;
 use crate::state::State;
-use lrc_lang::program::Program;
+use lrc_program::Program;
 use lrc_trace::act::Act;
 use std::alloc::{AllocError, Global};
 

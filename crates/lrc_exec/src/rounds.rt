@@ -7,7 +7,7 @@ use crate::code::Code;
 use crate::machine::steps_of;
 use crate::spot::Flat;
 use crate::state::State;
-use lrc_lang::program::Program;
+use lrc_program::Program;
 use lrc_trace::act::{Act, Deed};
 use std::alloc::{AllocError, Global};
 

@@ -1,11 +1,11 @@
 // The values of expressions.
 
 ghost use Rattle.std.specs.Prelude.{◌≡◌, ◌≤◌, IfSome, Some, ok_or};
-ghost use Rattle.lrc_lang.specs.Sizes.{names_in_expression};
-ghost use Rattle.lrc_lang.specs.Statements.{expression_of};
+ghost use Rattle.lrc_program.specs.Sizes.{names_in_expression};
+ghost use Rattle.lrc_program.specs.Statements.{expression_of};
 ghost use Rattle.lrc_exec.specs.Meaning.{operated, combined, value_of};
 
-use lrc_lang::program::{Expression, Operator};
+use lrc_program::{Expression, Operator};
 use lrc_trace::act::Cause;
 
 // What an operator gives; none is a division by zero.

@@ -1,7 +1,7 @@
 // Laws of what is explained. These functions do nothing: each contract states a law.
 
 ghost use Rattle.std.specs.Prelude.{◌≡◌, ◌≤◌, ◌<◌, ◌+◌, ◌↔◌, ◌⊎◌, ℕ, Contains, List, [], Option, Some, length, take, true};
-ghost use Rattle.lrc_lang.specs.declared.program.Program.{Program};
+ghost use Rattle.lrc_program.specs.declared.Program.{Program};
 ghost use Rattle.lrc_trace.specs.declared.act.Act.{Act};
 ghost use Rattle.lrc_trace.specs.declared.act.Cause.{Cause};
 ghost use Rattle.lrc_trace.specs.declared.act.Deed.{Deed};

@@ -1,6 +1,6 @@
 -- Acts that were followed through the text.
 use Rattle.std.specs.Prelude.{◌≡◌, ℕ, List}
-use Rattle.lrc_lang.specs.declared.program.Program.{Program}
+use Rattle.lrc_program.specs.declared.Program.{Program}
 use Rattle.lrc_trace.specs.declared.act.Act.{Act}
 use Rattle.lrc_lines.specs.declared.walks.Followed.{Followed}
 use Rattle.lrc_lines.specs.Seen.{walks_of}

@@ -1,7 +1,7 @@
 -- Where a node stands after the acts of a run: how it ended, and what comes next.
 use Rattle.std.specs.Prelude.{ℕ, ◌+◌, ◌==◌, ◌&&◌, not, Bool, true, false, List, Option, Some, None, fold, map, if◌then◌else◌, nat_le, nat_lt}
 use Rattle.std.specs.List.{range_with_len}
-use Rattle.lrc_lang.specs.declared.program.Program.{Program}
+use Rattle.lrc_program.specs.declared.Program.{Program}
 use Rattle.lrc_trace.specs.declared.act.Act.{Act}
 use Rattle.lrc_trace.specs.declared.act.Deed.{Deed}
 use Rattle.lrc_trace.specs.declared.act.Deed.TheVariants as deeds

@@ -2,7 +2,7 @@
 use Rattle.std.specs.Prelude.{ℕ, List, [], Option, None, Some, map, option_map, slice_index_or}
 use Rattle.std.specs.List.{range_with_len}
 use Rattle.lrc_labels.specs.Reading.{Label, label_seen}
-use Rattle.lrc_lang.specs.declared.program.Program.{Program}
+use Rattle.lrc_program.specs.declared.Program.{Program}
 use Rattle.lrc_lines.specs.Statements.{numbers_of}
 use Rattle.lrc_lines.specs.Walks.{line_behind}
 use Rattle.lrc_named_core.specs.Tree.{Trap, plain}

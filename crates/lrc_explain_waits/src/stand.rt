@@ -1,7 +1,7 @@
 // Where the nodes of a run stand after its acts.
 
 ghost use Rattle.std.specs.Prelude.{◌≡◌, ◌<◌, ℕ, List, IfOk};
-ghost use Rattle.lrc_lang.specs.declared.program.Program.{Program};
+ghost use Rattle.lrc_program.specs.declared.Program.{Program};
 ghost use Rattle.lrc_explain_waits.specs.Followed.{AreFollowed};
 ghost use Rattle.lrc_explain_waits.specs.Stand.{coming_by, coming_of, fate_after, fate_of, is_used_up, stand_of, stands_of, takes_step};
 

@@ -4,7 +4,7 @@ ghost use Rattle.std.specs.Prelude.{◌≡◌, ◌+◌, IfOk, List, map, option_
 ghost use Rattle.std.specs.List.{range_with_len};
 ghost use Rattle.lrc_lines.specs.Statements.{numbers_of};
 ghost use Rattle.lrc_named_core.specs.View.{trap_of};
-ghost use Rattle.lrc_lang.specs.declared.program.Program.{Program};
+ghost use Rattle.lrc_program.specs.declared.Program.{Program};
 ghost use Rattle.lrc_trace.specs.declared.act.Act.{Act as AnyAct};
 ghost use Rattle.lrc_explain_waits.specs.Followed.{AreFollowed};
 ghost use Rattle.lrc_explain_waits.specs.Traps.{trap_at, traps_behind, traps_told};

@@ -1,10 +1,10 @@
 -- What is answered.
 use Rattle.std.proofs.Common.{◌≡◌, ℕ, Bool, List, [], ◌∷◌, ◌++◌, sym, ◌∙◌, subst, append-nil}
 use Rattle.std.specs.Prelude.{Some, true, Result, Ok, Err, OnOk}
-use Rattle.lrc_lang.specs.declared.program.Program.{Program}
+use Rattle.lrc_program.specs.declared.Program.{Program}
 use Rattle.lrc_trace.specs.declared.act.Act.{Act}
 use Rattle.lrc_exec.specs.Spots.{IsFlatOf}
-use Rattle.lrc_consistency_laws.specs.Follows.{nodes_of_acts}
+use Rattle.lrc_exec.specs.Follows.{nodes_of_acts}
 use Rattle.lrc_orders.specs.declared.search.ExploreFault.{ExploreFault}
 use Rattle.lrc_orders.specs.Meeting.{Meet}
 use Rattle.lrc_orders.specs.Stuck.{GetsStuck, IsStuck}

@@ -25,7 +25,7 @@ use Rattle.lrc_orders_table.specs.declared.rows.Rows.{Rows}
 use Rattle.lrc_orders_table.specs.Rows.{IsRowAt, IsRowPlace, WidensRows, row_count}
 use Rattle.lrc_orders_table.proofs.Noting.{traps_again}
 use Rattle.lrc_orders_table.proofs.RowLaws.{row_copy, row_store, row_within}
-use Rattle.lrc_consistency_laws.specs.Follows.{nodes_of_acts}
+use Rattle.lrc_exec.specs.Follows.{nodes_of_acts}
 use Rattle.lrc_explore.specs.declared.task.Task.{Task}
 use Rattle.lrc_explore.specs.declared.task.Origin.{Origin}
 use Rattle.lrc_explore.specs.declared.task.Found.{Found}

@@ -1,7 +1,7 @@
 -- What a search through the settled states answers.
 use Rattle.std.specs.Prelude.{◌≢◌, ◌↔◌, IsTrue, min, ◌≡◌, ℕ, ◌+◌, ◌-◌, ◌*◌, ◌^◌, ◌<◌, ◌≤◌, ◌⊎◌, Bool, true, false, All, List, Option, Some, None, Contains, length, slice_get}
 use Rattle.std.specs.List.{IsDistinct}
-use Rattle.lrc_lang.specs.declared.program.Program.{Program}
+use Rattle.lrc_program.specs.declared.Program.{Program}
 use Rattle.lrc_trace.specs.declared.act.Act.{Act}
 use Rattle.lrc_exec.specs.Flat.{IsCodeOf}
 use Rattle.lrc_exec.specs.Plain.{Plain}

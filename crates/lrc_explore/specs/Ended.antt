@@ -1,9 +1,9 @@
 -- Runs that have an outcome.
 use Rattle.std.specs.Prelude.{◌≡◌, ◌↔◌, ℕ, ◌<◌, Option, Some, None, List}
-use Rattle.lrc_lang.specs.declared.program.Program.{Program}
+use Rattle.lrc_program.specs.declared.Program.{Program}
 use Rattle.lrc_trace.specs.declared.act.Act.{Act}
 use Rattle.lrc_exec.specs.Plain.{Plain, plain_from, plain_start}
-use Rattle.lrc_consistency_laws.specs.Follows.{nodes_of_acts}
+use Rattle.lrc_exec.specs.Follows.{nodes_of_acts}
 use Rattle.lrc_orders.specs.declared.noted.Noted.{Noted}
 use Rattle.lrc_orders_table.specs.Rows.{IsRowAt, row_count}
 use Rattle.lrc_orders.specs.Notes.{notes_of}

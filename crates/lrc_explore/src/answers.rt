@@ -4,7 +4,7 @@ ghost use Rattle.std.specs.Prelude.{◌≡◌, ◌≢◌, ◌≤◌, ◌++◌, �
 ghost use Rattle.lrc_trace.specs.declared.act.Act.{Act as ActType};
 ghost use Rattle.lrc_exec.specs.Nodes.{AreNodes};
 ghost use Rattle.lrc_exec.specs.Spots.{IsFlatOf};
-ghost use Rattle.lrc_consistency_laws.specs.Follows.{nodes_of_acts};
+ghost use Rattle.lrc_exec.specs.Follows.{nodes_of_acts};
 ghost use Rattle.lrc_orders.specs.Outcome.{HasOutcome, IsOutcome};
 ghost use Rattle.lrc_explore.specs.Answers.{FitsSettled, FitsSettledNoted, IsAnswer, IsFaultOf, MetTooMany, looked_at};
 ghost use Rattle.lrc_orders.specs.Verdict.{AreFindings, FindsNoRace};
@@ -14,10 +14,10 @@ use crate::task::{End, Found, Task, Trapping};
 use indexmap::IndexSet;
 use lrc_exec::code::Code;
 use lrc_exec::spot::Flat;
-use lrc_lang::program::Program;
 use lrc_orders::outcomes::Outcome;
 use lrc_orders::search::{ExploreFault, Findings, Verdict};
 use lrc_orders_live::live_names;
+use lrc_program::Program;
 use lrc_trace::act::Act;
 use std::alloc::{AllocError, Global};
 

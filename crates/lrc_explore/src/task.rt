@@ -3,10 +3,10 @@
 ghost use Rattle.lrc_explore.specs.Reached.{IsMeansOf};
 
 use lrc_exec::spot::Flat;
-use lrc_lang::program::Program;
 use lrc_orders_settling::step::Step;
 use lrc_orders_table::known::Means;
 use lrc_orders_table::table::Table;
+use lrc_program::Program;
 
 /// The task of a search: a program, its code and the place where the code begins, the names that matter at each place,
 /// the limit on the number of states, the limit on a thread's free acts to look at, and whether notes are kept.

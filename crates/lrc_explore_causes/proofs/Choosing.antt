@@ -17,9 +17,9 @@ use Rattle.lrc_judge.specs.declared.order.Order.{Order}
 use Rattle.lrc_judge.specs.Order.{IsOrderOf, is_before}
 use Rattle.lrc_judge.specs.declared.lanes.Pair.{Pair}
 use Rattle.lrc_judge.specs.Pairs.{AreRacingPairs, pair_cmp}
-use Rattle.lrc_lang.specs.declared.program.Program.{Program}
+use Rattle.lrc_program.specs.declared.Program.{Program}
 use Rattle.lrc_exec.specs.Plain.{plain}
-use Rattle.lrc_consistency_laws.specs.Follows.{nodes_of_acts}
+use Rattle.lrc_exec.specs.Follows.{nodes_of_acts}
 use Rattle.lrc_explore_causes.specs.Causes.{AreCauses, IsCause, Keeps, kept, left}
 use Rattle.lrc_explore_causes.specs.Told.{IsEarliestRace, TellsRace}
 use Rattle.lrc_explore_causes.proofs.Down.{down}

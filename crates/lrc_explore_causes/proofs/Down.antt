@@ -3,7 +3,7 @@ use Rattle.std.proofs.Common.{◌≡◌, ℕ, ◌+◌, ◌-◌, ◌≤◌, List,
 use Rattle.std.specs.Prelude.{Option, Some, option_map, option_and_then, slice_index, slice_set}
 use Rattle.std.proofs.lemmas.List.{map-append}
 use Rattle.std.proofs.lemmas.Option.{same_Some, some_pair_parts, option_and_then_some}
-use Rattle.lrc_lang.specs.declared.program.Program.{Program}
+use Rattle.lrc_program.specs.declared.Program.{Program}
 use Rattle.lrc_trace.specs.declared.act.Act.{Act}
 use Rattle.lrc_trace.specs.declared.act.Deed.{Deed}
 use Rattle.lrc_trace.specs.declared.act.Deed.TheVariants.{Read, Write}
@@ -15,7 +15,7 @@ use Rattle.lrc_trace.proofs.Positions.{Does-within}
 use Rattle.lrc_exec.specs.Meaning.{Thread, Next, reads, writes, next_of}
 use Rattle.lrc_exec.specs.Plain.{Plain, deed_done, thread_in, plain_step, plain_start, plain_from, plain, with_thread}
 use Rattle.lrc_exec.proofs.PlainLaws.{then_from, plain_from-append}
-use Rattle.lrc_consistency_laws.specs.Follows.{nodes_of_acts}
+use Rattle.lrc_exec.specs.Follows.{nodes_of_acts}
 use Rattle.lrc_consistency_laws.proofs.Runs.{start_ready}
 use Rattle.lrc_consistency_laws.proofs.Plainly.{facts, stepwise}
 use Rattle.lrc_orders.specs.Meeting.{access_of, next_access}

@@ -7,13 +7,13 @@ ghost use Rattle.lrc_trace.specs.Conflict.{Races};
 ghost use Rattle.lrc_judge.specs.declared.TheConstants.{NODES};
 ghost use Rattle.lrc_exec.specs.Nodes.{AreNodes};
 ghost use Rattle.lrc_exec.specs.Plain.{plain};
-ghost use Rattle.lrc_consistency_laws.specs.Follows.{nodes_of_acts};
+ghost use Rattle.lrc_exec.specs.Follows.{nodes_of_acts};
 ghost use Rattle.lrc_explore_causes.specs.Told.{IsEarliestRace, TellsRace};
 
 use crate::causes::causes_of;
 use lrc_exec::plain::plain_run;
 use lrc_judge::pairs::{Pair, racing_pairs};
-use lrc_lang::program::Program;
+use lrc_program::Program;
 use lrc_trace::act::Act;
 use std::alloc::{AllocError, Global};
 

@@ -7,7 +7,7 @@ use Rattle.lrc_trace.specs.declared.act.Act.{Act}
 use Rattle.lrc_trace.specs.declared.act.Deed.{Deed}
 use Rattle.lrc_exec.specs.Plain.{Plain, plain_from, plain_start, plain_step}
 use Rattle.lrc_exec.specs.States.{plain_at}
-use Rattle.lrc_consistency_laws.specs.Follows.{nodes_of_acts}
+use Rattle.lrc_exec.specs.Follows.{nodes_of_acts}
 use Rattle.lrc_graph.specs.Graph as graph
 use Rattle.lrc_graph.specs.Graph.{HasEdge}
 use Rattle.lrc_orders.specs.declared.noted.Noted.{Noted}

@@ -1,6 +1,6 @@
 -- What is answered where it is asked whether every order can end.
 use Rattle.std.specs.Prelude.{◌≡◌, ℕ, Bool, true, option_map}
-use Rattle.lrc_lang.specs.declared.program.Program.{Program}
+use Rattle.lrc_program.specs.declared.Program.{Program}
 use Rattle.lrc_consistency_laws.specs.Racing.{HasNoRace}
 use Rattle.lrc_orders.specs.Verdict.{AreFindings, EndsInRace}
 use Rattle.lrc_orders_ends.specs.Ends.{TellsEnd}

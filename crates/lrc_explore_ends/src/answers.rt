@@ -12,8 +12,8 @@ use crate::lost::lost_order;
 use lrc_exec::code::Code;
 use lrc_explore::answers::{count_of, task_of};
 use lrc_explore::task::{End, Found, Task, Trapping};
-use lrc_lang::program::Program;
 use lrc_orders::search::{ExploreFault, Findings, Verdict};
+use lrc_program::Program;
 use std::alloc::Global;
 
 /// What the search found of the orders of a program, besides races, where it was asked whether every order can end.

@@ -1,7 +1,7 @@
 // An order that can no longer end.
 
 ghost use Rattle.std.specs.Prelude.{◌≡◌, ◌<◌, ◌≢◌, ℕ, false, true, IfErr, IfOk, MatchOption, length, slice_index_or, option_map};
-ghost use Rattle.lrc_consistency_laws.specs.Follows.{nodes_of_acts};
+ghost use Rattle.lrc_exec.specs.Follows.{nodes_of_acts};
 ghost use Rattle.lrc_orders_ends.specs.Ends.{TellsEnd};
 ghost use Rattle.lrc_orders_table.specs.Rows.{row_count};
 ghost use Rattle.lrc_explore.specs.Answers.{IsFault};

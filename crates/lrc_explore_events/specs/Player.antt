@@ -1,6 +1,6 @@
 -- What is played, as its functions see it.
 use Rattle.std.specs.Prelude.{◌≡◌, ℕ, length}
-use Rattle.lrc_lang.specs.declared.program.Program.{Program}
+use Rattle.lrc_program.specs.declared.Program.{Program}
 use Rattle.lrc_lines.specs.Seen.{walks_of}
 use Rattle.lrc_lines.specs.Statements.{numbers_of}
 use Rattle.lrc_lines.specs.Walks.{end_line, walks_behind}

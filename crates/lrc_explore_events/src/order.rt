@@ -2,7 +2,7 @@
 
 ghost use Rattle.std.specs.Prelude.{◌≡◌, ◌≤◌, ◌+◌, ℕ, [], IfOk, OnOk};
 ghost use Rattle.std.specs.List.{range_with_len};
-ghost use Rattle.lrc_lang.specs.declared.program.Program.{Program as AnyProgram};
+ghost use Rattle.lrc_program.specs.declared.Program.{Program as AnyProgram};
 ghost use Rattle.lrc_lines.specs.Statements.{act_statements, numbers_of};
 ghost use Rattle.lrc_protocol.specs.Node.{OptionsRecord};
 ghost use Rattle.lrc_along.specs.Along.{LeadsAlong};
@@ -11,9 +11,9 @@ ghost use Rattle.lrc_explore_events.specs.Playing.{IsFollowing, HasFollowed, IsD
 use crate::player::Player;
 use lrc_along::limit::MOST_EVENTS;
 use lrc_exec::code::Code;
-use lrc_lang::program::Program;
 use lrc_lines::walks::lines_of_acts;
 use lrc_node::Options;
+use lrc_program::Program;
 use lrc_protocol::Event;
 use lrc_trace::act::Act;
 use std::alloc::{AllocError, Global};

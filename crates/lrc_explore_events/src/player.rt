@@ -2,7 +2,7 @@
 
 ghost use Rattle.std.specs.Prelude.{◌≡◌, ◌↔◌, ◌∷◌, ◌++◌, ◌≤◌, ℕ, [], IfOk, IsTrue, List, MatchOption, OnOk, None, Some, length, option_map, position, if◌then◌else◌};
 ghost use Rattle.std.specs.Option.{option_to_list};
-ghost use Rattle.lrc_lang.specs.declared.program.Program.{Program};
+ghost use Rattle.lrc_program.specs.declared.Program.{Program};
 ghost use Rattle.lrc_trace.specs.declared.act.Act.{Act as AnyAct};
 ghost use Rattle.lrc_lines.specs.Seen.{walks_of};
 ghost use Rattle.lrc_lines.specs.Statements.{act_statements, numbers_of};
@@ -18,8 +18,9 @@ use crate::asked::is_asked;
 use lrc_envelope::{Envelope, Message};
 use lrc_exec::code::Code;
 use lrc_lines::walks::Walks;
+use lrc_log::Turn;
 use lrc_need::Wait;
-use lrc_node::{Options, Turn};
+use lrc_node::Options;
 use lrc_protocol::Event;
 use lrc_replay::Replay;
 use lrc_trace::act::{Act, Deed};

@@ -1,7 +1,7 @@
 -- What is shown of a line.
 use Rattle.std.proofs.Common.{◌≡◌, ℕ, Bool, List, true, Result, Ok, Err, IfOk, sym, subst}
 use Rattle.std.specs.declared.alloc.AllocError.{AllocError}
-use Rattle.lrc_lang.specs.declared.program.Program.{Program}
+use Rattle.lrc_program.specs.declared.Program.{Program}
 use Rattle.lrc_consistency_laws.specs.Racing.{HasNoRace}
 use Rattle.lrc_orders.specs.Verdict.{EndsInRace}
 use Rattle.lrc_explore_events_text.specs.declared.told.Line.{Line}

@@ -7,8 +7,8 @@ ghost use Rattle.lrc_explore_events_text.specs.Shows.{ShowsRunOfNumber};
 
 use crate::showing::events_shown;
 use lrc_explore_text::outcome_run::outcome_run;
-use lrc_lang::program::Program;
 use lrc_orders::search::ExploreFault;
+use lrc_program::Program;
 use std::alloc::Global;
 
 /// Returns the events along a run that has the outcome with this number, counted from 1, among the outcomes of a program,

@@ -8,9 +8,9 @@ ghost use Rattle.lrc_explore_events_text.specs.Shows.{ShowsEvents, ShowsOrder, b
 use lrc_events::events_part;
 use lrc_explore_events::order::events_along;
 use lrc_explore_text::orders::acts_of;
-use lrc_lang::program::Program;
 use lrc_node::Options;
 use lrc_page::Size;
+use lrc_program::Program;
 use lrc_trace::act::Act;
 use std::alloc::{AllocError, Global};
 

@@ -14,8 +14,8 @@ use lrc_explore_causes::told::race_told;
 use lrc_explore_ends::answers::{EndVerdict, explore_ends};
 use lrc_explore_less::answers::{explore, findings};
 use lrc_explore_text::orders::acts_of;
-use lrc_lang::program::Program;
 use lrc_orders::search::{ExploreFault, Findings, Verdict};
+use lrc_program::Program;
 use std::alloc::{AllocError, Global};
 
 /// Of which line the order is asked for, of the lines that a search prints.

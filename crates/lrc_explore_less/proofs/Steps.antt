@@ -12,7 +12,7 @@ use Rattle.lrc_orders.specs.declared.noted.Noted.{Noted}
 use Rattle.lrc_orders.specs.Kept.{Grows, IsAddedAt}
 use Rattle.lrc_orders.specs.Stuck.{GetsStuck, IsStuck}
 use Rattle.lrc_orders.specs.Traps.{NodeTraps, has_trap}
-use Rattle.lrc_consistency_laws.specs.Follows.{nodes_of_acts}
+use Rattle.lrc_exec.specs.Follows.{nodes_of_acts}
 use Rattle.lrc_orders.proofs.Gathering.{put_all}
 use Rattle.lrc_orders.proofs.Keeping.{grows_again, grows_not, item_at}
 use Rattle.lrc_orders.proofs.Searching.{copy_same}

@@ -3,7 +3,7 @@
 ghost use Rattle.std.specs.Prelude.{◌≡◌, ◌↔◌, List, IfErr, IfOk, Err, false, true};
 ghost use Rattle.lrc_trace.specs.declared.act.Act.{Act as ActType};
 ghost use Rattle.lrc_exec.specs.Nodes.{AreNodes};
-ghost use Rattle.lrc_consistency_laws.specs.Follows.{nodes_of_acts};
+ghost use Rattle.lrc_exec.specs.Follows.{nodes_of_acts};
 ghost use Rattle.lrc_orders.specs.Outcome.{HasOutcome, IsOutcome};
 ghost use Rattle.lrc_orders.specs.Verdict.{AreFindings};
 ghost use Rattle.lrc_explore.specs.Answers.{IsAnswer, IsFault, IsFaultOf, MetTooMany};
@@ -19,9 +19,9 @@ use lrc_explore::answers::{
 };
 use lrc_explore::found::{settled_start, taken};
 use lrc_explore::task::{End, Origin, Task, Trapping};
-use lrc_lang::program::Program;
 use lrc_orders::outcomes::Outcome;
 use lrc_orders::search::{ExploreFault, Findings, Verdict};
+use lrc_program::Program;
 use lrc_trace::act::Act;
 use std::alloc::{AllocError, Global};
 

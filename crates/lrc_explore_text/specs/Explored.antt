@@ -1,6 +1,6 @@
 -- What is printed of every order of a program, and the status after it.
 use Rattle.std.specs.Prelude.{ℕ, Bool, true, false, List, not}
-use Rattle.lrc_lang.specs.declared.program.Program.{Program}
+use Rattle.lrc_program.specs.declared.Program.{Program}
 use Rattle.lrc_explain_waits.specs.Traps.{Wording}
 use Rattle.lrc_explore.specs.Answers.{MetTooMany}
 use Rattle.lrc_explore_text.specs.Orders.{TellsOrders}

@@ -1,6 +1,6 @@
 -- Whether an order of a program races or gets stuck, and whether a node traps in one, as it is printed.
 use Rattle.std.specs.Prelude.{◌≡◌, ◌+◌, ◌||◌, ℕ, Bool, true, false, None, Some, List, ◌++◌, codes, if◌then◌else◌, length}
-use Rattle.lrc_lang.specs.declared.program.Program.{Program}
+use Rattle.lrc_program.specs.declared.Program.{Program}
 use Rattle.lrc_explain_waits.specs.Traps.{Wording, traps_told}
 use Rattle.lrc_trace.specs.declared.act.Act.{Act}
 use Rattle.lrc_trace.specs.declared.race.Race.{Race}

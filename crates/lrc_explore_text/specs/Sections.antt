@@ -1,6 +1,6 @@
 -- Texts of a line and of an order that shows what it says.
 use Rattle.std.specs.Prelude.{◌≡◌, ℕ, List, ◌++◌}
-use Rattle.lrc_lang.specs.declared.program.Program.{Program}
+use Rattle.lrc_program.specs.declared.Program.{Program}
 use Rattle.lrc_explain_waits.specs.Traps.{Wording}
 use Rattle.lrc_explore_text.specs.declared.orders.Section.{Section}
 use Rattle.lrc_explore_text.specs.Orders.{TellsFindings}

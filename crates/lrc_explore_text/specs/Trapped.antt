@@ -1,6 +1,6 @@
 -- The lines of nodes that have trapped.
 use Rattle.std.specs.Prelude.{ℕ, None, List, []}
-use Rattle.lrc_lang.specs.declared.program.Program.{Program}
+use Rattle.lrc_program.specs.declared.Program.{Program}
 use Rattle.lrc_trace.specs.declared.act.Act.{Act}
 use Rattle.lrc_text.specs.Each.{each}
 use Rattle.lrc_labels.specs.Reading.{Label}

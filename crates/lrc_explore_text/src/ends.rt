@@ -15,8 +15,8 @@ use crate::explored::Printout;
 use crate::orders::{Section, acts_of, acts_told, ends_told, found_told, line_alone, race_told};
 use lrc_explain_waits::Wording;
 use lrc_explore_ends::answers::{EndFindings, EndVerdict, explore_ends};
-use lrc_lang::program::Program;
 use lrc_orders::search::ExploreFault;
+use lrc_program::Program;
 use std::alloc::{AllocError, Global};
 
 /// Searches every order in which `nodes` nodes can run a program, and returns what is printed: whether an order races, if

@@ -9,8 +9,8 @@ ghost use Rattle.lrc_explore_text.specs.Explored.{Explores, MeetsTooMany};
 use crate::orders::orders_told;
 use crate::outcomes::outcomes_told;
 use lrc_explain_waits::Wording;
-use lrc_lang::program::Program;
 use lrc_orders::search::ExploreFault;
+use lrc_program::Program;
 use std::alloc::Global;
 
 /// A printed text, and the exit status of the program after it.

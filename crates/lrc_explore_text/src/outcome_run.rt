@@ -14,9 +14,9 @@ use lrc_exec::code::Code;
 use lrc_explore::answers::task_of;
 use lrc_explore::task::Task;
 use lrc_explore_less::ended::{Ended, all_ended};
-use lrc_lang::program::Program;
 use lrc_orders::outcomes::Outcome;
 use lrc_orders::search::ExploreFault;
+use lrc_program::Program;
 use lrc_trace::act::Act;
 use std::alloc::{AllocError, Global};
 

@@ -11,9 +11,9 @@ ghost use Rattle.lrc_explore_text.specs.Outcomes.{AreLinesOf, ListsOutcomes, Tel
 use crate::explored::Printout;
 use indexmap::IndexSet;
 use lrc_explore_less::answers::outcomes;
-use lrc_lang::program::Program;
 use lrc_orders::outcomes::Outcome;
 use lrc_orders::search::ExploreFault;
+use lrc_program::Program;
 use lrc_report::report::report_parts;
 use lrc_text::push_number;
 use lrc_trace::act::Act;

@@ -10,9 +10,9 @@ ghost use Rattle.lrc_explore_text.specs.Trapped.{trapped_line, trapped_lines, tr
 use lrc_exec::code::Code;
 use lrc_explain_waits::{Fate, Stand, Wording, push_end, stands_of, trap_at, traps_told};
 use lrc_labels::label::Label;
-use lrc_lang::program::Program;
 use lrc_lines::walks::follow_acts;
 use lrc_named_core::tree::Trap;
+use lrc_program::Program;
 use lrc_trace::act::Act;
 use std::alloc::{AllocError, Global};
 

@@ -2,10 +2,10 @@
 use Rattle.std.proofs.Common.{◌≡◌, List, [], ◌∷◌, Option, Some, None, option_map, refl, sym, ap, subst}
 use Rattle.lrc_lang.specs.declared.token.Keyword.TheVariants.{Me, Nodes}
 use Rattle.lrc_lang.specs.declared.token.Sign.TheVariants.{OpenParenthesis, CloseParenthesis}
-use Rattle.lrc_lang.specs.declared.program.Operator.{Operator}
+use Rattle.lrc_program.specs.declared.Operator.{Operator}
 use Rattle.lrc_lang.specs.Token.{Token}
 use Rattle.lrc_lang.specs.Symbol.{Symbol, number, name, operator, keyword, sign, Names, symbols_after}
-use Rattle.lrc_lang.specs.Tree.{Expression, binary}
+use Rattle.lrc_program.specs.Tree.{Expression, binary}
 use Rattle.lrc_lang.specs.Grammar.{Joins, factors, terms, sums, joins, IsFactor, a_number, a_name, me, nodes, parentheses}
 use Rattle.lrc_lang.specs.Grammar.{IsTerm, factor, product, IsSum, term, sum, IsExpression, one_sum, comparison}
 use Rattle.lrc_lang.specs.Parser.Partial.{Pending, Level, no_pending, Partial, joined, term_of, whole_of, waiting, level_with}

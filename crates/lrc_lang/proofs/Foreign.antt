@@ -2,7 +2,7 @@
 use Rattle.std.proofs.Common.{◌≡◌, ℕ, false, List, Option, Some, None, refl}
 use Rattle.lrc_lang.specs.declared.token.Keyword.TheVariants.{Words, Locks}
 use Rattle.lrc_lang.specs.Symbol.{Symbol, keyword, finish}
-use Rattle.lrc_lang.specs.Tree.{Expression, Block}
+use Rattle.lrc_program.specs.Tree.{Expression, Block}
 use Rattle.lrc_lang.specs.Parser.Partial as partial
 use Rattle.lrc_lang.specs.Parser.Partial.{Level, no_pending, Partial, nothing, partial_with, value_of}
 use Rattle.lrc_lang.specs.Parser.Body as body

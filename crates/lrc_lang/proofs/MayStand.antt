@@ -6,7 +6,7 @@ use Rattle.lrc_lang.specs.declared.token.Sign.TheVariants as signs
 use Rattle.lrc_lang.specs.Token as tokens
 use Rattle.lrc_lang.specs.Token.{Token}
 use Rattle.lrc_lang.specs.Symbol.{Symbol, Names, number, name, names_with, symbol_of, symbol_of_sign}
-use Rattle.lrc_lang.specs.Tree.{Block, Expression, ProgramTree}
+use Rattle.lrc_program.specs.Tree.{Block, Expression, ProgramTree}
 use Rattle.lrc_lang.specs.Grammar.{IsProgram}
 use Rattle.lrc_lang.specs.Counts.{names_of}
 use Rattle.lrc_lang.specs.Kind.{kind_of, all_kinds, MayStand, AreThoseThatMayStand}

@@ -4,9 +4,9 @@ use Rattle.std.proofs.Common.{MatchResult, refl, sym, ap, ap₂, subst, ◌∙�
 use Rattle.lrc_lang.specs.declared.fault.FaultKind.{FaultKind}
 use Rattle.lrc_lang.specs.declared.fault.FaultKind.TheVariants.{TooLong, BadByte, BadNumber, Unexpected, TooDeep, TooManyNames, OverLimit, NoMemory}
 use Rattle.lrc_lang.specs.declared.fault.ParseFault.{ParseFault}
-use Rattle.lrc_lang.specs.declared.program.Program.{Program}
+use Rattle.lrc_program.specs.declared.Program.{Program}
 use Rattle.lrc_lang.specs.Token.{Token, Lexeme, token, Placed}
-use Rattle.lrc_lang.specs.Tree.{ProgramTree, program_of}
+use Rattle.lrc_program.specs.Tree.{ProgramTree, program_of}
 use Rattle.lrc_lang.specs.Grammar.{IsProgram}
 use Rattle.lrc_lang.specs.Faults.{HasFault, rank, IsFaultOf, IsFaultless, IsFirstFault, AreFaultless, IsText, HasFirstFault}
 use Rattle.lrc_lang.specs.Parser.SeenParser.{IsOutOfMemory}

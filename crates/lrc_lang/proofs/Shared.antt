@@ -1,6 +1,6 @@
 -- A text within the limits has 1 to 65,536 words and at most 64 locks.
 use Rattle.std.proofs.Common.{◌≡◌, ◌≤◌, ◌<◌, ℕ, List, [], ◌∷◌, ◌++◌, Option, Some, None, refl, sym, subst, inl, inr, arith}
-use Rattle.lrc_lang.specs.declared.TheConstants.{MOST_WORDS}
+use Rattle.lrc_program.specs.declared.TheConstants.{MOST_WORDS}
 use Rattle.lrc_lang.specs.declared.token.Keyword.{Keyword}
 use Rattle.lrc_lang.specs.declared.token.Keyword.TheVariants.{Words, Locks}
 use Rattle.lrc_lang.specs.declared.token.Sign.{Sign}
@@ -8,7 +8,7 @@ use Rattle.lrc_lang.specs.declared.token.Sign.TheVariants as signs
 use Rattle.lrc_lang.specs.declared.fault.FaultKind.TheVariants.{OverLimit}
 use Rattle.lrc_lang.specs.Token.{Token, Placed}
 use Rattle.lrc_lang.specs.Symbol.{Symbol, number, keyword, sign, Names, symbol_of, symbol_of_sign, symbols_after, names_with}
-use Rattle.lrc_lang.specs.Tree.{ProgramTree}
+use Rattle.lrc_program.specs.Tree.{ProgramTree}
 use Rattle.lrc_lang.specs.Counts.{last_of}
 use Rattle.lrc_lang.specs.Grammar.{AreSymbolsOf, program}
 use Rattle.lrc_lang.specs.Faults.{IsNumberOutOfRange, AreFaultless, IsText}

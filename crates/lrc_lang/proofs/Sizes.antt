@@ -9,10 +9,10 @@ use Rattle.lrc_lang.specs.declared.token.Sign.TheVariants as signs
 use Rattle.lrc_lang.specs.declared.fault.FaultKind.TheVariants.{TooDeep, TooManyNames, OverLimit}
 use Rattle.lrc_lang.specs.Token.{Token, Placed}
 use Rattle.lrc_lang.specs.Symbol.{Symbol, Names, is_among, number_of, names_with, symbol_of, symbol_of_sign, symbols_after}
-use Rattle.lrc_lang.specs.Statements.{Expression, binary, Statement, Block}
-use Rattle.lrc_lang.specs.Tree.{ProgramTree}
-use Rattle.lrc_lang.specs.Sizes.{names_in_expression, operators_in, names_in_statement, names_in}
-use Rattle.lrc_lang.specs.Sizes.{depth_of_statement, depth_of, operators_in_statement, most_operators}
+use Rattle.lrc_program.specs.Statements.{Expression, binary, Statement, Block}
+use Rattle.lrc_program.specs.Tree.{ProgramTree}
+use Rattle.lrc_program.specs.Sizes.{names_in_expression, operators_in, names_in_statement, names_in}
+use Rattle.lrc_program.specs.Sizes.{depth_of_statement, depth_of, operators_in_statement, most_operators}
 use Rattle.lrc_lang.specs.Counts.{names_of, open_with, open_of, operators_with, operators_of, IsTooDeep, IsNameTooMany, IsOperatorTooMany}
 use Rattle.lrc_lang.specs.Grammar.{IsFactor, a_number, a_name, parentheses, IsTerm, factor, product, IsSum, term, sum, IsExpression, one_sum}
 use Rattle.lrc_lang.specs.Grammar.{comparison, IsStatement, IsBlock, braces, AreStatements, none, one_more, AreSymbolsOf, program}

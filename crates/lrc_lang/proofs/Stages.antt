@@ -1,13 +1,13 @@
 -- What the last token was, by the stage behind it: only behind `words` and `locks` may a number pass its limit.
 use Rattle.std.proofs.Common.{◌≡◌, ◌<◌, ◌⊎◌, ℕ, Option, Some, None, refl, sym, ap, subst, ◌∙◌}
-use Rattle.lrc_lang.specs.declared.TheConstants.{MOST_WORDS}
+use Rattle.lrc_program.specs.declared.TheConstants.{MOST_WORDS}
 use Rattle.lrc_lang.specs.declared.token.Keyword.TheVariants.{Words, Locks}
 use Rattle.lrc_lang.specs.declared.token.Keyword.{Keyword}
 use Rattle.lrc_lang.specs.declared.token.Sign.{Sign}
 use Rattle.lrc_lang.specs.declared.token.Sign.TheVariants as signs
 use Rattle.lrc_lang.specs.Token.{Token}
 use Rattle.lrc_lang.specs.Symbol.{Symbol, number, name, keyword, sign, finish, Names, number_of, symbol_of, symbol_of_sign}
-use Rattle.lrc_lang.specs.Tree.{Block}
+use Rattle.lrc_program.specs.Tree.{Block}
 use Rattle.lrc_lang.specs.Parser.Body.{Body, body_with, whole_of, if_some}
 use Rattle.lrc_lang.specs.Parser.State as state
 use Rattle.lrc_lang.specs.Parser.State.{Stage, words, words_number, words_end, locks, locks_number, locks_end, statements, nothing, ParserState, state_with}

@@ -3,7 +3,7 @@ use Rattle.std.proofs.Common.{◌≡◌, ℕ, false, List, [], ◌∷◌, Option
 use Rattle.lrc_lang.specs.declared.token.Keyword.TheVariants.{Else}
 use Rattle.lrc_lang.specs.declared.token.Sign.TheVariants.{Semicolon, OpenBracket, CloseBracket, OpenBrace}
 use Rattle.lrc_lang.specs.Symbol.{Symbol, keyword, sign, finish}
-use Rattle.lrc_lang.specs.Tree.{Expression, Statement, Block, empty}
+use Rattle.lrc_program.specs.Tree.{Expression, Statement, Block, empty}
 use Rattle.lrc_lang.specs.Grammar as grammar
 use Rattle.lrc_lang.specs.Grammar.{IsExpression, IsStatement, IsBlock, braces, AreStatements, none, one_more}
 use Rattle.lrc_lang.specs.Parser.Partial as partial

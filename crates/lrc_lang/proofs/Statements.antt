@@ -3,7 +3,7 @@ use Rattle.std.proofs.Common.{◌≡◌, ℕ, List, [], ◌∷◌, refl, sym, ap
 use Rattle.lrc_lang.specs.declared.token.Keyword.TheVariants.{Else}
 use Rattle.lrc_lang.specs.declared.token.Sign.TheVariants.{Semicolon, Assign, OpenBracket, CloseBracket, CloseBrace}
 use Rattle.lrc_lang.specs.Symbol.{Symbol, keyword, sign, finish}
-use Rattle.lrc_lang.specs.Tree.{Expression, Statement, Block, empty, next}
+use Rattle.lrc_program.specs.Tree.{Expression, Statement, Block, empty, next}
 use Rattle.lrc_lang.specs.Grammar.{IsExpression, IsStatement, IsBlock, AreStatements, none, one_more}
 use Rattle.lrc_lang.specs.Parser.Partial.{Partial, nothing}
 use Rattle.lrc_lang.specs.Parser.Body as body

@@ -3,7 +3,7 @@ use Rattle.std.proofs.Common.{List, [], ◌∷◌, refl}
 use Rattle.lrc_lang.specs.declared.token.Sign.TheVariants.{Semicolon, Assign, CloseBracket, OpenBrace, CloseBrace}
 use Rattle.lrc_lang.specs.Token.{Token}
 use Rattle.lrc_lang.specs.Symbol.{Symbol, number, Names, symbols_after}
-use Rattle.lrc_lang.specs.Tree.{Expression, Statement, Block, empty}
+use Rattle.lrc_program.specs.Tree.{Expression, Statement, Block, empty}
 use Rattle.lrc_lang.specs.Grammar as grammar
 use Rattle.lrc_lang.specs.Grammar.{IsExpression, IsStatement, IsBlock, braces, AreStatements, none, one_more}
 use Rattle.lrc_lang.specs.Parser.Partial.{Partial, nothing}

@@ -4,7 +4,7 @@ use Rattle.lrc_lang.specs.declared.token.Keyword.TheVariants.{Words, Locks}
 use Rattle.lrc_lang.specs.declared.token.Sign.TheVariants.{Semicolon}
 use Rattle.lrc_lang.specs.Token.{Token}
 use Rattle.lrc_lang.specs.Symbol.{Symbol, number, keyword, sign, finish, Names, symbols_after}
-use Rattle.lrc_lang.specs.Tree.{Block, ProgramTree}
+use Rattle.lrc_program.specs.Tree.{Block, ProgramTree}
 use Rattle.lrc_lang.specs.Grammar.{AreSymbolsOf, program}
 use Rattle.lrc_lang.specs.Parser.Body.{Body, body_with, whole_of, if_some}
 use Rattle.lrc_lang.specs.Parser.Body as body

@@ -4,7 +4,7 @@ use Rattle.lrc_lang.specs.declared.symbol.Symbol as code_symbol
 use Rattle.lrc_lang.specs.declared.symbol.Symbol.TheVariants as codes
 use Rattle.lrc_lang.specs.declared.token.Keyword.TheVariants as keywords
 use Rattle.lrc_lang.specs.Symbol.{Symbol, keyword}
-use Rattle.lrc_lang.specs.Tree.{Block, Expression, if_else, empty}
+use Rattle.lrc_program.specs.Tree.{Block, Expression, if_else, empty}
 use Rattle.lrc_lang.specs.Parser.Body.{Around, begin, behind_then, body_with, push, whole_of}
 use Rattle.lrc_lang.specs.Parser.Seen.{symbol_seen}
 use Rattle.lrc_lang.specs.Parser.State.{ParserState, in_statements}

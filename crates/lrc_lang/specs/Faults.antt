@@ -1,13 +1,13 @@
 -- The faults of a text, and which of them is the first.
 use Rattle.std.specs.Prelude.{◌≡◌, ◌<◌, ◌≤◌, ◌⊎◌, ℕ, List, [], ◌∷◌, ◌++◌, length, Option, Some}
-use Rattle.lrc_lang.specs.declared.TheConstants.{MOST_WORDS}
+use Rattle.lrc_program.specs.declared.TheConstants.{MOST_WORDS}
 use Rattle.lrc_lang.specs.declared.token.Keyword.TheVariants as keywords
 use Rattle.lrc_lang.specs.declared.fault.FaultKind.{FaultKind}
 use Rattle.lrc_lang.specs.declared.fault.FaultKind.TheVariants.{TooLong, BadByte, BadNumber, Unexpected, TooDeep, TooManyNames, OverLimit, NoMemory}
 use Rattle.lrc_lang.specs.Token.{Token, number, keyword, Lexeme, token, bad_byte, bad_number, Placed}
 use Rattle.lrc_lang.specs.Lexemes.{Lexes}
 use Rattle.lrc_lang.specs.Counts.{names_of, open_of, operators_of, last_of, IsTooDeep, IsNameTooMany, IsOperatorTooMany}
-use Rattle.lrc_lang.specs.Tree.{ProgramTree}
+use Rattle.lrc_program.specs.Tree.{ProgramTree}
 use Rattle.lrc_lang.specs.Grammar.{IsProgram}
 
 -- ---- the faults of a token behind the tokens before it

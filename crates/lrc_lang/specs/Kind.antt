@@ -5,7 +5,7 @@ use Rattle.lrc_lang.specs.declared.kind.Kind.TheVariants as kinds
 use Rattle.lrc_lang.specs.declared.token.Keyword.TheVariants as keywords
 use Rattle.lrc_lang.specs.declared.token.Sign.TheVariants as signs
 use Rattle.lrc_lang.specs.Token.{Token, number, name, keyword, sign, finish}
-use Rattle.lrc_lang.specs.Tree.{ProgramTree}
+use Rattle.lrc_program.specs.Tree.{ProgramTree}
 use Rattle.lrc_lang.specs.Grammar.{IsProgram}
 
 -- the kind of a token

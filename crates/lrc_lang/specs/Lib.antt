@@ -8,8 +8,5 @@ pub mod Lexer
 pub mod Lines
 pub mod Parser
 pub mod Positions
-pub mod Sizes
-pub mod Statements
 pub mod Symbol
 pub mod Token
-pub mod Tree

@@ -2,7 +2,7 @@
 use Rattle.std.specs.Prelude.{◌≡◌, ◌-◌, ℕ, List, [], ◌∷◌, ◌++◌, length, map, slice_index_or}
 use Rattle.lrc_lang.specs.Token.{Token, token, Placed}
 use Rattle.lrc_lang.specs.Symbol.{Symbol, finish, symbols}
-use Rattle.lrc_lang.specs.Tree.{Statement, Block, ProgramTree}
+use Rattle.lrc_program.specs.Tree.{Statement, Block, ProgramTree}
 use Rattle.lrc_lang.specs.Lexemes.{Lexes}
 use Rattle.lrc_lang.specs.Grammar.{IsStatement, assign, read, write, acquire, release, barrier, print, if_alone, if_else, while_do}
 use Rattle.lrc_lang.specs.Grammar.{IsBlock, braces, AreStatements, none, one_more, AreSymbolsOf, program, IsProgram}

@@ -11,14 +11,14 @@ ghost use Rattle.lrc_lang.specs.Parser.SeenBody.{IsExpected, Steps, purpose_seen
 ghost use Rattle.lrc_lang.specs.declared.token.Keyword.TheVariants.{Else};
 ghost use Rattle.lrc_lang.specs.Symbol.{keyword};
 ghost use Rattle.lrc_lang.specs.Parser.Body.{Around as AroundSeen};
-ghost use Rattle.lrc_lang.specs.Tree.{Block, Expression as Word, Statement as StatementSeen};
-ghost use Rattle.lrc_lang.specs.Tree.{if_else, empty, expression_of, statement_of, block_of};
+ghost use Rattle.lrc_program.specs.Tree.{Block, Expression as Word, Statement as StatementSeen};
+ghost use Rattle.lrc_program.specs.Tree.{if_else, empty, expression_of, statement_of, block_of};
 
 use crate::fault::FaultKind;
 use crate::partial::{Partial, begins_operand};
-use crate::program::{Expression, Statement};
 use crate::symbol::Symbol;
 use crate::token::{Keyword, Sign};
+use lrc_program::{Expression, Statement};
 use std::alloc::Global;
 use std::mem;
 

@@ -1,6 +1,6 @@
 //! The language of the programs that run on the shared memory. A program has a number of words and of locks, and
 //! statements that read and write words, acquire and release locks, wait at barriers and print. The crate defines the
-//! syntax trees, the lexer and the parser, which finds the first fault of a text that is no program.
+//! grammar, the lexer and the parser, which finds the first fault of a text that is no program.
 #![tactic(auto)]
 
 mod body;
@@ -14,12 +14,8 @@ pub mod lines;
 mod parser;
 mod partial;
 pub mod positions;
-pub mod program;
 mod state;
 mod symbol;
 pub mod token;
 
 pub use parser::{MOST_BYTES, parse, tokens_are_of_one_program};
-
-/// The largest number of words of a program's shared memory.
-pub const MOST_WORDS: u32 = 65_536;

@@ -8,7 +8,7 @@ ghost use Rattle.lrc_lang.specs.Parser.Marked.{is_seam, is_marked, marks, marked
 ghost use Rattle.lrc_lang.specs.Parser.Past.{GoesOn};
 ghost use Rattle.lrc_lang.specs.Parser.View.{lexeme_of, placed_of};
 ghost use Rattle.lrc_lang.specs.Token.{Placed as PlacedSeen};
-ghost use Rattle.lrc_lang.specs.Tree.{ProgramTree};
+ghost use Rattle.lrc_program.specs.Tree.{ProgramTree};
 
 use crate::lexer::Lexer;
 use crate::parser::MOST_BYTES;

@@ -9,17 +9,17 @@ ghost use Rattle.lrc_lang.specs.Grammar.{IsProgram};
 ghost use Rattle.lrc_lang.specs.Parser.SeenParser.{IsOutOfMemory, TakesLexeme};
 ghost use Rattle.lrc_lang.specs.Parser.SeenState.{state_seen};
 ghost use Rattle.lrc_lang.specs.Parser.State.{start, program_in};
-ghost use Rattle.lrc_lang.specs.Sizes.{names_in, depth_of, most_operators};
+ghost use Rattle.lrc_program.specs.Sizes.{names_in, depth_of, most_operators};
 ghost use Rattle.lrc_lang.specs.Token.{Token as TokenSeen, token, finish};
-ghost use Rattle.lrc_lang.specs.Tree.{ProgramTree, program_of};
+ghost use Rattle.lrc_program.specs.Tree.{ProgramTree, program_of};
 ghost use Rattle.lrc_lang.specs.Parser.View.{lexeme_of};
 
 use crate::fault::{FaultKind, ParseFault};
 use crate::lexer::Lexer;
 use crate::limits::Limits;
-use crate::program::Program;
 use crate::state::ParserState;
 use crate::token::{Lexeme, Token};
+use lrc_program::Program;
 use std::alloc::Global;
 
 /// How many bytes a text may have.

@@ -6,12 +6,12 @@ ghost use Rattle.lrc_lang.specs.Parser.Partial.{joined, no_pending, level_with, 
 ghost use Rattle.lrc_lang.specs.Parser.Partial.{nothing, close, go_on, partial_with, value_of, waiting};
 ghost use Rattle.lrc_lang.specs.Parser.Seen.{joins_seen, pending_seen, level_seen, partial_seen};
 ghost use Rattle.lrc_lang.specs.Parser.Seen.{symbol_seen, Gives, GivesNew};
-ghost use Rattle.lrc_lang.specs.Tree.{Expression as Operand, expression_of};
+ghost use Rattle.lrc_program.specs.Tree.{Expression as Operand, expression_of};
 
 use crate::fault::FaultKind;
-use crate::program::{Expression, Operator};
 use crate::symbol::Symbol;
 use crate::token::{Keyword, Sign};
+use lrc_program::{Expression, Operator};
 use std::alloc::{AllocError, Global};
 use std::mem;
 

@@ -1,14 +1,13 @@
 // A text of which some symbols have come.
 
 ghost use Rattle.std.specs.Prelude.{◌≡◌, ◌≤◌, is_some};
-ghost use Rattle.lrc_lang.specs.declared.TheConstants.{MOST_WORDS};
+ghost use Rattle.lrc_program.specs.declared.TheConstants.{MOST_WORDS};
 
-use crate::MOST_WORDS;
 use crate::body::Body;
 use crate::fault::FaultKind;
-use crate::program::Program;
 use crate::symbol::Symbol;
 use crate::token::{Keyword, Sign};
+use lrc_program::{MOST_WORDS, Program};
 use std::alloc::Global;
 
 /// What must come next.
@@ -41,8 +40,8 @@ impl ParserState {
     ghost use Rattle.lrc_lang.specs.Parser.Seen.{symbol_seen};
     ghost use Rattle.lrc_lang.specs.Parser.SeenState.{state_seen, TakesSymbol};
     ghost use Rattle.lrc_lang.specs.Parser.State.{start, in_statements, program_in, state_with};
-    ghost use Rattle.lrc_lang.specs.Sizes.{names_in, depth_of, most_operators};
-    ghost use Rattle.lrc_lang.specs.Tree.{program_of};
+    ghost use Rattle.lrc_program.specs.Sizes.{names_in, depth_of, most_operators};
+    ghost use Rattle.lrc_program.specs.Tree.{program_of};
 
     /// Returns the state before the first symbol.
     pub fn start(alloc: Global) -> ParserState

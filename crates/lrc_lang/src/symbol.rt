@@ -4,8 +4,8 @@ ghost use Rattle.std.specs.Prelude.{◌≡◌};
 ghost use Rattle.lrc_lang.specs.Symbol.{symbol_of_sign};
 ghost use Rattle.lrc_lang.specs.Parser.Seen.{symbol_seen};
 
-use crate::program::Operator;
 use crate::token::{Keyword, Sign};
+use lrc_program::Operator;
 
 /// A token as the grammar sees it.
 #[derive(Clone, Copy)]

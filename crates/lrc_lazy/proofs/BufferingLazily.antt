@@ -1,8 +1,8 @@
 -- Store buffering has a lazy run in which both nodes read 0.
 use Rattle.std.proofs.Common.{◌≡◌, ℕ, zero, suc, ◌<◌, List, [], ◌∷◌, ◌⊎◌, inl, refl, sym, subst, ◌∙◌, arith}
 use Rattle.std.specs.Prelude.{Some, None}
-use Rattle.lrc_lang.specs.declared.program.Program.{Program}
-use Rattle.lrc_lang.specs.Tree.{program_of}
+use Rattle.lrc_program.specs.declared.Program.{Program}
+use Rattle.lrc_program.specs.Tree.{program_of}
 use Rattle.lrc_trace.specs.declared.act.Act.{Act}
 use Rattle.lrc_trace.specs.declared.act.Deed.{Deed}
 use Rattle.lrc_trace.specs.declared.act.Deed.TheVariants.{Print, Read, Write, Acquire, Release, Depart, End}
@@ -13,7 +13,7 @@ use Rattle.lrc_trace.specs.Synchronization.{IsWellSynchronized}
 use Rattle.lrc_trace.proofs.Positions.{Does-one_node, Does-one_deed}
 use Rattle.lrc_exec.specs.Meaning.{Thread}
 use Rattle.lrc_exec.specs.Plain.{start_of}
-use Rattle.lrc_consistency_laws.specs.Follows.{Goes, writing, reading, printing, ending, Makes, nothing_more, and_then, deeds_of}
+use Rattle.lrc_exec.specs.Follows.{Goes, writing, reading, printing, ending, Makes, nothing_more, and_then, deeds_of}
 use Rattle.lrc_lazy.specs.Lazy.{ended, HasStopped, Waits, IsLazyOutcome}
 use Rattle.lrc_lazy.specs.Buffering.{store_buffering, both_print_zero}
 use Rattle.lrc_lazy.proofs.Chains.{Chain, chain}

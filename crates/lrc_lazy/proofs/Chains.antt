@@ -1,14 +1,14 @@
 -- What the threads of store buffering do.
 use Rattle.std.proofs.Common.{◌≡◌, ℕ, zero, suc, List, [], ◌∷◌, refl, sym, subst, ◌∙◌, ap}
 use Rattle.std.specs.Prelude.{Some, nat_lt, true, replicate}
-use Rattle.lrc_lang.specs.declared.program.Expression.{Expression}
-use Rattle.lrc_lang.specs.declared.program.Expression.TheVariants.{Number, Private, Me, Nodes, Binary'}
-use Rattle.lrc_lang.specs.declared.program.Operator.TheVariants.{Subtract}
-use Rattle.lrc_lang.specs.declared.program.Program.{Program}
-use Rattle.lrc_lang.specs.declared.program.Statement.{Statement}
-use Rattle.lrc_lang.specs.declared.program.Statement.TheVariants.{Assign, Read, Write, Acquire, Release, Barrier, Print, If', While'}
-use Rattle.lrc_lang.specs.Tree as tree
-use Rattle.lrc_lang.specs.Tree.{ProgramTree, program_of, expression_of, statement_of, block_of}
+use Rattle.lrc_program.specs.declared.Expression.{Expression}
+use Rattle.lrc_program.specs.declared.Expression.TheVariants.{Number, Private, Me, Nodes, Binary'}
+use Rattle.lrc_program.specs.declared.Operator.TheVariants.{Subtract}
+use Rattle.lrc_program.specs.declared.Program.{Program}
+use Rattle.lrc_program.specs.declared.Statement.{Statement}
+use Rattle.lrc_program.specs.declared.Statement.TheVariants.{Assign, Read, Write, Acquire, Release, Barrier, Print, If', While'}
+use Rattle.lrc_program.specs.Tree as tree
+use Rattle.lrc_program.specs.Tree.{ProgramTree, program_of, expression_of, statement_of, block_of}
 use Rattle.lrc_exec.specs.Meaning.{Setting, Thread, thread_at_start, prints, reads, writes, ends, next_of, value_of, combined, then_does, then_keeps}
 use Rattle.lrc_exec.specs.Plain.{start_of}
 use Rattle.lrc_lazy.specs.Buffering.{store_buffering}

@@ -1,9 +1,9 @@
 -- Two neighbouring acts of a lazy run change places.
 use Rattle.std.proofs.Common.{◌≡◌, ℕ, List, [], ◌∷◌, ◌++◌, sym, subst, append_assoc}
 use Rattle.std.specs.Prelude.{◌↔◌}
-use Rattle.lrc_lang.specs.declared.program.Program.{Program}
+use Rattle.lrc_program.specs.declared.Program.{Program}
 use Rattle.lrc_trace.specs.declared.act.Act.{Act}
-use Rattle.lrc_consistency_laws.specs.Follows.{FollowsText}
+use Rattle.lrc_exec.specs.Follows.{FollowsText}
 use Rattle.lrc_lazy.specs.Lazy.{IsLazyRun, IsOver}
 use Rattle.lrc_lazy.specs.Swapped.{pair, MayComeFirst}
 use Rattle.lrc_lazy.proofs.Synchronized.{synchronized_then, may_go_on_then}

@@ -4,7 +4,7 @@ use Rattle.std.specs.Prelude.{◌==◌, Option, Some, None, filter}
 use Rattle.std.proofs.lemmas.Bool.{cases_eq}
 use Rattle.std.proofs.lemmas.List.{append-nil, map-append, take-append-le}
 use Rattle.std.proofs.lemmas.List.Elements.{filter-append}
-use Rattle.lrc_lang.specs.declared.program.Program.{Program}
+use Rattle.lrc_program.specs.declared.Program.{Program}
 use Rattle.lrc_trace.specs.declared.act.Act.{Act}
 use Rattle.lrc_trace.specs.declared.act.Deed.{Deed}
 use Rattle.lrc_trace.specs.declared.act.Deed.TheVariants.{Read, Acquire, Release, Depart}
@@ -15,8 +15,8 @@ use Rattle.lrc_trace.proofs.Prefixes.{Holds-longer, Holds-shorter, IsWellSynchro
 use Rattle.lrc_exec.specs.Meaning.{Thread, Next, next_of}
 use Rattle.lrc_exec.specs.Plain.{Plain, start_of}
 use Rattle.lrc_exec.proofs.NextLaws.{IsFine, Stays}
-use Rattle.lrc_consistency_laws.specs.Follows.{Goes, quietly, printing, reading, writing, acquiring, releasing, arriving, departing}
-use Rattle.lrc_consistency_laws.specs.Follows.{trapping, ending, Makes, nothing_more, and_then, deeds_of, FollowsText}
+use Rattle.lrc_exec.specs.Follows.{Goes, quietly, printing, reading, writing, acquiring, releasing, arriving, departing}
+use Rattle.lrc_exec.specs.Follows.{trapping, ending, Makes, nothing_more, and_then, deeds_of, FollowsText}
 use Rattle.lrc_consistency_laws.specs.InOrder.{value_after_all}
 use Rattle.lrc_consistency_laws.specs.Matching.{Matches, IsPaired}
 use Rattle.lrc_consistency_laws.proofs.Runs.{SoundAt, deeds_of-other}

@@ -4,15 +4,15 @@ use Rattle.std.specs.Prelude.{◌==◌, ◌&&◌, cond, Option, Some, filter}
 use Rattle.std.proofs.lemmas.Bool.{and_parts, eqb-true, ne_eqb}
 use Rattle.std.proofs.lemmas.List.{map-append}
 use Rattle.std.proofs.lemmas.List.Elements.{filter-append}
-use Rattle.lrc_lang.specs.declared.program.Program.{Program}
+use Rattle.lrc_program.specs.declared.Program.{Program}
 use Rattle.lrc_trace.specs.declared.act.Act.{Act}
 use Rattle.lrc_trace.specs.declared.act.Deed.{Deed}
 use Rattle.lrc_trace.proofs.Positions.{Does-longer}
 use Rattle.lrc_trace.proofs.Prefixes.{IsWellSynchronized-shorter, ReadsLazily-shorter}
 use Rattle.lrc_exec.specs.Meaning.{Thread, Next}
 use Rattle.lrc_exec.specs.Plain.{start_of}
-use Rattle.lrc_consistency_laws.specs.Follows.{Goes, quietly, printing, reading, writing, acquiring, releasing, arriving, departing}
-use Rattle.lrc_consistency_laws.specs.Follows.{trapping, ending, Makes, nothing_more, and_then, deeds_of, FollowsText}
+use Rattle.lrc_exec.specs.Follows.{Goes, quietly, printing, reading, writing, acquiring, releasing, arriving, departing}
+use Rattle.lrc_exec.specs.Follows.{trapping, ending, Makes, nothing_more, and_then, deeds_of, FollowsText}
 use Rattle.lrc_consistency_laws.specs.Kinds.{SameKind, same, reads}
 use Rattle.lrc_consistency_laws.proofs.UpToRace.{in_range}
 use Rattle.lrc_orders.specs.Notes.{is_noted_deed, is_note_of, notes_from, notes_of}

@@ -4,7 +4,7 @@ use Rattle.std.specs.Prelude.{◌==◌, Option, Some, None, filter, slice_index}
 use Rattle.std.proofs.lemmas.Bool.{cases_eq}
 use Rattle.std.proofs.lemmas.List.{length_push, length-replicate, map-append}
 use Rattle.std.proofs.lemmas.List.Elements.{filter-append}
-use Rattle.lrc_lang.specs.declared.program.Program.{Program}
+use Rattle.lrc_program.specs.declared.Program.{Program}
 use Rattle.lrc_trace.specs.declared.act.Act.{Act}
 use Rattle.lrc_trace.specs.declared.act.Deed.{Deed}
 use Rattle.lrc_trace.specs.declared.act.Deed.TheVariants.{Read}
@@ -16,7 +16,7 @@ use Rattle.lrc_exec.specs.Meaning.{Thread, Next, next_of}
 use Rattle.lrc_exec.specs.Plain.{Plain, thread_in, plain_start, plain_step, start_of}
 use Rattle.lrc_exec.proofs.NextLaws.{IsFine, next_of-fine}
 use Rattle.lrc_exec.proofs.PlainParts.{thread_within}
-use Rattle.lrc_consistency_laws.specs.Follows.{Goes, reading, Makes, nothing_more, and_then, deeds_of, FollowsText}
+use Rattle.lrc_exec.specs.Follows.{Goes, reading, Makes, nothing_more, and_then, deeds_of, FollowsText}
 use Rattle.lrc_consistency_laws.specs.Matching.{Matches}
 use Rattle.lrc_consistency_laws.proofs.Plainly.{facts}
 use Rattle.lrc_consistency_laws.proofs.Step.{IsNoLock, step, passes_on}

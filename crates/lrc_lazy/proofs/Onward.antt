@@ -5,7 +5,7 @@ use Rattle.std.proofs.lemmas.Bool.{cases_eq}
 use Rattle.std.proofs.lemmas.List.{map-append}
 use Rattle.std.proofs.lemmas.List.Elements.{filter-append}
 use Rattle.std.proofs.lemmas.Option.{get_or_from_slice_get}
-use Rattle.lrc_lang.specs.declared.program.Program.{Program}
+use Rattle.lrc_program.specs.declared.Program.{Program}
 use Rattle.lrc_trace.specs.declared.act.Act.{Act}
 use Rattle.lrc_trace.specs.declared.act.Deed.{Deed}
 use Rattle.lrc_trace.specs.declared.act.Deed.TheVariants.{Read}
@@ -19,7 +19,7 @@ use Rattle.lrc_trace.proofs.Outlines.{same_order}
 use Rattle.lrc_trace.proofs.Prefixes.{IsWellSynchronized-more, ReadsLazily-more}
 use Rattle.lrc_exec.specs.Meaning.{Thread, Next}
 use Rattle.lrc_exec.specs.Plain.{start_of}
-use Rattle.lrc_consistency_laws.specs.Follows.{Goes, reading, Makes, nothing_more, and_then, deeds_of, FollowsText}
+use Rattle.lrc_exec.specs.Follows.{Goes, reading, Makes, nothing_more, and_then, deeds_of, FollowsText}
 use Rattle.lrc_consistency_laws.specs.Kinds.{SameKind, same, reads}
 use Rattle.lrc_consistency_laws.proofs.Runs.{deeds_of-own, deeds_of-other}
 use Rattle.lrc_consistency_laws.proofs.UpToRace.{in_range}

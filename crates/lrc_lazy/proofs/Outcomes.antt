@@ -1,10 +1,10 @@
 -- Without a race the lazy outcomes are those of the orders.
 use Rattle.std.proofs.Common.{ℕ, List, ap}
 use Rattle.std.specs.Prelude.{option_map}
-use Rattle.lrc_lang.specs.declared.program.Program.{Program}
+use Rattle.lrc_program.specs.declared.Program.{Program}
 use Rattle.lrc_trace.specs.declared.act.Act.{Act}
 use Rattle.lrc_exec.specs.Plain.{Plain, plain_start, plain_from}
-use Rattle.lrc_consistency_laws.specs.Follows.{nodes_of_acts}
+use Rattle.lrc_exec.specs.Follows.{nodes_of_acts}
 use Rattle.lrc_consistency_laws.specs.Racing.{HasNoRace}
 use Rattle.lrc_orders.specs.Outcome.{IsOutcome}
 use Rattle.lrc_lazy.specs.Lazy.{IsLazyOutcome}

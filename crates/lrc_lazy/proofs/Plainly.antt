@@ -2,14 +2,14 @@
 use Rattle.std.proofs.Common.{◌≡◌, ℕ, ◌++◌, ◌∷◌, [], ◌⊎◌, List, inl, inr, refl, ◌∙◌, ap}
 use Rattle.std.specs.Prelude.{Option, Some, None, option_map}
 use Rattle.std.proofs.lemmas.Option.{same_Some}
-use Rattle.lrc_lang.specs.declared.program.Program.{Program}
+use Rattle.lrc_program.specs.declared.Program.{Program}
 use Rattle.lrc_trace.specs.declared.act.Act.{Act}
 use Rattle.lrc_trace.specs.declared.act.Deed.{Deed}
 use Rattle.lrc_trace.specs.Run.{act_of}
 use Rattle.lrc_trace.proofs.Prefixes.{MayGoOn-last}
 use Rattle.lrc_exec.specs.Plain.{Plain, plain_step, plain_start, plain_from, plain}
 use Rattle.lrc_exec.proofs.PlainLaws.{then_from, plain_from-append}
-use Rattle.lrc_consistency_laws.specs.Follows.{nodes_of_acts}
+use Rattle.lrc_exec.specs.Follows.{nodes_of_acts}
 use Rattle.lrc_consistency_laws.specs.Racing.{HasNoRace}
 use Rattle.lrc_consistency_laws.proofs.InOrder.{lazily_without_race}
 use Rattle.lrc_consistency_laws.proofs.Plainly.{facts, one_more, plain_from-joined}

@@ -2,7 +2,7 @@
 use Rattle.std.proofs.Common.{◌≡◌, ℕ, ◌++◌, ◌∷◌, [], List, inl, inr, length, take, sym, subst, ◌∙◌, ap, arith}
 use Rattle.std.specs.Prelude.{Option, Some, None, option_map}
 use Rattle.std.proofs.lemmas.List.{append-nil, map-append, take-append-le, take_all}
-use Rattle.lrc_lang.specs.declared.program.Program.{Program}
+use Rattle.lrc_program.specs.declared.Program.{Program}
 use Rattle.lrc_trace.specs.declared.act.Act.{Act}
 use Rattle.lrc_trace.specs.declared.act.Deed.{Deed}
 use Rattle.lrc_trace.specs.declared.act.Deed.TheVariants.{Quiet, Print, Read, Write, Acquire, Release, Arrive, Depart, Trap, End}
@@ -12,7 +12,7 @@ use Rattle.lrc_trace.proofs.Positions.{Does-cases}
 use Rattle.lrc_trace.proofs.Prefixes.{IsWellSynchronized-more}
 use Rattle.lrc_exec.specs.Plain.{Plain, plain_start, plain_from, plain}
 use Rattle.lrc_exec.proofs.PlainLaws.{plain-nodes}
-use Rattle.lrc_consistency_laws.specs.Follows.{nodes_of_acts, FollowsText}
+use Rattle.lrc_exec.specs.Follows.{nodes_of_acts, FollowsText}
 use Rattle.lrc_consistency_laws.specs.InOrder.{value_after_all, ReadsInOrder}
 use Rattle.lrc_consistency_laws.proofs.Plainly.{facts}
 use Rattle.lrc_consistency_laws.proofs.Runs.{SoundAt, Ready, led, start_ready}

@@ -3,7 +3,7 @@ use Rattle.std.proofs.Common.{◌≡◌, ℕ, ◌+◌, ◌-◌, ◌<◌, ◌≤�
 use Rattle.std.specs.Prelude.{Option, Some, None, slice_index, slice_set}
 use Rattle.std.proofs.lemmas.Bool.{cases_eq}
 use Rattle.std.proofs.lemmas.List.{get_or-set_same, length-map, length-set, length_push}
-use Rattle.lrc_lang.specs.declared.program.Program.{Program}
+use Rattle.lrc_program.specs.declared.Program.{Program}
 use Rattle.lrc_trace.specs.declared.act.Act.{Act}
 use Rattle.lrc_trace.specs.declared.act.Deed.{Deed}
 use Rattle.lrc_trace.specs.declared.act.Deed.TheVariants.{Read}
@@ -17,7 +17,7 @@ use Rattle.lrc_exec.specs.Meaning.{Thread, next_of}
 use Rattle.lrc_exec.specs.Plain.{Plain, thread_in, plain_step, start_of}
 use Rattle.lrc_exec.proofs.NextLaws.{IsFine, next_of-fine}
 use Rattle.lrc_exec.proofs.PlainParts.{thread_within}
-use Rattle.lrc_consistency_laws.specs.Follows.{Goes, Makes, deeds_of}
+use Rattle.lrc_exec.specs.Follows.{Goes, Makes, deeds_of}
 use Rattle.lrc_consistency_laws.specs.Matching.{Matches, IsPaired}
 use Rattle.lrc_consistency_laws.proofs.Matching.{arrives-same, departs-same}
 use Rattle.lrc_consistency_laws.proofs.Step.{IsNoLock, step, passes_on}

@@ -3,7 +3,7 @@ use Rattle.std.proofs.Common.{◌≡◌, ℕ, zero, suc, List, [], ◌∷◌, �
 use Rattle.std.specs.Prelude.{Option, Some, None}
 use Rattle.std.proofs.lemmas.Bool.{cases_eq}
 use Rattle.std.proofs.lemmas.Option.{same_Some}
-use Rattle.lrc_lang.specs.declared.program.Program.{Program}
+use Rattle.lrc_program.specs.declared.Program.{Program}
 use Rattle.lrc_trace.specs.declared.act.Act.{Act}
 use Rattle.lrc_trace.specs.declared.act.Cause.{Cause}
 use Rattle.lrc_trace.specs.declared.act.Deed.{Deed}
@@ -12,8 +12,8 @@ use Rattle.lrc_trace.specs.Run.{Does, act_of}
 use Rattle.lrc_trace.proofs.Positions.{Does-within, Does-last}
 use Rattle.lrc_exec.specs.Meaning.{Thread, Next, quiet, prints, reads, writes, acquires, releases, arrives, departs, traps, ends, next_of}
 use Rattle.lrc_exec.specs.Plain.{start_of}
-use Rattle.lrc_consistency_laws.specs.Follows.{Goes, quietly, printing, reading, writing, acquiring, releasing, arriving}
-use Rattle.lrc_consistency_laws.specs.Follows.{departing, trapping, ending, Makes, and_then, deeds_of, FollowsText}
+use Rattle.lrc_exec.specs.Follows.{Goes, quietly, printing, reading, writing, acquiring, releasing, arriving}
+use Rattle.lrc_exec.specs.Follows.{departing, trapping, ending, Makes, and_then, deeds_of, FollowsText}
 use Rattle.lrc_consistency_laws.specs.Kinds.{SameKind, same, reads as alike_reads}
 use Rattle.lrc_consistency_laws.proofs.Runs.{makes_first, deeds_of-own, deeds_of-other}
 use Rattle.lrc_consistency_laws.proofs.UpToRace.{in_range}

@@ -1,7 +1,7 @@
 -- Store buffering: each of two nodes writes a word of its own, then reads the other's, and prints what it got.
 use Rattle.std.specs.Prelude.{List, [], ◌∷◌}
-use Rattle.lrc_lang.specs.declared.program.Operator.TheVariants.{Subtract}
-use Rattle.lrc_lang.specs.Tree.{ProgramTree, number, private, me, binary, read, write, print, empty, next}
+use Rattle.lrc_program.specs.declared.Operator.TheVariants.{Subtract}
+use Rattle.lrc_program.specs.Tree.{ProgramTree, number, private, me, binary, read, write, print, empty, next}
 use Rattle.lrc_trace.specs.declared.act.Act.{Act}
 use Rattle.lrc_trace.specs.declared.act.Deed.TheVariants.{Print, End}
 use Rattle.lrc_trace.specs.Run.{act_of}

@@ -1,13 +1,13 @@
 -- The machine that makes lazy runs: the plain machine without its memory, and what each node knows of the writes.
 use Rattle.std.specs.Prelude.{◌≡◌, ℕ, ◌+◌, ◌-◌, ◌<◌, ◌≤◌, Bool, false, Option, Some, None, List, [], ◌∷◌, if◌then◌else◌, length, map, slice_index}
-use Rattle.lrc_lang.specs.declared.program.Program.{Program}
+use Rattle.lrc_program.specs.declared.Program.{Program}
 use Rattle.lrc_trace.specs.declared.act.Act.{Act}
 use Rattle.lrc_trace.specs.declared.act.Deed.{Deed}
 use Rattle.lrc_trace.specs.declared.act.Deed.TheVariants.{Read}
 use Rattle.lrc_trace.specs.Run.{arrives_before, departs_before}
 use Rattle.lrc_exec.specs.Meaning.{Thread, next_of}
 use Rattle.lrc_exec.specs.Plain.{Plain, thread_in, plain_step, start_of}
-use Rattle.lrc_consistency_laws.specs.Follows.{Goes, deeds_of}
+use Rattle.lrc_exec.specs.Follows.{Goes, deeds_of}
 use Rattle.lrc_consistency_laws.specs.Matching.{Matches}
 use Rattle.lrc_lazy.specs.Lazy.{IsLazyRun}
 use Rattle.lrc_lazy_known.specs.declared.known.Knowledge.{Knowledge}

@@ -11,8 +11,8 @@ ghost use Rattle.lrc_lazy.specs.Following.{IsFlatOf, IsFollowed, MayFollow};
 use lrc_exec::code::Code;
 use lrc_exec::spot::Flat;
 use lrc_exec::state::State;
-use lrc_lang::program::Program;
 use lrc_orders::seen::is_still;
+use lrc_program::Program;
 use lrc_trace::act::{Act, Deed};
 use std::alloc::{AllocError, Global};
 

@@ -2,7 +2,7 @@
 // clause is the law.
 
 ghost use Rattle.std.specs.Prelude.{◌≡◌, ℕ, List, Some};
-ghost use Rattle.lrc_lang.specs.declared.program.Program.{Program};
+ghost use Rattle.lrc_program.specs.declared.Program.{Program};
 ghost use Rattle.lrc_orders.specs.Notes.{notes_of};
 ghost use Rattle.lrc_lazy.specs.Lazy.{IsLazyRun, IsOver, IsLazyOutcome};
 ghost use Rattle.lrc_protocol.specs.declared.event.Event.{Event};

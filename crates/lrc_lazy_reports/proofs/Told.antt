@@ -1,6 +1,6 @@
 -- A report has the acts of its run.
 use Rattle.std.proofs.Common.{◌≡◌, ℕ, List, Some, subst, sym}
-use Rattle.lrc_lang.specs.declared.program.Program.{Program}
+use Rattle.lrc_program.specs.declared.Program.{Program}
 use Rattle.lrc_orders.specs.Notes.{notes_of}
 use Rattle.lrc_trace.specs.declared.act.Act.{Act}
 use Rattle.lrc_lazy.specs.Lazy.{IsLazyOutcome, IsOver}

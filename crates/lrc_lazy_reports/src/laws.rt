@@ -1,7 +1,7 @@
 // What reports say of the lazy outcomes of a program. Each function is a theorem: its body is empty, and its clauses are the law.
 
 ghost use Rattle.std.specs.Prelude.{ℕ, List};
-ghost use Rattle.lrc_lang.specs.declared.program.Program.{Program};
+ghost use Rattle.lrc_program.specs.declared.Program.{Program};
 ghost use Rattle.lrc_envelope.specs.declared.picker.Picker.{Picker};
 ghost use Rattle.lrc_orders.specs.Notes.{notes_of};
 ghost use Rattle.lrc_post.specs.Mailbox.{MailboxRecord};

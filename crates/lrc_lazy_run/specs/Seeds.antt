@@ -1,6 +1,6 @@
 -- Runs in the random orders of seeds, and the outcomes that they have.
 use Rattle.std.specs.Prelude.{◌≡◌, ◌≢◌, ◌<◌, ◌⊎◌, ◌↔◌, ℕ, List, Option, Some, None, length, slice_get}
-use Rattle.lrc_lang.specs.declared.program.Program.{Program}
+use Rattle.lrc_program.specs.declared.Program.{Program}
 use Rattle.lrc_trace.specs.declared.act.Act.{Act}
 use Rattle.lrc_page.specs.declared.size.Size.TheVariants.{Words64}
 use Rattle.lrc_protocol.specs.Node.{OptionsRecord}

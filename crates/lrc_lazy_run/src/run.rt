@@ -9,8 +9,8 @@ ghost use Rattle.lrc_lazy_run.specs.Ways.{IsSought};
 use crate::sought::{Sought, sought_in};
 use crate::ways::Ways;
 use lrc_exec::code::Code;
-use lrc_lang::program::Program;
 use lrc_orders::search::ExploreFault;
+use lrc_program::Program;
 use lrc_trace::act::Act;
 use std::alloc::Global;
 

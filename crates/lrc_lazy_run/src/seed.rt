@@ -12,10 +12,10 @@ ghost use Rattle.lrc_world.specs.Runs.{IsRunIn};
 ghost use Rattle.lrc_node.specs.Options.{options_of};
 ghost use Rattle.lrc_lazy_run.specs.Seeds.{AreNotesIfOver, IsAllOfSeed, seed_options};
 
-use lrc_lang::program::Program;
 use lrc_lazy::over::is_over;
 use lrc_orders::notes::note;
 use lrc_page::Size;
+use lrc_program::Program;
 use lrc_setting::setting::{Nodes, Setting, Steps};
 use lrc_trace::act::Act;
 use lrc_world::keep::Keep;

@@ -6,8 +6,8 @@ ghost use Rattle.std.specs.Option.{is_some};
 ghost use Rattle.lrc_lazy_run.specs.Seeds.{AreLeastSeeds, AreMarked, IsMarked};
 
 use crate::seed::notes_of_seed;
-use lrc_lang::program::Program;
 use lrc_orders::outcomes::Outcome;
+use lrc_program::Program;
 use lrc_setting::setting::Nodes;
 use lrc_trace::act::Act;
 use std::alloc::{AllocError, Global};

@@ -6,7 +6,7 @@ ghost use Rattle.lrc_lazy_run.specs.Ways.{IsSought};
 
 use lrc_exec::code::Code;
 use lrc_exec::spot::Flat;
-use lrc_lang::program::Program;
+use lrc_program::Program;
 
 /// The task of a search: a program, its code and the place where the code begins, and the limit on the number of
 /// states.

@@ -11,7 +11,7 @@ use Rattle.lrc_exec.specs.Meaning.{Thread, Next, next_of}
 use Rattle.lrc_exec.specs.Plain.{Plain, thread_in, plain_step}
 use Rattle.lrc_exec.specs.Spots.{spot_thread}
 use Rattle.lrc_exec.proofs.NextLaws.{next_of-fine}
-use Rattle.lrc_consistency_laws.specs.Follows.{Goes, quietly, printing, reading, writing, acquiring, releasing, arriving, departing, trapping, ending}
+use Rattle.lrc_exec.specs.Follows.{Goes, quietly, printing, reading, writing, acquiring, releasing, arriving, departing, trapping, ending}
 use Rattle.lrc_consistency_laws.proofs.Runs.{CanDo}
 use Rattle.lrc_orders.proofs.Effects.{after_of}
 use Rattle.lrc_exec.specs.States.{plain_at, IsStateOf}

@@ -4,13 +4,13 @@ use Rattle.std.specs.Prelude.{Some, None, Contains, nat_eq, slice_get, slice_ind
 use Rattle.std.proofs.lemmas.Bool.{and_parts, eqb-true, true≢false}
 use lib.Pointwise.{pointwise}
 use mathlib.Core.Bool.{beq}
-use Rattle.lrc_lang.specs.declared.program.Program.{Program}
+use Rattle.lrc_program.specs.declared.Program.{Program}
 use Rattle.lrc_trace.specs.declared.act.Act.{Act}
 use Rattle.lrc_trace.specs.contracts.act.ActPartialEq.TheImpl.{eq-value as act_eq}
 use Rattle.lrc_trace.specs.Order.{HappensBefore}
 use Rattle.lrc_exec.specs.declared.spot.Flat.{Flat}
 use Rattle.lrc_exec.specs.Plain.{Plain, start_of, thread_in}
-use Rattle.lrc_consistency_laws.specs.Follows.{deeds_of}
+use Rattle.lrc_exec.specs.Follows.{deeds_of}
 use Rattle.lrc_consistency_laws.specs.Matching.{Matches}
 use Rattle.lrc_exec.specs.contracts.state.StatePartialEq.TheImpl.{eq-value as state_eq}
 use Rattle.lrc_exec.specs.States.{plain_at}

@@ -12,10 +12,10 @@ use crate::state::{LONG_WAYS, LazyState};
 use indexmap::IndexSet;
 use lrc_exec::code::Code;
 use lrc_exec::spot::Flat;
-use lrc_lang::program::Program;
 use lrc_lazy_known::word::copied;
 use lrc_orders::outcomes::Outcome;
 use lrc_orders::search::ExploreFault;
+use lrc_program::Program;
 use std::alloc::{AllocError, Global};
 
 /// Returns every outcome of the lazy runs of a program on this many nodes, after which no node can make an act. It

@@ -6,11 +6,11 @@ ghost use Rattle.lrc_explore_text.specs.Outcomes.{none_ends};
 ghost use Rattle.lrc_lazy_text.specs.Listed.{AreSeedsFor, AreToldOf, FitLazyRuns, ListsLazyOutcomes, MetTooManyLazily, TellsLazyOutcomes, marked_line, marked_lines, seed_mark, told_pair};
 
 use lrc_explore_text::outcomes::outcome_line;
-use lrc_lang::program::Program;
 use lrc_lazy_run::seeds::least_seeds;
 use lrc_lazy_search::search::lazy_outcomes;
 use lrc_orders::outcomes::Outcome;
 use lrc_orders::search::ExploreFault;
+use lrc_program::Program;
 use lrc_setting::setting::Nodes;
 use lrc_text::push_number;
 use std::alloc::{AllocError, Global};

@@ -6,11 +6,11 @@ ghost use Rattle.lrc_lazy_text.specs.One.{IsLazyRunAt, TellsLazyRunOfNumber};
 
 use lrc_explore_text::orders::acts_told;
 use lrc_explore_text::outcome_run::place_of;
-use lrc_lang::program::Program;
 use lrc_lazy_run::run::lazy_run_with;
 use lrc_lazy_search::search::lazy_outcomes;
 use lrc_orders::outcomes::Outcome;
 use lrc_orders::search::ExploreFault;
+use lrc_program::Program;
 use lrc_setting::setting::Nodes;
 use lrc_trace::act::Act;
 use std::alloc::Global;

@@ -5,16 +5,16 @@ use Rattle.std.specs.Prelude.{slice_get, slice_index_or}
 use Rattle.std.proofs.lemmas.List.{length-map, map-append}
 use Rattle.std.proofs.lemmas.Option.{slice_get-get_or}
 use Rattle.std.proofs.Math.Seq.{drop-append_seam}
-use Rattle.lrc_lang.specs.declared.program.Program.{Program}
-use Rattle.lrc_lang.specs.declared.program.Statement as code
-use Rattle.lrc_lang.specs.declared.program.Statement.{Row_of-Statement, end_of-Statement, more_of-Statement}
-use Rattle.lrc_lang.specs.declared.program.Statement.TheVariants.{Assign, Read, Write, Acquire, Release, Barrier, Print, If', While'}
+use Rattle.lrc_program.specs.declared.Program.{Program}
+use Rattle.lrc_program.specs.declared.Statement as code
+use Rattle.lrc_program.specs.declared.Statement.{Row_of-Statement, end_of-Statement, more_of-Statement}
+use Rattle.lrc_program.specs.declared.Statement.TheVariants.{Assign, Read, Write, Acquire, Release, Barrier, Print, If', While'}
 use Rattle.lrc_lang.specs.Grammar as grammar
 use Rattle.lrc_lang.specs.Grammar.{IsFactor, IsTerm, IsSum, IsExpression, IsStatement, IsBlock, AreStatements, AreSymbolsOf}
 use Rattle.lrc_lang.specs.Lines.{begins_within, begins_in_block, begins, begins_in, line_of, HasLines}
 use Rattle.lrc_lang.specs.Symbol.{Symbol, finish, Names, names_with, symbols_after, symbols}
 use Rattle.lrc_lang.specs.Token.{Token, token, Placed}
-use Rattle.lrc_lang.specs.Tree.{Expression, Statement, Block, ProgramTree, if_else, while_do, empty, next, statement_of, row_of, block_of, program_of}
+use Rattle.lrc_program.specs.Tree.{Expression, Statement, Block, ProgramTree, if_else, while_do, empty, next, statement_of, row_of, block_of, program_of}
 use Rattle.lrc_lines.specs.Begins.{BeginsOn, BeginInTurn, BeginOnLines}
 use Rattle.lrc_lines.specs.Begins as turn
 use Rattle.lrc_lines.specs.Places.{in_order, within, within_block}

@@ -4,9 +4,9 @@ use Rattle.std.proofs.Common.{append_assoc, fold, map, take, refl, sym, ap, ap�
 use Rattle.std.specs.Prelude.{if◌then◌else◌, filter, ◌==◌, slice_get, nat_lt}
 use Rattle.std.proofs.lemmas.Bool.{eq-eqb, lt-ltb}
 use Rattle.std.proofs.lemmas.Option.{same_Some}
-use Rattle.lrc_lang.specs.declared.program.Program.{Program}
-use Rattle.lrc_lang.specs.declared.program.Statement.{Statement}
-use Rattle.lrc_lang.specs.declared.program.Statement.TheVariants.{Assign, Read, Write, Acquire, Release, Barrier, Print, If', While'}
+use Rattle.lrc_program.specs.declared.Program.{Program}
+use Rattle.lrc_program.specs.declared.Statement.{Statement}
+use Rattle.lrc_program.specs.declared.Statement.TheVariants.{Assign, Read, Write, Acquire, Release, Barrier, Print, If', While'}
 use Rattle.lrc_trace.specs.declared.act.Act.{Act}
 use Rattle.lrc_trace.specs.declared.act.Deed.{Deed}
 use Rattle.lrc_exec.specs.Meaning.{Thread, Next, quiet, prints, reads, writes, acquires, releases, arrives, departs, traps, ends}
@@ -15,9 +15,9 @@ use Rattle.lrc_exec.specs.Ask.{answered, ask_of, done}
 use Rattle.lrc_exec.specs.Condition.{condition_holds}
 use Rattle.lrc_exec.specs.Plain.{start_of}
 use Rattle.lrc_trace.specs.Run.{Does}
-use Rattle.lrc_consistency_laws.specs.Follows.{FollowsText, Goes, Makes, deeds_of, quietly, printing, reading, writing, acquiring, releasing}
-use Rattle.lrc_consistency_laws.specs.Follows.{arriving, departing, trapping, ending}
-use Rattle.lrc_consistency_laws.specs.Follows.{and_then}
+use Rattle.lrc_exec.specs.Follows.{FollowsText, Goes, Makes, deeds_of, quietly, printing, reading, writing, acquiring, releasing}
+use Rattle.lrc_exec.specs.Follows.{arriving, departing, trapping, ending}
+use Rattle.lrc_exec.specs.Follows.{and_then}
 use Rattle.lrc_lines.specs.Makes.{MakesNext, statement, barrier, end}
 use Rattle.lrc_lines.specs.Standing.{Agrees}
 use Rattle.lrc_lines.specs.Tasks.{Task, passed}

@@ -1,12 +1,12 @@
 -- On which lines a text's statements begin. A place counts the tokens in front of it.
 use Rattle.std.specs.Prelude.{◌≡◌, ◌+◌, ◌≤◌, ℕ, List, [], ◌∷◌, drop, map, Some, slice_get}
-use Rattle.lrc_lang.specs.declared.program.Program.{Program}
-use Rattle.lrc_lang.specs.declared.program.Statement.{Statement}
+use Rattle.lrc_program.specs.declared.Program.{Program}
+use Rattle.lrc_program.specs.declared.Statement.{Statement}
 use Rattle.lrc_lang.specs.Grammar.{IsStatement}
 use Rattle.lrc_lang.specs.Lexemes.{Lexes}
 use Rattle.lrc_lang.specs.Symbol.{Symbol, finish, symbols}
 use Rattle.lrc_lang.specs.Token.{Token, token, Placed}
-use Rattle.lrc_lang.specs.Tree.{statement_of}
+use Rattle.lrc_program.specs.Tree.{statement_of}
 use Rattle.lrc_lines.specs.Places.{in_order}
 
 -- From this place on the tokens are those of the statement, and then a rest; and the first of them begins on this line.

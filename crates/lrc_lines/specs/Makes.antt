@@ -1,10 +1,10 @@
 -- What a deed is of: the statement that comes next on its node's way.
 use Rattle.std.specs.Prelude.{◌≡◌, Option, List, [], ◌∷◌, map}
-use Rattle.lrc_lang.specs.declared.program.Statement.TheVariants.{Barrier}
+use Rattle.lrc_program.specs.declared.Statement.TheVariants.{Barrier}
 use Rattle.lrc_trace.specs.declared.act.Deed.{Deed}
 use Rattle.lrc_trace.specs.declared.act.Deed.TheVariants.{Depart, End}
 use Rattle.lrc_exec.specs.Meaning.{Thread, next_of_statement}
-use Rattle.lrc_consistency_laws.specs.Follows.{Goes}
+use Rattle.lrc_exec.specs.Follows.{Goes}
 use Rattle.lrc_lines.specs.Tasks.{Task}
 use Rattle.lrc_lines.specs.Walks.{Walk}
 

@@ -1,7 +1,7 @@
 -- Where statements stand in a program's text.
 use Rattle.std.specs.Prelude.{◌≡◌, ℕ, List, [], ◌∷◌, ◌++◌, drop, length}
-use Rattle.lrc_lang.specs.declared.program.Statement.{Statement, Row_of-Statement, end_of-Statement, more_of-Statement}
-use Rattle.lrc_lang.specs.declared.program.Statement.TheVariants.{If', While'}
+use Rattle.lrc_program.specs.declared.Statement.{Statement, Row_of-Statement, end_of-Statement, more_of-Statement}
+use Rattle.lrc_program.specs.declared.Statement.TheVariants.{If', While'}
 use Rattle.lrc_lines.specs.Tasks.{Task}
 
 -- the statements of a statement's blocks, and those of a block, in the order of the text: each in front of those of its own blocks

@@ -2,8 +2,8 @@
 -- before those of its blocks. The end of the text has as its number how many statements there are.
 use Rattle.std.specs.Prelude.{ℕ, ◌+◌, List}
 use Rattle.std.specs.List.{range_with_len}
-use Rattle.lrc_lang.specs.declared.program.Program.{Program}
-use Rattle.lrc_lang.specs.Statements.{block_of}
+use Rattle.lrc_program.specs.declared.Program.{Program}
+use Rattle.lrc_program.specs.Statements.{block_of}
 use Rattle.lrc_trace.specs.declared.act.Act.{Act}
 use Rattle.lrc_exec.specs.Flat.{statements_in}
 use Rattle.lrc_lines.specs.Walks.{act_lines}

@@ -1,8 +1,8 @@
 -- Statements still to do, with their lines. Lines are a list in the order of the text: a statement's line, and then those
 -- of the statements of its blocks.
 use Rattle.std.specs.Prelude.{ℕ, Bool, List, [], ◌∷◌, ◌++◌, drop, if◌then◌else◌, slice_index_or}
-use Rattle.lrc_lang.specs.declared.program.Statement.{Statement, Row_of-Statement, end_of-Statement, more_of-Statement}
-use Rattle.lrc_lang.specs.declared.program.Statement.TheVariants.{If', While'}
+use Rattle.lrc_program.specs.declared.Statement.{Statement, Row_of-Statement, end_of-Statement, more_of-Statement}
+use Rattle.lrc_program.specs.declared.Statement.TheVariants.{If', While'}
 use Rattle.lrc_exec.specs.Meaning.{block}
 
 -- a statement still to do, and the lines from its own one on

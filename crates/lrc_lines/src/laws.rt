@@ -1,13 +1,13 @@
 // Laws of lines and walks. These functions do nothing: each contract states a law.
 
 ghost use Rattle.std.specs.Prelude.{◌≡◌, ◌<◌, ℕ, All, List, Some, length, map, slice_get, slice_index_or, take};
-ghost use Rattle.lrc_lang.specs.declared.program.Program.{Program};
+ghost use Rattle.lrc_program.specs.declared.Program.{Program};
 ghost use Rattle.lrc_lang.specs.Lines.{HasLines};
-ghost use Rattle.lrc_lang.specs.Tree.{program_of};
+ghost use Rattle.lrc_program.specs.Tree.{program_of};
 ghost use Rattle.lrc_trace.specs.declared.act.Act.{Act};
 ghost use Rattle.lrc_trace.specs.declared.act.Deed.{Deed};
 ghost use Rattle.lrc_trace.specs.Run.{Does};
-ghost use Rattle.lrc_consistency_laws.specs.Follows.{FollowsText};
+ghost use Rattle.lrc_exec.specs.Follows.{FollowsText};
 ghost use Rattle.lrc_lines.specs.Begins.{BeginOnLines};
 ghost use Rattle.lrc_lines.specs.Makes.{MakesNext};
 ghost use Rattle.lrc_lines.specs.Places.{StandsAmong, in_order};

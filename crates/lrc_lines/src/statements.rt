@@ -2,7 +2,7 @@
 
 ghost use Rattle.std.specs.Prelude.{◌≡◌, ◌+◌, ℕ, List, length, map, slice_index_or, IfOk};
 ghost use Rattle.std.specs.List.{range_with_len};
-ghost use Rattle.lrc_lang.specs.declared.program.Program.{Program};
+ghost use Rattle.lrc_program.specs.declared.Program.{Program};
 ghost use Rattle.lrc_trace.specs.declared.act.Act.{Act};
 ghost use Rattle.lrc_lines.specs.Statements.{act_statements, numbers_of};
 ghost use Rattle.lrc_lines.specs.Walks.{act_lines};

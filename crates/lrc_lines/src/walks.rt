@@ -1,7 +1,7 @@
 // The nodes of a run on their ways through the text.
 
 ghost use Rattle.std.specs.Prelude.{◌≡◌, ◌++◌, ◌∷◌, [], ℕ, List, map, slice_index_or, IfOk, OnErr, OnOk};
-ghost use Rattle.lrc_lang.specs.declared.program.Program.{Program};
+ghost use Rattle.lrc_program.specs.declared.Program.{Program};
 ghost use Rattle.lrc_exec.specs.Ask.{ask_of};
 ghost use Rattle.lrc_exec.specs.Meaning.{next_of};
 ghost use Rattle.lrc_lines.specs.Seen.{walks_of};

@@ -5,7 +5,7 @@ ghost use Rattle.std.specs.Vec.{vec_capacity, vec_len};
 ghost use Rattle.lrc_lines.specs.Tasks.{behind, tasks, passed, next_line};
 ghost use Rattle.lrc_lines.specs.Ways.{todo_of};
 
-use lrc_lang::program::Statement;
+use lrc_program::Statement;
 use std::alloc::{AllocError, Global};
 
 // What is left of a block: its next statement, those behind it, and the lines from that statement on.

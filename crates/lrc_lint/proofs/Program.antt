@@ -14,7 +14,7 @@ use Rattle.lrc_lang.specs.Parser.Located.{located_of}
 use Rattle.lrc_lang.specs.Parser.View.{token_of}
 use Rattle.lrc_lang.specs.Positions.{HasLocated, Located}
 use Rattle.lrc_lang.specs.Token.{Token, Placed}
-use Rattle.lrc_lang.specs.Tree.{ProgramTree}
+use Rattle.lrc_program.specs.Tree.{ProgramTree}
 use Rattle.lrc_lang.proofs.LexemesSpans.{span_keeps, span_takes}
 use Rattle.lrc_lang.proofs.Located.{lexed_located}
 use Rattle.lrc_labels.specs.declared.label.IdleLabel.{IdleLabel}

@@ -5,7 +5,7 @@ use Rattle.lrc_lang.specs.Counts.{names_of}
 use Rattle.lrc_lang.specs.Faults.{IsText}
 use Rattle.lrc_lang.specs.Positions.{Located, HasLocated}
 use Rattle.lrc_lang.specs.Token.{Token, finish, Lexeme, token, bad_byte, bad_number}
-use Rattle.lrc_lang.specs.Tree.{ProgramTree}
+use Rattle.lrc_program.specs.Tree.{ProgramTree}
 use Rattle.lrc_labels.specs.declared.cut.Divider.TheVariants.{LineFeed}
 use Rattle.lrc_labels.specs.Cut.{cut, divides}
 use Rattle.lrc_labels.specs.Reading.{Label, labels_of, idle_of}

@@ -2,7 +2,7 @@
 
 ghost use Rattle.std.specs.Prelude.{◌≡◌, ◌++◌, ◌⊎◌, ◌≤◌, [], IfOk, OnOk, length, map};
 ghost use Rattle.lrc_lang.specs.Faults.{IsText};
-ghost use Rattle.lrc_lang.specs.Tree.{program_of};
+ghost use Rattle.lrc_program.specs.Tree.{program_of};
 ghost use Rattle.lrc_text.specs.Parts.{whole_text};
 ghost use Rattle.lrc_lint_fault.specs.Told.{TellsNoProgram};
 ghost use Rattle.lrc_lint.specs.Linted.{LintsProgram};
@@ -12,9 +12,9 @@ use crate::told::push_warned;
 use lrc_labels::read_labels;
 use lrc_lang::parse;
 use lrc_lang::positions::positions_of;
-use lrc_lang::program::Program;
 use lrc_lint_fault::{Linted, lint_fault};
 use lrc_lint_warnings::warnings;
+use lrc_program::Program;
 use std::alloc::{AllocError, Global};
 
 /// Returns what `lint` answers to a text: the first fault with status 1 if it is not a program, else its warnings with

@@ -4,19 +4,19 @@ use Rattle.std.specs.Prelude.{◌||◌, slice_get, if◌then◌else◌, find, na
 use Rattle.std.specs.List.{Contains, list_any, range_with_len}
 use Rattle.std.proofs.lemmas.Bool.{eq-eqb}
 use Rattle.std.proofs.lemmas.Option.{same_Some, slice_get_within}
-use Rattle.lrc_lang.specs.declared.program.Program.{Program}
-use Rattle.lrc_lang.specs.declared.program.Statement.{Statement}
+use Rattle.lrc_program.specs.declared.Program.{Program}
+use Rattle.lrc_program.specs.declared.Statement.{Statement}
 use Rattle.lrc_lang.specs.Grammar.{IsProgram}
-use Rattle.lrc_lang.specs.Statements.{Statement as Tree, expression_of, statement_of, block_of}
+use Rattle.lrc_program.specs.Statements.{Statement as Tree, expression_of, statement_of, block_of}
 use Rattle.lrc_lang.specs.Token.{Token}
-use Rattle.lrc_lang.specs.Tree.{program_of}
+use Rattle.lrc_program.specs.Tree.{program_of}
 use Rattle.lrc_trace.specs.declared.act.Act.{Act}
 use Rattle.lrc_trace.specs.declared.act.Deed.TheVariants as deeds
 use Rattle.lrc_trace.specs.Reading.{ReadsLazily, WrittenBefore}
 use Rattle.lrc_trace.specs.Run.{Does, IsDone}
 use Rattle.lrc_exec.specs.Meaning.{Thread}
 use Rattle.lrc_exec.specs.Plain.{plain}
-use Rattle.lrc_consistency_laws.specs.Follows.{FollowsText}
+use Rattle.lrc_exec.specs.Follows.{FollowsText}
 use Rattle.lrc_consistency_laws.specs.InOrder.{ReadsInOrder, last_value}
 use Rattle.lrc_consistency_laws.proofs.LastValue.{Unwritten, Written, found as last_found}
 use Rattle.lrc_consistency_laws.proofs.Plainly.{facts}

@@ -2,10 +2,10 @@
 use Rattle.std.proofs.Common.{◌≡◌, ◌∙◌, ℕ, zero, suc, Some, List, [], ◌∷◌, ◌++◌, length, refl, ap, arith}
 use Rattle.std.specs.Prelude.{slice_get}
 use Rattle.std.proofs.lemmas.List.{length-append, length-map}
-use Rattle.lrc_lang.specs.declared.program.Program.{Program}
+use Rattle.lrc_program.specs.declared.Program.{Program}
 use Rattle.lrc_lang.specs.Symbol.{Symbol, symbols}
 use Rattle.lrc_lang.specs.Token.{Token}
-use Rattle.lrc_lang.specs.Tree.{Statement, Block, ProgramTree, program_of, block_of}
+use Rattle.lrc_program.specs.Tree.{Statement, Block, ProgramTree, program_of, block_of}
 use Rattle.lrc_lang.specs.Grammar as grammar
 use Rattle.lrc_lang.specs.Grammar.{IsStatement, IsBlock, AreStatements, AreSymbolsOf, IsProgram}
 use Rattle.lrc_lang.specs.Lines.{begins_within, begins_in_block, begins, begins_in}

@@ -3,18 +3,18 @@ use Rattle.std.proofs.Common.{◌≡◌, ◌∙◌, ◌<◌, ℕ, Option, Some, 
 use Rattle.std.specs.Prelude.{nat_lt, slice_get}
 use Rattle.std.specs.List.{All}
 use Rattle.std.proofs.lemmas.List.Elements.{All-head}
-use Rattle.lrc_lang.specs.declared.program.Expression.{Expression}
-use Rattle.lrc_lang.specs.declared.program.Program.{Program}
-use Rattle.lrc_lang.specs.declared.program.Statement.{Statement}
-use Rattle.lrc_lang.specs.declared.program.Statement.TheVariants.{Assign, Read, Write, Acquire, Release, Barrier, Print, If', While'}
-use Rattle.lrc_lang.specs.Statements.{statement_of, block_of}
+use Rattle.lrc_program.specs.declared.Expression.{Expression}
+use Rattle.lrc_program.specs.declared.Program.{Program}
+use Rattle.lrc_program.specs.declared.Statement.{Statement}
+use Rattle.lrc_program.specs.declared.Statement.TheVariants.{Assign, Read, Write, Acquire, Release, Barrier, Print, If', While'}
+use Rattle.lrc_program.specs.Statements.{statement_of, block_of}
 use Rattle.lrc_trace.specs.declared.act.Act.{Act}
 use Rattle.lrc_trace.specs.declared.act.Cause.{Cause}
 use Rattle.lrc_trace.specs.declared.act.Deed.{Deed}
 use Rattle.lrc_trace.specs.declared.act.Deed.TheVariants as deeds
 use Rattle.lrc_trace.specs.Run.{Does}
 use Rattle.lrc_exec.specs.Meaning.{Thread, Next, quiet, prints, writes, arrives, traps, holds, next_of_statement, value_in}
-use Rattle.lrc_consistency_laws.specs.Follows.{FollowsText, Goes, quietly, printing, reading, writing, acquiring, releasing, arriving, trapping}
+use Rattle.lrc_exec.specs.Follows.{FollowsText, Goes, quietly, printing, reading, writing, acquiring, releasing, arriving, trapping}
 use Rattle.lrc_lines.specs.Makes.{MakesNext, statement, barrier, end}
 use Rattle.lrc_lines.specs.Places.{StandsAmong, in_order}
 use Rattle.lrc_lines.specs.Walks.{Walk, walk_behind}

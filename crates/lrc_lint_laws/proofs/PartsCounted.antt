@@ -5,7 +5,7 @@ use Rattle.std.proofs.lemmas.Grind.{flat_map-append}
 use Rattle.std.proofs.lemmas.List.{length-append, length-map}
 use Rattle.lrc_lang.specs.Symbol.{Symbol, symbols}
 use Rattle.lrc_lang.specs.Token.{Token}
-use Rattle.lrc_lang.specs.Tree.{Expression, Statement, Block, ProgramTree}
+use Rattle.lrc_program.specs.Tree.{Expression, Statement, Block, ProgramTree}
 use Rattle.lrc_lang.specs.Grammar as grammar
 use Rattle.lrc_lang.specs.Grammar.{IsFactor, IsTerm, IsSum, IsExpression, IsStatement, IsBlock, AreStatements, AreSymbolsOf, IsProgram}
 use Rattle.lrc_lint_warned.specs.declared.places.Scan.TheVariants.{Nodes}

@@ -5,10 +5,10 @@ use Rattle.std.specs.List.{All, zip}
 use Rattle.std.proofs.lemmas.List.{map-append}
 use Rattle.std.proofs.lemmas.List.Elements.{All-head}
 use Rattle.std.proofs.lemmas.Option.{same_Some}
-use Rattle.lrc_lang.specs.declared.program.Program.{Program}
-use Rattle.lrc_lang.specs.declared.program.Statement.{Statement, Row_of-Statement, end_of-Statement, more_of-Statement}
-use Rattle.lrc_lang.specs.declared.program.Statement.TheVariants.{Assign, Read, Write, Acquire, Release, Barrier, Print, If', While'}
-use Rattle.lrc_lang.specs.Statements.{Statement as Tree, statement_of, row_of, block_of}
+use Rattle.lrc_program.specs.declared.Program.{Program}
+use Rattle.lrc_program.specs.declared.Statement.{Statement, Row_of-Statement, end_of-Statement, more_of-Statement}
+use Rattle.lrc_program.specs.declared.Statement.TheVariants.{Assign, Read, Write, Acquire, Release, Barrier, Print, If', While'}
+use Rattle.lrc_program.specs.Statements.{Statement as Tree, statement_of, row_of, block_of}
 use Rattle.lrc_lang.specs.Token.{Token}
 use Rattle.lrc_trace.specs.declared.act.Act.{Act}
 use Rattle.lrc_trace.specs.declared.act.Cause.{Cause}
@@ -16,7 +16,7 @@ use Rattle.lrc_trace.specs.declared.act.Deed.{Deed}
 use Rattle.lrc_trace.specs.declared.act.Deed.TheVariants.{Trap}
 use Rattle.lrc_exec.specs.Meaning.{Thread, Next, traps, block, next_of, next_of_statement}
 use Rattle.lrc_exec.specs.Plain.{setting_of}
-use Rattle.lrc_consistency_laws.specs.Follows.{Goes, trapping}
+use Rattle.lrc_exec.specs.Follows.{Goes, trapping}
 use Rattle.lrc_lines.specs.Makes.{MakesNext, statement, barrier, end}
 use Rattle.lrc_lines.specs.Places.{StandsAmong, in_order, within, within_block}
 use Rattle.lrc_lines.specs.Tasks.{Task}
@@ -36,7 +36,7 @@ use Rattle.lrc_lint_laws.proofs.Moves.{Moves, along, next_stays, statements, ass
 
 pub row_is : {m : _} (row : Row_of-Statement m) → block_of (block row) ≡ row_of row
 row_is end_of-Statement = refl
-row_is (more_of-Statement first rest) = ap (Rattle.lrc_lang.specs.Statements.Block.next (statement_of first)) (row_is rest)
+row_is (more_of-Statement first rest) = ap (Rattle.lrc_program.specs.Statements.Block.next (statement_of first)) (row_is rest)
 
 mutual
   pub within_is : (s : Statement) → map statement_of (within s) ≡ tree_within (statement_of s)

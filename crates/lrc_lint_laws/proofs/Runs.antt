@@ -3,14 +3,14 @@ use Rattle.std.proofs.Common.{◌≡◌, ◌<◌, ℕ, List, subst}
 use Rattle.std.specs.Prelude.{Some, take}
 use Rattle.std.proofs.lemmas.List.Elements.{All-get_or}
 use Rattle.std.proofs.lemmas.Option.{get_or_from_slice_get, slice_get_within}
-use Rattle.lrc_lang.specs.declared.program.Program.{Program}
+use Rattle.lrc_program.specs.declared.Program.{Program}
 use Rattle.lrc_lang.specs.Token.{Token}
 use Rattle.lrc_trace.specs.declared.act.Act.{Act}
 use Rattle.lrc_trace.specs.declared.act.Cause.{Cause}
 use Rattle.lrc_trace.specs.declared.act.Deed.{Deed}
 use Rattle.lrc_trace.specs.Reading.{ReadsLazily}
 use Rattle.lrc_trace.specs.Run.{Does, act_of}
-use Rattle.lrc_consistency_laws.specs.Follows.{FollowsText}
+use Rattle.lrc_exec.specs.Follows.{FollowsText}
 use Rattle.lrc_lines.specs.Walks.{Walk}
 use Rattle.lrc_protocol.specs.declared.event.Event.{Event}
 use Rattle.lrc_protocol.specs.Node.{OptionsRecord}

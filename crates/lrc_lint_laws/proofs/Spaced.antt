@@ -5,7 +5,7 @@ use Rattle.std.specs.Prelude.{slice_get}
 use Rattle.std.proofs.lemmas.Option.{same_Some}
 use Rattle.lrc_lang.specs.Symbol.{Symbol, symbols}
 use Rattle.lrc_lang.specs.Token.{Token}
-use Rattle.lrc_lang.specs.Tree.{Expression, Statement, Block, ProgramTree, read}
+use Rattle.lrc_program.specs.Tree.{Expression, Statement, Block, ProgramTree, read}
 use Rattle.lrc_lang.specs.Grammar as grammar
 use Rattle.lrc_lang.specs.Grammar.{IsFactor, IsTerm, IsSum, IsExpression, IsStatement, IsBlock, AreStatements, AreSymbolsOf, IsProgram}
 use Rattle.lrc_lang.specs.Lines.{begins_within, begins_in_block, begins, begins_in}

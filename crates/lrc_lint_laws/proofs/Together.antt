@@ -5,7 +5,7 @@ use Rattle.std.proofs.lemmas.Option.{same_Some}
 use Rattle.std.specs.List.{flat_map, list_any}
 use Rattle.lrc_lang.specs.Grammar.{IsProgram}
 use Rattle.lrc_lang.specs.Token.{Token}
-use Rattle.lrc_lang.specs.Tree.{ProgramTree}
+use Rattle.lrc_program.specs.Tree.{ProgramTree}
 use Rattle.lrc_lint_warned.specs.declared.found.Found.{Found}
 use Rattle.lrc_lint_warned.specs.declared.found.Kind.{Kind}
 use Rattle.lrc_lint_warned.specs.declared.found.Kind.TheVariants as kinds
@@ -14,7 +14,7 @@ use Rattle.lrc_lint_warned.specs.Access.{lock_beyond, no_such_lock, no_such_lock
 use Rattle.lrc_lint_warned.specs.Blocks.{is_barrier, learning_nothing, learns_kind, rounds_kind, uncertain_rounds, unchanged_conditions, unchanged_kind}
 use Rattle.lrc_lint_warned.specs.Blocks.{uneven_barriers, uneven_kind}
 use Rattle.lrc_lint_warned.specs.Constant.{constant_of}
-use Rattle.lrc_lang.specs.Statements.{Statement, assign, read, write, acquire, release, barrier, print, if_else, while_do}
+use Rattle.lrc_program.specs.Statements.{Statement, assign, read, write, acquire, release, barrier, print, if_else, while_do}
 use Rattle.lrc_lint_warned.specs.Found.{StatementAt, found_at}
 use Rattle.lrc_lint_warned.specs.Held.{Path, held_already, held_already_at, held_at_barrier, held_at_barrier_at, is_under, least_held}
 use Rattle.lrc_lint_warned.specs.Held.{not_held, not_held_at, paths, with_path}

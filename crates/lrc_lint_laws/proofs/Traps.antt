@@ -8,15 +8,15 @@ use Rattle.std.proofs.lemmas.List.{length-append}
 use Rattle.std.proofs.lemmas.List.FromFn.{get_or-range_with_len}
 use Rattle.std.proofs.lemmas.List.Quantifiers.{position-Some}
 use Rattle.std.proofs.lemmas.Option.{same_Some, slice_get_within}
-use Rattle.lrc_lang.specs.declared.program.Expression.{Expression}
-use Rattle.lrc_lang.specs.declared.program.Program.{Program}
-use Rattle.lrc_lang.specs.declared.program.Statement.{Statement}
-use Rattle.lrc_lang.specs.declared.program.Statement.TheVariants.{Assign, Read, Write, Acquire, Release, Barrier, Print, If', While'}
+use Rattle.lrc_program.specs.declared.Expression.{Expression}
+use Rattle.lrc_program.specs.declared.Program.{Program}
+use Rattle.lrc_program.specs.declared.Statement.{Statement}
+use Rattle.lrc_program.specs.declared.Statement.TheVariants.{Assign, Read, Write, Acquire, Release, Barrier, Print, If', While'}
 use Rattle.lrc_lang.specs.Grammar.{IsProgram}
-use Rattle.lrc_lang.specs.Statements.{Expression as Part, Statement as Tree, assign, read, write, acquire, release, barrier, print, if_else}
-use Rattle.lrc_lang.specs.Statements.{while_do, expression_of, statement_of, block_of}
+use Rattle.lrc_program.specs.Statements.{Expression as Part, Statement as Tree, assign, read, write, acquire, release, barrier, print, if_else}
+use Rattle.lrc_program.specs.Statements.{while_do, expression_of, statement_of, block_of}
 use Rattle.lrc_lang.specs.Token.{Token}
-use Rattle.lrc_lang.specs.Tree.{program_of}
+use Rattle.lrc_program.specs.Tree.{program_of}
 use Rattle.lrc_trace.specs.declared.act.Act.{Act}
 use Rattle.lrc_trace.specs.declared.act.Cause.{Cause}
 use Rattle.lrc_trace.specs.declared.act.Cause.TheVariants as causes

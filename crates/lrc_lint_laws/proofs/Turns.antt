@@ -6,12 +6,12 @@ use Rattle.std.specs.List.{flat_map, range_with_len, zip}
 use Rattle.std.proofs.lemmas.Bool.{cases_eq, ltb-false, ltb-true}
 use Rattle.std.proofs.lemmas.Option.{same_Some}
 use Rattle.lrc_text.specs.Each.{each}
-use Rattle.lrc_lang.specs.declared.program.Operator.TheVariants as operators
-use Rattle.lrc_lang.specs.Statements.{Expression, binary, Statement, assign, read, write, acquire, release, barrier}
-use Rattle.lrc_lang.specs.Statements.{print, if_else, while_do}
+use Rattle.lrc_program.specs.declared.Operator.TheVariants as operators
+use Rattle.lrc_program.specs.Statements.{Expression, binary, Statement, assign, read, write, acquire, release, barrier}
+use Rattle.lrc_program.specs.Statements.{print, if_else, while_do}
 use Rattle.lrc_lang.specs.Token.{Token}
 use Rattle.lrc_lang.specs.Grammar.{IsProgram}
-use Rattle.lrc_lang.specs.Tree.{ProgramTree}
+use Rattle.lrc_program.specs.Tree.{ProgramTree}
 use Rattle.lrc_lint_warned.specs.declared.found.Found.{Found}
 use Rattle.lrc_lint_warned.specs.declared.found.Kind.{Kind}
 use Rattle.lrc_lint_warned.specs.declared.found.Kind.TheVariants as kinds

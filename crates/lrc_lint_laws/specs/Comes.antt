@@ -1,7 +1,7 @@
 -- Where nodes come in a text whose statements have the places of their first tokens.
 use Rattle.std.specs.Prelude.{◌≡◌, ◌<◌, ℕ, List, [], ◌∷◌, Some, slice_get, take}
-use Rattle.lrc_lang.specs.declared.program.Program.{Program}
-use Rattle.lrc_lang.specs.Statements.{Block, block_of}
+use Rattle.lrc_program.specs.declared.Program.{Program}
+use Rattle.lrc_program.specs.Statements.{Block, block_of}
 use Rattle.lrc_lang.specs.Token.{Token}
 use Rattle.lrc_trace.specs.declared.act.Act.{Act}
 use Rattle.lrc_trace.specs.declared.act.Cause.{Cause}
@@ -9,7 +9,7 @@ use Rattle.lrc_trace.specs.declared.act.Deed.{Deed}
 use Rattle.lrc_trace.specs.declared.act.Deed.TheVariants.{Trap}
 use Rattle.lrc_trace.specs.Run.{Does}
 use Rattle.lrc_exec.specs.Meaning.{Thread, traps, next_of}
-use Rattle.lrc_consistency_laws.specs.Follows.{FollowsText}
+use Rattle.lrc_exec.specs.Follows.{FollowsText}
 use Rattle.lrc_lines.specs.Tasks.{Task}
 use Rattle.lrc_lines.specs.Walks.{Walk, walk_behind}
 use Rattle.lrc_lint_warned.specs.declared.places.Scan.TheVariants.{Statements}

@@ -1,10 +1,10 @@
 -- What traps where a node comes to a statement: the statement whose token, or one of whose parts, is told.
 use Rattle.std.specs.Prelude.{◌≡◌, ◌⊎◌, ◌+◌, ℕ, List, ◌∷◌, Some, if◌then◌else◌, is_some, length, slice_get, take}
 use Rattle.std.specs.List.{flat_map}
-use Rattle.lrc_lang.specs.declared.program.Program.{Program}
-use Rattle.lrc_lang.specs.declared.program.Statement.{Statement}
-use Rattle.lrc_lang.specs.declared.program.Statement.TheVariants.{Write}
-use Rattle.lrc_lang.specs.Statements.{Expression, Statement as Tree}
+use Rattle.lrc_program.specs.declared.Program.{Program}
+use Rattle.lrc_program.specs.declared.Statement.{Statement}
+use Rattle.lrc_program.specs.declared.Statement.TheVariants.{Write}
+use Rattle.lrc_program.specs.Statements.{Expression, Statement as Tree}
 use Rattle.lrc_lang.specs.Token.{Token}
 use Rattle.lrc_trace.specs.declared.act.Cause.{Cause}
 use Rattle.lrc_trace.specs.declared.act.Cause.TheVariants.{DivisionByZero, WordOutOfRange}

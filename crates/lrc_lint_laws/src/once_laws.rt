@@ -5,7 +5,7 @@ ghost use Rattle.lrc_labels.specs.declared.label.IdleLabel.{IdleLabel};
 ghost use Rattle.lrc_labels.specs.Reading.{idle_of};
 ghost use Rattle.lrc_lang.specs.Grammar.{IsProgram};
 ghost use Rattle.lrc_lang.specs.Token.{Token};
-ghost use Rattle.lrc_lang.specs.Tree.{ProgramTree};
+ghost use Rattle.lrc_program.specs.Tree.{ProgramTree};
 ghost use Rattle.lrc_lint_warnings.specs.Collected.{found_in};
 ghost use Rattle.lrc_lint_laws.specs.Once.{IsOnce};
 

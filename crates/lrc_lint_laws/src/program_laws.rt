@@ -4,12 +4,12 @@
 
 ghost use Rattle.std.specs.Prelude.{◌≡◌, ◌≢◌, ◌<◌, ◌≤◌, ◌⊎◌, ◌↔◌, ◌++◌, ℕ, Bool, true, false, List, Some, slice_index, slice_set};
 ghost use Rattle.std.specs.List.{Contains};
-ghost use Rattle.lrc_lang.specs.declared.program.Expression as code;
-ghost use Rattle.lrc_lang.specs.declared.program.Program.{Program};
+ghost use Rattle.lrc_program.specs.declared.Expression as code;
+ghost use Rattle.lrc_program.specs.declared.Program.{Program};
 ghost use Rattle.lrc_lang.specs.Grammar.{IsProgram};
-ghost use Rattle.lrc_lang.specs.Statements.{Expression, expression_of};
+ghost use Rattle.lrc_program.specs.Statements.{Expression, expression_of};
 ghost use Rattle.lrc_lang.specs.Token.{Token};
-ghost use Rattle.lrc_lang.specs.Tree.{program_of};
+ghost use Rattle.lrc_program.specs.Tree.{program_of};
 ghost use Rattle.lrc_trace.specs.declared.act.Act.{Act};
 ghost use Rattle.lrc_trace.specs.declared.act.Cause.TheVariants as causes;
 ghost use Rattle.lrc_trace.specs.declared.act.Deed.{Deed};
@@ -20,7 +20,7 @@ ghost use Rattle.lrc_trace.specs.Run.{Does, IsDone};
 ghost use Rattle.lrc_exec.specs.Condition.{condition_holds};
 ghost use Rattle.lrc_exec.specs.Meaning.{Thread, holds, one_if, value_in};
 ghost use Rattle.lrc_exec.specs.Plain.{plain};
-ghost use Rattle.lrc_consistency_laws.specs.Follows.{FollowsText, Makes};
+ghost use Rattle.lrc_exec.specs.Follows.{FollowsText, Makes};
 ghost use Rattle.lrc_lint_warned.specs.declared.found.Kind.TheVariants.{BelowZero, DivisionByZero, HeldAlready, HeldAtBarrier, LearnsNothing};
 ghost use Rattle.lrc_lint_warned.specs.declared.found.Kind.TheVariants.{NeverRead, NeverReleased};
 ghost use Rattle.lrc_lint_warned.specs.declared.found.Kind.TheVariants.{NeverSet, NeverWritten, NoSuchLock, NoSuchWord, NotHeld, UnchangedCondition};

@@ -3,11 +3,11 @@
 
 ghost use Rattle.std.specs.Prelude.{◌≡◌, ◌≢◌, ◌≤◌, ◌⊎◌, ℕ, List, Some};
 ghost use Rattle.std.specs.List.{Contains};
-ghost use Rattle.lrc_lang.specs.declared.program.Program.{Program};
+ghost use Rattle.lrc_program.specs.declared.Program.{Program};
 ghost use Rattle.lrc_lang.specs.Grammar.{IsProgram};
-ghost use Rattle.lrc_lang.specs.Statements.{Expression};
+ghost use Rattle.lrc_program.specs.Statements.{Expression};
 ghost use Rattle.lrc_lang.specs.Token.{Token};
-ghost use Rattle.lrc_lang.specs.Tree.{program_of};
+ghost use Rattle.lrc_program.specs.Tree.{program_of};
 ghost use Rattle.lrc_trace.specs.declared.act.Cause.TheVariants as causes;
 ghost use Rattle.lrc_trace.specs.declared.act.Deed.{Deed};
 ghost use Rattle.lrc_trace.specs.declared.act.Deed.TheVariants.{Read, Release, Write};

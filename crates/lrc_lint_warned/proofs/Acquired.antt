@@ -1,7 +1,7 @@
 -- What the last step of a path that takes or undoes says is what the whole path says.
 use Rattle.std.proofs.Common.{◌≡◌, ◌∙◌, inl, inr, ℕ, ap, refl, [], ◌∷◌, ◌++◌, Bool}
 use Rattle.std.specs.Prelude.{true, false, cond}
-use Rattle.lrc_lang.specs.Statements.{Statement}
+use Rattle.lrc_program.specs.Statements.{Statement}
 use Rattle.lrc_lint_warned.specs.declared.held.Side.{Side}
 use Rattle.lrc_lint_warned.specs.Held.{Path, Step, passes, beside, enters, at_start, is_under, step_takes, step_undoes, takes}
 use Rattle.lrc_lint_warned.specs.Under.{IsUnder, NoneUndoes}

@@ -8,7 +8,7 @@ use Rattle.lrc_lang.specs.declared.token.Sign.TheVariants as signs
 use Rattle.lrc_lang.specs.Token as tokens
 use Rattle.lrc_lang.specs.Token.{Token}
 use Rattle.lrc_lang.specs.Symbol.{Symbol, number, name, operator, keyword, sign, finish, Names, names_with, symbol_of_sign, symbol_of, symbols_after, symbols}
-use Rattle.lrc_lang.specs.Tree.{Expression, Statement, Block, ProgramTree}
+use Rattle.lrc_program.specs.Tree.{Expression, Statement, Block, ProgramTree}
 use Rattle.lrc_lang.specs.Grammar as grammar
 use Rattle.lrc_lang.specs.Grammar.{IsFactor, IsTerm, IsSum, IsExpression, IsStatement, IsBlock, AreStatements, AreSymbolsOf}
 use Rattle.lrc_lang.specs.Lines.{begins_within, begins_in_block, begins, begins_in}

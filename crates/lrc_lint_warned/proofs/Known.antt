@@ -6,7 +6,7 @@ use Rattle.std.proofs.lemmas.Bool.{ltb-true}
 use Rattle.std.proofs.lemmas.List.{get_or-map, length-map, take-map, take_all}
 use Rattle.lrc_text.specs.Each.{each}
 use Rattle.lrc_text.proofs.Each.{each_more}
-use Rattle.lrc_lang.specs.Statements.{Statement, assign, read, write, acquire, release, barrier, print, if_else, while_do}
+use Rattle.lrc_program.specs.Statements.{Statement, assign, read, write, acquire, release, barrier, print, if_else, while_do}
 use Rattle.lrc_lint_warned.specs.declared.found.Found.{Found}
 use Rattle.lrc_lint_warned.specs.declared.found.Kind.TheVariants.{NeverWritten}
 use Rattle.lrc_lint_warned.specs.declared.found.StatementAt as code_statement

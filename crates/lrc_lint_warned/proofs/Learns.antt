@@ -2,8 +2,8 @@
 use Rattle.std.proofs.Common.{◌≡◌, ◌∙◌, ℕ, ap, sym, refl, List, get_or, Bool, Result, Ok, Err}
 use Rattle.std.specs.Prelude.{◌&&◌, ◌||◌, not, true, false, IfOk}
 use Rattle.std.specs.List.{list_all, list_any}
-use Rattle.lrc_lang.specs.Statements.{Expression, number, private, me, nodes, binary, Statement, assign, read, write, acquire, release, barrier}
-use Rattle.lrc_lang.specs.Statements.{print, if_else, while_do}
+use Rattle.lrc_program.specs.Statements.{Expression, number, private, me, nodes, binary, Statement, assign, read, write, acquire, release, barrier}
+use Rattle.lrc_program.specs.Statements.{print, if_else, while_do}
 use Rattle.lrc_lint_warned.specs.Blocks.{has_set, is_marked, is_set_in, is_still, is_still_by, learns_nothing, some_learns, some_marked}
 use Rattle.lrc_lint_warned.specs.Inside.{nodes_in}
 use Rattle.lrc_lint_warned.specs.Names.{is_name, name_of, sets}

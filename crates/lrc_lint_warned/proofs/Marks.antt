@@ -5,11 +5,11 @@ use Rattle.std.specs.List.{list_any}
 use Rattle.std.proofs.lemmas.List.{drop-drop, drop_at, drop_more, get_or-drop, length-append, length-map, map-append, take-append-drop, take_all, take_more}
 use Rattle.std.proofs.lemmas.List.Folds.{list_any-append}
 use Rattle.std.proofs.Math.Seq.{set-append_seam}
-use Rattle.lrc_lang.specs.declared.program.Expression.{Expression}
-use Rattle.lrc_lang.specs.declared.program.Statement.{Statement}
-use Rattle.lrc_lang.specs.declared.program.Statement.TheVariants.{If, While}
-use Rattle.lrc_lang.specs.Statements.{Statement as Tree, assign, read, write, acquire, release, barrier, print, if_else, while_do, Block, empty, next}
-use Rattle.lrc_lang.specs.Statements.{statement_of, block_of, expression_of}
+use Rattle.lrc_program.specs.declared.Expression.{Expression}
+use Rattle.lrc_program.specs.declared.Statement.{Statement}
+use Rattle.lrc_program.specs.declared.Statement.TheVariants.{If, While}
+use Rattle.lrc_program.specs.Statements.{Statement as Tree, assign, read, write, acquire, release, barrier, print, if_else, while_do, Block, empty, next}
+use Rattle.lrc_program.specs.Statements.{statement_of, block_of, expression_of}
 use Rattle.lrc_lint_warned.specs.declared.held.Side.{Side}
 use Rattle.lrc_lint_warned.specs.declared.held.Side.TheVariants.{Acquired, Released}
 use Rattle.lrc_lint_warned.specs.declared.undone.Undone.{Undone}

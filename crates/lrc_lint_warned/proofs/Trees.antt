@@ -3,12 +3,12 @@ use Rattle.std.proofs.Common.{◌≡◌, ◌∙◌, ◌<◌, ◌≤◌, ◌+◌,
 use Rattle.std.specs.Prelude.{IfOk, OnOk, Result}
 use Rattle.std.proofs.lemmas.List.{take_more, take_all}
 use Rattle.std.proofs.lemmas.Result.{on_ok_weaker}
-use Rattle.lrc_lang.specs.declared.program.Expression.{Expression}
-use Rattle.lrc_lang.specs.declared.program.Statement.{Statement}
-use Rattle.lrc_lang.specs.declared.program.Statement.TheVariants.{Assign, Read, Write, Acquire, Release, Barrier, Print, If', While', If, While}
-use Rattle.lrc_lang.specs.Statements.{Statement as Tree, Block, statement_of, block_of, row_of, expression_of, if_else, while_do}
-use Rattle.lrc_lang.specs.declared.program.Statement.TheBlock.{hidden-the_row-Statement-0}
-use Rattle.lrc_lang.proofs.Trees.{row_of_hidden}
+use Rattle.lrc_program.specs.declared.Expression.{Expression}
+use Rattle.lrc_program.specs.declared.Statement.{Statement}
+use Rattle.lrc_program.specs.declared.Statement.TheVariants.{Assign, Read, Write, Acquire, Release, Barrier, Print, If', While', If, While}
+use Rattle.lrc_program.specs.Statements.{Statement as Tree, Block, statement_of, block_of, row_of, expression_of, if_else, while_do}
+use Rattle.lrc_program.specs.declared.Statement.TheBlock.{hidden-the_row-Statement-0}
+use Rattle.lrc_program.proofs.Trees.{row_of_hidden}
 use Rattle.lrc_exec.proofs.Flat.{if_made, while_made}
 use Rattle.lrc_lint_warned.specs.Inside.{statements_in, within}
 

@@ -1,7 +1,7 @@
 -- Words and locks that there are not.
 use Rattle.std.specs.Prelude.{ℕ, ◌+◌, Option, Some, None, List, [], if◌then◌else◌, nat_lt}
 use Rattle.std.specs.List.{flat_map}
-use Rattle.lrc_lang.specs.Statements.{Statement, read, write, acquire, release}
+use Rattle.lrc_program.specs.Statements.{Statement, read, write, acquire, release}
 use Rattle.lrc_lint_warned.specs.declared.found.Found.{Found}
 use Rattle.lrc_lint_warned.specs.declared.found.Kind.{Kind}
 use Rattle.lrc_lint_warned.specs.declared.found.Kind.TheVariants.{NoSuchWord, NoSuchLock}

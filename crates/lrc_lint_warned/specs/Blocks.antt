@@ -1,7 +1,7 @@
 -- Choices and loops: barriers that not every node may reach, and conditions that nothing changes.
 use Rattle.std.specs.Prelude.{ℕ, ◌==◌, ◌&&◌, ◌||◌, not, Bool, true, false, Option, Some, None, List, count_by, is_none, slice_index_or}
 use Rattle.std.specs.List.{flat_map, list_all, list_any}
-use Rattle.lrc_lang.specs.Statements.{Expression, private, me, Statement, assign, read, acquire, barrier, if_else, while_do, Block}
+use Rattle.lrc_program.specs.Statements.{Expression, private, me, Statement, assign, read, acquire, barrier, if_else, while_do, Block}
 use Rattle.lrc_lint_warned.specs.declared.found.Found.{Found}
 use Rattle.lrc_lint_warned.specs.declared.found.Kind.{Kind}
 use Rattle.lrc_lint_warned.specs.declared.found.Kind.TheVariants.{UnevenBarriers, UncertainRounds, UnchangedCondition, LearnsNothing}

@@ -1,6 +1,6 @@
 -- Constants: expressions without a name, `me` and `nodes` that have a value.
 use Rattle.std.specs.Prelude.{ℕ, ◌==◌, Bool, false, Option, Some, None}
-use Rattle.lrc_lang.specs.Statements.{Expression, number, private, me, nodes, binary}
+use Rattle.lrc_program.specs.Statements.{Expression, number, private, me, nodes, binary}
 use Rattle.lrc_exec.specs.Meaning.{combined}
 
 -- the value of an expression that is a constant; one that divides by zero is none

@@ -1,7 +1,7 @@
 -- Where the parts of expressions stand in a program, by the grammar. A place is what stands from there to the text's end.
 use Rattle.std.specs.Prelude.{ℕ, ◌-◌, List, [], ◌∷◌, ◌++◌, length}
 use Rattle.lrc_lang.specs.Symbol.{Symbol, operator}
-use Rattle.lrc_lang.specs.Tree.{Expression, Statement, Block, ProgramTree}
+use Rattle.lrc_program.specs.Tree.{Expression, Statement, Block, ProgramTree}
 use Rattle.lrc_lang.specs.Grammar.{IsFactor, a_number, a_name, me, nodes, parentheses, IsTerm, factor, product, IsSum, term, sum, IsExpression, one_sum, comparison}
 use Rattle.lrc_lang.specs.Grammar.{IsStatement, assign, read, write, acquire, release, barrier, print, if_alone, if_else, while_do}
 use Rattle.lrc_lang.specs.Grammar.{IsBlock, braces, AreStatements, none, one_more, AreSymbolsOf, program}

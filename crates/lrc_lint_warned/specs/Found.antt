@@ -1,6 +1,6 @@
 -- Warnings, and what they are of, without where it lies in memory.
 use Rattle.std.specs.Prelude.{ℕ, Option, Some, None, List, [], ◌∷◌}
-use Rattle.lrc_lang.specs.Statements.{Expression, Statement, expression_of, statement_of}
+use Rattle.lrc_program.specs.Statements.{Expression, Statement, expression_of, statement_of}
 use Rattle.lrc_lint_warned.specs.declared.found.Kind.{Kind}
 use Rattle.lrc_lint_warned.specs.declared.found.Found.{Found}
 use Rattle.lrc_lint_warned.specs.declared.found.StatementAt as code_statement

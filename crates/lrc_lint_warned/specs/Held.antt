@@ -2,7 +2,7 @@
 use Rattle.std.specs.Prelude.{ℕ, ◌&&◌, Bool, true, false, Option, List, [], ◌∷◌, ◌++◌, if◌then◌else◌, option_map, position, slice_index_or}
 use Rattle.std.specs.List.{flat_map, list_any, range_with_len}
 use Rattle.lrc_text.specs.Each.{each}
-use Rattle.lrc_lang.specs.Statements.{Statement, if_else, while_do, Block, empty, next}
+use Rattle.lrc_program.specs.Statements.{Statement, if_else, while_do, Block, empty, next}
 use Rattle.lrc_lint_warned.specs.declared.found.Found.{Found}
 use Rattle.lrc_lint_warned.specs.declared.found.Kind.{Kind}
 use Rattle.lrc_lint_warned.specs.declared.found.Kind.TheVariants.{HeldAlready, NotHeld, HeldAtBarrier}

@@ -1,8 +1,8 @@
 -- What stands in expressions and statements, in the order of the text.
 use Rattle.std.specs.Prelude.{List, [], ◌∷◌, ◌++◌}
 use Rattle.std.specs.List.{flat_map}
-use Rattle.lrc_lang.specs.Statements.{Expression, number, private, me, nodes, binary, Statement, assign, read, write, acquire, release, barrier}
-use Rattle.lrc_lang.specs.Statements.{print, if_else, while_do, Block, empty, next}
+use Rattle.lrc_program.specs.Statements.{Expression, number, private, me, nodes, binary, Statement, assign, read, write, acquire, release, barrier}
+use Rattle.lrc_program.specs.Statements.{print, if_else, while_do, Block, empty, next}
 
 -- the parts of an expression, in the order of their tokens: of one that joins two operands this is the sign between them
 abbrev pub nodes_in : Expression → List Expression

@@ -1,7 +1,7 @@
 -- Locks that are acquired and never released.
 use Rattle.std.specs.Prelude.{ℕ, Bool, false, List, [], find, if◌then◌else◌, option_map}
 use Rattle.std.specs.List.{flat_map, list_any, range_with_len}
-use Rattle.lrc_lang.specs.Statements.{Statement, acquire, release}
+use Rattle.lrc_program.specs.Statements.{Statement, acquire, release}
 use Rattle.lrc_lint_warned.specs.declared.found.Found.{Found}
 use Rattle.lrc_lint_warned.specs.declared.found.Kind.TheVariants.{NeverReleased}
 use Rattle.lrc_lint_warned.specs.Constant.{constant_of, is_constant}

@@ -1,7 +1,7 @@
 -- Names that are read and never set, and names that are set and never read.
 use Rattle.std.specs.Prelude.{ℕ, Bool, Option, Some, None, List, find, if◌then◌else◌, option_map, []}
 use Rattle.std.specs.List.{flat_map, list_any, range_with_len}
-use Rattle.lrc_lang.specs.Statements.{Expression, private, Statement, assign, read}
+use Rattle.lrc_program.specs.Statements.{Expression, private, Statement, assign, read}
 use Rattle.lrc_lint_warned.specs.declared.found.Found.{Found}
 use Rattle.lrc_lint_warned.specs.declared.found.Kind.TheVariants.{NeverSet, NeverRead}
 use Rattle.lrc_lint_warned.specs.Constant.{is_value}

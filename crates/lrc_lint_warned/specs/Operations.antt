@@ -1,8 +1,8 @@
 -- Divisions by the constant 0, and comparisons that say whether a value is below 0.
 use Rattle.std.specs.Prelude.{Bool, true, false, Option, Some, None, List, if◌then◌else◌}
 use Rattle.std.specs.List.{flat_map}
-use Rattle.lrc_lang.specs.declared.program.Operator.TheVariants.{Divide, Remainder, Less, LessOrEqual, Greater, GreaterOrEqual}
-use Rattle.lrc_lang.specs.Statements.{Expression, binary}
+use Rattle.lrc_program.specs.declared.Operator.TheVariants.{Divide, Remainder, Less, LessOrEqual, Greater, GreaterOrEqual}
+use Rattle.lrc_program.specs.Statements.{Expression, binary}
 use Rattle.lrc_lint_warned.specs.declared.found.Found.{Found}
 use Rattle.lrc_lint_warned.specs.declared.found.Kind.{Kind}
 use Rattle.lrc_lint_warned.specs.declared.found.Kind.TheVariants.{DivisionByZero, BelowZero}

@@ -4,7 +4,7 @@ use Rattle.std.specs.List.{flat_map, zip}
 use Rattle.lrc_lang.specs.declared.token.Keyword.TheVariants as keywords
 use Rattle.lrc_lang.specs.declared.token.Sign.{Sign}
 use Rattle.lrc_lang.specs.declared.token.Sign.TheVariants as signs
-use Rattle.lrc_lang.specs.Statements.{Expression, Statement, Block}
+use Rattle.lrc_program.specs.Statements.{Expression, Statement, Block}
 use Rattle.lrc_lang.specs.Token.{Token, number, name, keyword, sign, finish}
 use Rattle.lrc_lint_warned.specs.declared.places.Scan.{Scan}
 use Rattle.lrc_lint_warned.specs.declared.places.Scan.TheVariants.{Statements, Nodes}

@@ -1,6 +1,6 @@
 -- When a statement stands under an acquire, or a release, of a lock, said of its whole path.
 use Rattle.std.specs.Prelude.{◌≡◌, ◌⊎◌, ℕ, true, false, [], ◌∷◌, ◌++◌}
-use Rattle.lrc_lang.specs.Statements.{Statement}
+use Rattle.lrc_program.specs.Statements.{Statement}
 use Rattle.lrc_lint_warned.specs.declared.held.Side.{Side}
 use Rattle.lrc_lint_warned.specs.Held.{Path, passes, at_start, step_undoes, takes}
 

@@ -1,7 +1,7 @@
 -- What undoes an acquire, or a release, inside each statement.
 use Rattle.std.specs.Prelude.{◌≡◌, ℕ, false, List, ◌∷◌, ◌++◌, drop, map}
 use Rattle.std.specs.List.{list_any}
-use Rattle.lrc_lang.specs.Statements.{Statement, if_else, while_do, Block, empty}
+use Rattle.lrc_program.specs.Statements.{Statement, if_else, while_do, Block, empty}
 use Rattle.lrc_lint_warned.specs.declared.held.Side.{Side}
 use Rattle.lrc_lint_warned.specs.declared.undone.Undone.{Undone}
 use Rattle.lrc_lint_warned.specs.Held.{undoes}

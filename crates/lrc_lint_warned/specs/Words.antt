@@ -2,7 +2,7 @@
 use Rattle.std.specs.Prelude.{ℕ, ◌+◌, ◌==◌, ◌||◌, Bool, true, false, Option, Some, None, List, [], ◌∷◌, if◌then◌else◌, is_none, length, nat_lt, slice_index_or, take}
 use Rattle.std.specs.List.{list_any}
 use Rattle.lrc_text.specs.Each.{each}
-use Rattle.lrc_lang.specs.Statements.{Statement, read, write}
+use Rattle.lrc_program.specs.Statements.{Statement, read, write}
 use Rattle.lrc_lint_warned.specs.declared.found.Found.{Found}
 use Rattle.lrc_lint_warned.specs.declared.found.Kind.TheVariants.{NeverWritten}
 use Rattle.lrc_lint_warned.specs.Constant.{constant_of, is_value}

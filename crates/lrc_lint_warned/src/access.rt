@@ -1,13 +1,13 @@
 // Words and locks that there are not.
 
 ghost use Rattle.std.specs.Prelude.{◌≡◌, ◌++◌, OnOk, map};
-ghost use Rattle.lrc_lang.specs.Statements.{statement_of};
+ghost use Rattle.lrc_program.specs.Statements.{statement_of};
 ghost use Rattle.lrc_lint_warned.specs.Access.{lock_beyond, no_such_lock, no_such_lock_at, no_such_word, no_such_word_at, word_beyond};
 ghost use Rattle.lrc_lint_warned.specs.Found.{statement_seen};
 
 use crate::constant::constant_of;
 use crate::found::{Found, Kind, StatementAt, push_found};
-use lrc_lang::program::Statement;
+use lrc_program::Statement;
 use std::alloc::AllocError;
 
 /// Adds the shared accesses whose constant is not below the number of words.

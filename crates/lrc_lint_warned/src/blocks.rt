@@ -2,7 +2,7 @@
 
 ghost use Rattle.std.specs.Prelude.{◌≡◌, ◌++◌, ◌&&◌, ◌||◌, ℕ, false, IfOk, OnOk, count_by, map, slice_index_or};
 ghost use Rattle.std.specs.List.{list_all, list_any};
-ghost use Rattle.lrc_lang.specs.Statements.{block_of, expression_of, if_else, statement_of, while_do};
+ghost use Rattle.lrc_program.specs.Statements.{block_of, expression_of, if_else, statement_of, while_do};
 ghost use Rattle.lrc_lint_warned.specs.Blocks.{barriers_in, has_me, has_set, is_acquire, is_barrier, is_marked, is_me, is_still_by, learns_kind, learns_nothing};
 ghost use Rattle.lrc_lint_warned.specs.Blocks.{learning_nothing, rounds_kind, some_learns, some_marked, uncertain_rounds, unchanged_conditions};
 ghost use Rattle.lrc_lint_warned.specs.Blocks.{unchanged_kind, uneven_barriers, uneven_kind};
@@ -16,7 +16,7 @@ use crate::found::{Found, Kind, StatementAt, push_found};
 use crate::inside::{nodes_in, statements_in};
 use crate::names::{name_of, set_by};
 use crate::operations::kind_if;
-use lrc_lang::program::{Expression, Statement};
+use lrc_program::{Expression, Statement};
 use std::alloc::{AllocError, Global};
 
 /// Adds the choices on `me` whose blocks do not have equally many barriers.

@@ -2,10 +2,10 @@
 
 ghost use Rattle.std.specs.Prelude.{◌≡◌, ℕ};
 ghost use Rattle.lrc_exec.specs.Meaning.{operated};
-ghost use Rattle.lrc_lang.specs.Statements.{expression_of};
+ghost use Rattle.lrc_program.specs.Statements.{expression_of};
 ghost use Rattle.lrc_lint_warned.specs.Constant.{constant_of, is_constant};
 
-use lrc_lang::program::{Expression, Operator};
+use lrc_program::{Expression, Operator};
 
 /// Returns the value of a constant expression, or none if the expression is not constant. A constant expression has no
 /// name, no `me` and no `nodes`, and does not divide by zero.

@@ -3,7 +3,7 @@
 ghost use Rattle.std.specs.Prelude.{◌≡◌, ◌++◌, OnOk};
 ghost use Rattle.lrc_lint_warned.specs.Found.{found_at};
 
-use lrc_lang::program::{Expression, Statement};
+use lrc_program::{Expression, Statement};
 use std::alloc::AllocError;
 
 /// The kind of a warning. Words and locks are given by number, names by their number in the program.

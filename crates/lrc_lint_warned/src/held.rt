@@ -3,7 +3,7 @@
 ghost use Rattle.std.specs.Prelude.{◌≡◌, ◌<◌, ◌++◌, ◌∷◌, [], ◌&&◌, IfOk, OnOk, false, length, map, option_map, position, slice_index_or, true, if◌then◌else◌};
 ghost use Rattle.std.specs.List.{range_with_len};
 ghost use Rattle.lrc_text.specs.Each.{each};
-ghost use Rattle.lrc_lang.specs.Statements.{block_of, statement_of};
+ghost use Rattle.lrc_program.specs.Statements.{block_of, statement_of};
 ghost use Rattle.lrc_lint_warned.specs.declared.found.Kind.TheVariants.{HeldAtBarrier};
 ghost use Rattle.lrc_lint_warned.specs.declared.held.Side.TheVariants.{Acquired};
 ghost use Rattle.lrc_lint_warned.specs.Found.{found_at, statement_seen};
@@ -16,7 +16,7 @@ use crate::blocks::is_barrier;
 use crate::found::{Found, Kind, StatementAt, push_found};
 use crate::locks::{acquires, may_acquire, may_release, releases};
 use crate::undone::{Undone, mark_at, undone_in};
-use lrc_lang::program::Statement;
+use lrc_program::Statement;
 use std::alloc::{AllocError, Global};
 
 /// What a statement is under: an acquire or a release.

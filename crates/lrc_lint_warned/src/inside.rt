@@ -1,10 +1,10 @@
 // What stands in expressions and statements, in the order of the text.
 
 ghost use Rattle.std.specs.Prelude.{◌≡◌, ◌++◌, ◌∷◌, IfOk, OnOk, map};
-ghost use Rattle.lrc_lang.specs.Statements.{block_of, expression_of, statement_of};
+ghost use Rattle.lrc_program.specs.Statements.{block_of, expression_of, statement_of};
 ghost use Rattle.lrc_lint_warned.specs.Inside.{nodes_in, nodes_of, statements_in, within};
 
-use lrc_lang::program::{Expression, Statement};
+use lrc_program::{Expression, Statement};
 use std::alloc::{AllocError, Global};
 
 /// Returns the parts of an expression, in the order of their tokens. It fails if memory runs out.

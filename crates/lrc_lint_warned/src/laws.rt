@@ -5,7 +5,7 @@ ghost use Rattle.lrc_lang.specs.Grammar.{IsProgram};
 ghost use Rattle.lrc_lang.specs.Lines.{begins_in};
 ghost use Rattle.lrc_lang.specs.Symbol.{symbols};
 ghost use Rattle.lrc_lang.specs.Token.{Token};
-ghost use Rattle.lrc_lang.specs.Tree.{ProgramTree};
+ghost use Rattle.lrc_program.specs.Tree.{ProgramTree};
 ghost use Rattle.lrc_lint_warned.specs.declared.held.Side.{Side};
 ghost use Rattle.lrc_lint_warned.specs.declared.places.Scan.TheVariants.{Statements, Nodes};
 ghost use Rattle.lrc_lint_warned.specs.Derived.{nodes_begin_in, place_in};

@@ -2,7 +2,7 @@
 
 ghost use Rattle.std.specs.Prelude.{◌≡◌, ◌++◌, OnOk, find, map, option_map};
 ghost use Rattle.std.specs.List.{list_any};
-ghost use Rattle.lrc_lang.specs.Statements.{statement_of};
+ghost use Rattle.lrc_program.specs.Statements.{statement_of};
 ghost use Rattle.lrc_lint_warned.specs.Found.{statement_seen};
 ghost use Rattle.lrc_lint_warned.specs.Locks.{acquires, may_acquire, may_release, never_released, never_released_of, releases};
 ghost use Rattle.lrc_lint_warned.specs.Words.{may_be};
@@ -10,7 +10,7 @@ ghost use Rattle.lrc_lint_warned.specs.Words.{may_be};
 use crate::constant::{constant_of, is_constant};
 use crate::found::{Found, Kind, StatementAt};
 use crate::names::push_where;
-use lrc_lang::program::Statement;
+use lrc_program::Statement;
 use std::alloc::AllocError;
 
 /// Adds the locks that an acquire names as a constant while all releases are of other constants, each at its first

@@ -2,13 +2,13 @@
 
 ghost use Rattle.std.specs.Prelude.{◌≡◌, ◌++◌, OnOk, find, map, option_map};
 ghost use Rattle.std.specs.List.{flat_map, range_with_len};
-ghost use Rattle.lrc_lang.specs.Statements.{expression_of, statement_of};
+ghost use Rattle.lrc_program.specs.Statements.{expression_of, statement_of};
 ghost use Rattle.lrc_lint_warned.specs.Found.{found_where, node_seen, statement_seen};
 ghost use Rattle.lrc_lint_warned.specs.Constant.{is_value};
 ghost use Rattle.lrc_lint_warned.specs.Names.{is_name, name_of, never_read, never_read_of, never_set, never_set_of, set_by, sets, some_read, some_set};
 
 use crate::found::{Found, Kind, NodeAt, StatementAt};
-use lrc_lang::program::{Expression, Statement};
+use lrc_program::{Expression, Statement};
 use std::alloc::AllocError;
 
 /// The number of names that a text may have.

@@ -1,13 +1,13 @@
 // Divisions by the constant 0, and comparisons that say whether a value is below 0.
 
 ghost use Rattle.std.specs.Prelude.{◌≡◌, ◌++◌, OnOk, map};
-ghost use Rattle.lrc_lang.specs.Statements.{expression_of};
+ghost use Rattle.lrc_program.specs.Statements.{expression_of};
 ghost use Rattle.lrc_lint_warned.specs.Found.{node_seen};
 ghost use Rattle.lrc_lint_warned.specs.Operations.{below_zero, below_zero_kind, division_by_zero, division_kind, kind_if};
 
 use crate::constant::is_constant;
 use crate::found::{Found, Kind, NodeAt, push_found};
-use lrc_lang::program::{Expression, Operator};
+use lrc_program::{Expression, Operator};
 use std::alloc::AllocError;
 
 /// Adds the divisions whose right operand is the constant 0.

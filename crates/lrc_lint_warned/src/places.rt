@@ -3,7 +3,7 @@
 ghost use Rattle.std.specs.Prelude.{◌≡◌, ◌<◌, ◌+◌, ◌^◌, ◌++◌, ◌∷◌, [], IfOk, OnOk, if◌then◌else◌, length, map, true};
 ghost use Rattle.std.specs.List.{flat_map, zip};
 ghost use Rattle.lrc_lang.specs.Parser.View.{token_of};
-ghost use Rattle.lrc_lang.specs.Statements.{block_of, expression_of, statement_of};
+ghost use Rattle.lrc_program.specs.Statements.{block_of, expression_of, statement_of};
 ghost use Rattle.lrc_lint_warned.specs.Found.{node_seen, statement_seen};
 ghost use Rattle.lrc_lint_warned.specs.Inside.{nodes_of};
 ghost use Rattle.lrc_lint_warned.specs.Places.{begins_statement, is_node, is_seam, is_wanted, joins, node_at, nodes_at, places_from, places_in};
@@ -11,8 +11,8 @@ ghost use Rattle.lrc_lint_warned.specs.Places.{statement_at, statements_at};
 
 use crate::found::{NodeAt, StatementAt};
 use crate::inside::{put_nodes_of, statements_in};
-use lrc_lang::program::{Expression, Statement};
 use lrc_lang::token::{Keyword, Sign, Token};
+use lrc_program::{Expression, Statement};
 use std::alloc::{AllocError, Global};
 
 /// The number of tokens before a program's statements: `words N; locks N;`.

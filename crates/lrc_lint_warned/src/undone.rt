@@ -2,13 +2,13 @@
 
 ghost use Rattle.std.specs.Prelude.{◌≡◌, ◌<◌, ◌||◌, ◌++◌, ◌∷◌, IfOk, OnOk, length, map, slice_index_or, slice_set};
 ghost use Rattle.std.specs.List.{list_any};
-ghost use Rattle.lrc_lang.specs.Statements.{block_of, statement_of};
+ghost use Rattle.lrc_program.specs.Statements.{block_of, statement_of};
 ghost use Rattle.lrc_lint_warned.specs.Held.{undoes};
 ghost use Rattle.lrc_lint_warned.specs.Inside.{statements_in, within};
 ghost use Rattle.lrc_lint_warned.specs.Undone.{nothing_undone, undone_by};
 
 use crate::held::{Side, undoes};
-use lrc_lang::program::Statement;
+use lrc_program::Statement;
 use std::alloc::{AllocError, Global};
 
 /// What an acquire, or a release, of a lock is undone by: something in a whole statement, something in its first block.

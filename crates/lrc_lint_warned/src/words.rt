@@ -2,14 +2,14 @@
 
 ghost use Rattle.std.specs.Prelude.{◌≡◌, ◌<◌, ◌+◌, ◌^◌, ◌++◌, ◌||◌, ℕ, OnOk, false, length, map, slice_index_or};
 ghost use Rattle.std.specs.List.{list_any};
-ghost use Rattle.lrc_lang.specs.Statements.{statement_of};
+ghost use Rattle.lrc_program.specs.Statements.{statement_of};
 ghost use Rattle.lrc_lint_warned.specs.Constant.{is_value};
 ghost use Rattle.lrc_lint_warned.specs.Found.{statement_seen};
 ghost use Rattle.lrc_lint_warned.specs.Words.{may_write, never_written, unknown_at, word_read, word_written, writes_some};
 
 use crate::constant::constant_of;
 use crate::found::{Found, Kind, StatementAt};
-use lrc_lang::program::Statement;
+use lrc_program::Statement;
 use std::alloc::{AllocError, Global};
 
 /// Adds the words that a shared read names as a constant while all shared writes are of other constants, each at the

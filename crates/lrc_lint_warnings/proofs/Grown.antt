@@ -1,7 +1,7 @@
 -- Lists that grow by one item for each, and what a sort by a key ensures.
 use Rattle.std.proofs.Common.{◌≡◌, ℕ, subst, List}
 use Rattle.std.specs.Prelude.{IfOk, Result}
-use Rattle.lrc_lang.specs.Statements.{Block}
+use Rattle.lrc_program.specs.Statements.{Block}
 use Rattle.lrc_lint_warned.specs.declared.found.Found.{Found}
 use Rattle.lrc_lint_warned.specs.Found.{NodeAt, StatementAt}
 use Rattle.lrc_lint_warnings.specs.Collected.{all_of}

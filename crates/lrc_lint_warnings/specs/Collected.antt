@@ -1,8 +1,8 @@
 -- All that is warned of in a program, by the places of tokens.
 use Rattle.std.specs.Prelude.{ℕ, List, [], ◌++◌}
 use Rattle.lrc_lang.specs.Token.{Token}
-use Rattle.lrc_lang.specs.Statements.{Block}
-use Rattle.lrc_lang.specs.Tree.{ProgramTree}
+use Rattle.lrc_program.specs.Statements.{Block}
+use Rattle.lrc_program.specs.Tree.{ProgramTree}
 use Rattle.lrc_lint_warned.specs.declared.found.Found.{Found}
 use Rattle.lrc_lint_warned.specs.Access.{no_such_lock, no_such_word}
 use Rattle.lrc_lint_warned.specs.Blocks.{learning_nothing, uncertain_rounds, unchanged_conditions, uneven_barriers}

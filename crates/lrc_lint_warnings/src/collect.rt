@@ -2,16 +2,16 @@
 
 ghost use Rattle.std.specs.Prelude.{◌≡◌, ◌<◌, ◌^◌, [], IfOk, OnOk, length, map};
 ghost use Rattle.lrc_lang.specs.Parser.View.{token_of};
-ghost use Rattle.lrc_lang.specs.Statements.{block_of};
-ghost use Rattle.lrc_lang.specs.Tree.{program_of};
+ghost use Rattle.lrc_program.specs.Statements.{block_of};
+ghost use Rattle.lrc_program.specs.Tree.{program_of};
 ghost use Rattle.lrc_lint_warned.specs.Found.{node_seen, statement_seen};
 ghost use Rattle.lrc_lint_warned.specs.Held.{paths};
 ghost use Rattle.lrc_lint_warnings.specs.Collected.{all_of, found_in, with_blocks, with_held, with_nodes, with_statements};
 
-use lrc_lang::program::{Program, Statement};
 use lrc_lang::token::Token;
 use lrc_lint_warned::found::{Found, NodeAt, StatementAt};
 use lrc_lint_warned::{access, blocks, held, locks, names, operations, places, words};
+use lrc_program::{Program, Statement};
 use std::alloc::{AllocError, Global};
 
 /// Returns all warnings of a program, each with the place of its token. It fails if memory runs out.

@@ -2,16 +2,16 @@
 
 ghost use Rattle.std.specs.Prelude.{◌≡◌, ◌<◌, ◌^◌, ◌++◌, IfOk, OnOk, IsPermutation, IsSortedByKey, length, map};
 ghost use Rattle.lrc_lang.specs.Parser.View.{token_of};
-ghost use Rattle.lrc_lang.specs.Tree.{program_of};
+ghost use Rattle.lrc_program.specs.Tree.{program_of};
 ghost use Rattle.lrc_lint_warnings.specs.Collected.{found_in};
 ghost use Rattle.lrc_lint_warnings.specs.Order.{all_warnings, key_of, key_order, of_found, of_idle};
 
 use crate::collect::found_in;
 use crate::warning::{Says, Spot, Warning, rank};
 use lrc_labels::label::IdleLabel;
-use lrc_lang::program::Program;
 use lrc_lang::token::Token;
 use lrc_lint_warned::found::Found;
+use lrc_program::Program;
 use std::alloc::{AllocError, Global};
 
 /// Returns the warnings of a program, sorted by line, then column, then kind. `tokens` are the program's tokens,

@@ -6,7 +6,7 @@ use Rattle.std.proofs.lemmas.Bool.{and_parts, or_cases, or_left, or_right, false
 use Rattle.std.proofs.lemmas.List.Elements.{All-nil, All-weaker}
 use Rattle.lrc_page.specs.Page.{words_of, zero_page}
 use Rattle.lrc_page.specs.Place.{page_of, pages_of, offset_of}
-use Rattle.lrc_lang.specs.declared.program.Program.{Program}
+use Rattle.lrc_program.specs.declared.Program.{Program}
 use Rattle.lrc_store.specs.Store.{StoreRecord}
 use Rattle.lrc_protocol.specs.Times.{next_time}
 use Rattle.lrc_protocol.specs.Pages.{Copy, valid, absent, Memory, fresh_memory, copy_at, with_written_word, Need, awaits_changes, changes_came, page_came}

@@ -1,12 +1,12 @@
 -- Statements and expressions of a program that are those of a core.
 use Rattle.std.proofs.Common.{◌≡◌, ℕ, Some, List, [], ◌∷◌, ◌++◌, refl, sym, ap, ap₂, ◌∙◌}
 use Rattle.std.specs.Prelude.{Option, slice_index}
-use Rattle.lrc_lang.specs.declared.program.Expression as code
-use Rattle.lrc_lang.specs.declared.program.Expression.{Number, Private, Me, Nodes, Binary'}
-use Rattle.lrc_lang.specs.declared.program.Statement.{Statement, Row_of-Statement, end_of-Statement, more_of-Statement}
-use Rattle.lrc_lang.specs.declared.program.Statement.TheVariants.{Assign, Read, Write, Acquire, Release, Barrier, Print, If', While'}
-use Rattle.lrc_lang.specs.Statements as lang
-use Rattle.lrc_lang.specs.Statements.{expression_of, statement_of, row_of, block_of}
+use Rattle.lrc_program.specs.declared.Expression as code
+use Rattle.lrc_program.specs.declared.Expression.{Number, Private, Me, Nodes, Binary'}
+use Rattle.lrc_program.specs.declared.Statement.{Statement, Row_of-Statement, end_of-Statement, more_of-Statement}
+use Rattle.lrc_program.specs.declared.Statement.TheVariants.{Assign, Read, Write, Acquire, Release, Barrier, Print, If', While'}
+use Rattle.lrc_program.specs.Statements as lang
+use Rattle.lrc_program.specs.Statements.{expression_of, statement_of, row_of, block_of}
 use Rattle.lrc_exec.specs.Meaning.{Thread, Next, quiet, block, chosen, combined, next_of_statement, then_does, value_in, with_value}
 use Rattle.lrc_named_core.specs.Tree.{Expression, number, private, me, nodes, binary, Block, empty, next, behind}
 use Rattle.lrc_named_acts_laws.specs.Coded.{KeepAll, Numbers, number_of, coded, statement_coded, block_coded}

@@ -4,15 +4,15 @@ use Rattle.std.specs.Prelude.{Option, nat_lt, slice_index, slice_set}
 use Rattle.std.proofs.lemmas.Bool.{ltb-true}
 use Rattle.std.proofs.lemmas.List.{append_assoc, get_or-set_other, get_or-set_same, length-append, length-set}
 use Rattle.std.proofs.Math.Nat.{mod-eq_of_lt}
-use Rattle.lrc_lang.specs.declared.program.Operator.TheVariants.{Add, Less}
-use Rattle.lrc_lang.specs.declared.program.Statement.{Statement}
-use Rattle.lrc_lang.specs.declared.program.Statement.TheVariants.{Assign}
-use Rattle.lrc_lang.specs.Statements as lang
-use Rattle.lrc_lang.specs.Statements.{statement_of, block_of}
+use Rattle.lrc_program.specs.declared.Operator.TheVariants.{Add, Less}
+use Rattle.lrc_program.specs.declared.Statement.{Statement}
+use Rattle.lrc_program.specs.declared.Statement.TheVariants.{Assign}
+use Rattle.lrc_program.specs.Statements as lang
+use Rattle.lrc_program.specs.Statements.{statement_of, block_of}
 use Rattle.lrc_trace.specs.declared.act.Deed.{Deed}
 use Rattle.lrc_trace.specs.declared.act.Deed.TheVariants.{Quiet}
 use Rattle.lrc_exec.specs.Meaning.{Thread, Next, quiet, chosen, combined, next_of, next_of_statement, one_if, or_trap, then_does, then_keeps}
-use Rattle.lrc_consistency_laws.specs.Follows.{Goes}
+use Rattle.lrc_exec.specs.Follows.{Goes}
 use Rattle.lrc_named_core.specs.Tree.{Private, named, Expression, number, private, binary, Block, empty, next, only, behind, Origin}
 use Rattle.lrc_named_tree.specs.Tree.{Named}
 use Rattle.lrc_named_statements.specs.Statements.{counting, from}

@@ -3,15 +3,15 @@ use Rattle.std.proofs.Common.{◌≡◌, ◌≢◌, ◌⊎◌, inl, inr, ℕ, �
 use Rattle.std.specs.Prelude.{Option, if◌then◌else◌, nat_lt}
 use Rattle.std.proofs.lemmas.Bool.{le-ltb}
 use Rattle.std.proofs.lemmas.List.{append_assoc, length-append}
-use Rattle.lrc_lang.specs.declared.program.Statement.{Statement}
-use Rattle.lrc_lang.specs.Statements as lang
-use Rattle.lrc_lang.specs.Statements.{statement_of, block_of}
+use Rattle.lrc_program.specs.declared.Statement.{Statement}
+use Rattle.lrc_program.specs.Statements as lang
+use Rattle.lrc_program.specs.Statements.{statement_of, block_of}
 use Rattle.lrc_trace.specs.declared.act.Cause.{Cause}
 use Rattle.lrc_trace.specs.declared.act.Cause.TheVariants.{DivisionByZero, LockHeld, LockNotHeld, LockOutOfRange, WordOutOfRange}
 use Rattle.lrc_trace.specs.declared.act.Deed.{Deed}
 use Rattle.lrc_trace.specs.declared.act.Deed.TheVariants as deeds
 use Rattle.lrc_exec.specs.Meaning.{Thread, Next, reads, writes, acquires, releases, traps, holds, if_below, next_of, next_of_statement, or_trap, then_does, then_holds, then_keeps, value_in}
-use Rattle.lrc_consistency_laws.specs.Follows.{Goes}
+use Rattle.lrc_exec.specs.Follows.{Goes}
 use Rattle.lrc_named_core.specs.Tree as core
 use Rattle.lrc_named_core.specs.Tree.{Expression, Block, Statement as Core, acquire, release, empty, next, only, behind, Origin}
 use Rattle.lrc_named_acts_laws.specs.Coded.{Numbers, number_of, KeepAll, coded, statement_coded, block_coded}

@@ -2,12 +2,12 @@
 use Rattle.std.proofs.Common.{◌≡◌, ◌≢◌, ◌⊎◌, inl, inr, ℕ, ◌+◌, ◌<◌, ◌≤◌, Bool, true, false, Some, None, List, [], ◌∷◌, ◌++◌, length, refl, sym, ap, ap₂, subst, arith, ◌∙◌}
 use Rattle.std.specs.Prelude.{Option, ◌||◌, slice_index}
 use Rattle.std.proofs.lemmas.List.{length-append}
-use Rattle.lrc_lang.specs.declared.program.Statement.{Statement}
-use Rattle.lrc_lang.specs.declared.program.Operator.{Operator}
-use Rattle.lrc_lang.specs.Statements.{block_of}
+use Rattle.lrc_program.specs.declared.Statement.{Statement}
+use Rattle.lrc_program.specs.declared.Operator.{Operator}
+use Rattle.lrc_program.specs.Statements.{block_of}
 use Rattle.lrc_trace.specs.declared.act.Deed.{Deed}
 use Rattle.lrc_exec.specs.Meaning.{Thread, combined, next_of}
-use Rattle.lrc_consistency_laws.specs.Follows.{Goes}
+use Rattle.lrc_exec.specs.Follows.{Goes}
 use Rattle.lrc_named_core.specs.Tree.{Private, own, Expression, number, private, me, nodes, binary, Block, has_name}
 use Rattle.lrc_named_address_laws.specs.Values.{value_of}
 use Rattle.lrc_named_acts_laws.specs.Coded.{Numbers, KeepAll, block_coded}

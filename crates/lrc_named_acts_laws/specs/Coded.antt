@@ -1,6 +1,6 @@
 -- The core of statements as statements of the language, where its private names have numbers.
 use Rattle.std.specs.Prelude.{◌≢◌, ℕ, List}
-use Rattle.lrc_lang.specs.Statements as lang
+use Rattle.lrc_program.specs.Statements as lang
 use Rattle.lrc_named_core.specs.Tree.{Private, named, own, Expression, number, private, me, nodes, binary}
 use Rattle.lrc_named_core.specs.Tree.{Statement, assign, read, write, acquire, release, barrier, print, if_else, while_do, Block, empty, next}
 

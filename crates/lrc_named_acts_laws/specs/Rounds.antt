@@ -1,11 +1,11 @@
 -- The rounds of a `for`.
 use Rattle.std.specs.Prelude.{◌≡◌, ◌<◌, ◌≤◌, ℕ, ◌+◌, Some, List, [], ◌∷◌, ◌++◌, length}
-use Rattle.lrc_lang.specs.declared.program.Operator.TheVariants.{Add, Less}
-use Rattle.lrc_lang.specs.declared.program.Statement as code
+use Rattle.lrc_program.specs.declared.Operator.TheVariants.{Add, Less}
+use Rattle.lrc_program.specs.declared.Statement as code
 use Rattle.lrc_trace.specs.declared.act.Deed.{Deed}
 use Rattle.lrc_trace.specs.declared.act.Deed.TheVariants.{Quiet}
 use Rattle.lrc_exec.specs.Meaning.{Thread, next_of}
-use Rattle.lrc_consistency_laws.specs.Follows.{Goes}
+use Rattle.lrc_exec.specs.Follows.{Goes}
 use Rattle.lrc_named_core.specs.Tree.{Private, Expression, number, private, binary, Statement, assign, while_do, Block, empty, next, only, behind, Origin}
 use Rattle.lrc_named_acts_laws.specs.Coded.{Numbers}
 use Rattle.lrc_named_acts_laws.specs.Standing.{StandsBefore, Stays, worth}

@@ -1,11 +1,11 @@
 -- Where a node stands, what an expression is worth to it, and how far its deeds lead it.
 use Rattle.std.specs.Prelude.{◌≡◌, ◌<◌, ◌⊎◌, ℕ, true, false, Option, Some, List, [], ◌∷◌, ◌++◌, length, slice_index}
-use Rattle.lrc_lang.specs.declared.program.Statement.{Statement}
-use Rattle.lrc_lang.specs.Statements.{block_of}
+use Rattle.lrc_program.specs.declared.Statement.{Statement}
+use Rattle.lrc_program.specs.Statements.{block_of}
 use Rattle.lrc_trace.specs.declared.act.Deed.{Deed}
 use Rattle.lrc_exec.specs.Meaning.{Thread, next_of}
-use Rattle.lrc_consistency_laws.specs.Follows.{Goes}
-use Rattle.lrc_lang.specs.declared.program.Operator.TheVariants.{Equal}
+use Rattle.lrc_exec.specs.Follows.{Goes}
+use Rattle.lrc_program.specs.declared.Operator.TheVariants.{Equal}
 use Rattle.lrc_named_core.specs.Tree.{Expression, number, private, binary, Private, own, has_name, Origin, read, write, acquire, release, Block, next}
 use Rattle.lrc_named_address_laws.specs.Values.{value_of}
 use Rattle.lrc_named_acts_laws.specs.Coded.{Numbers, number_of, block_coded, KeepAll}

@@ -4,13 +4,13 @@
 // give it any value.
 
 ghost use Rattle.std.specs.Prelude.{◌≡◌, ◌≢◌, ◌+◌, ◌^◌, ◌<◌, ◌≤◌, ◌⊎◌, ℕ, true, false, Option, Some, None, List, [], ◌∷◌, length};
-ghost use Rattle.lrc_lang.specs.declared.program.Statement.{Statement};
+ghost use Rattle.lrc_program.specs.declared.Statement.{Statement};
 ghost use Rattle.lrc_trace.specs.declared.act.Cause.{Cause};
 ghost use Rattle.lrc_trace.specs.declared.act.Cause.TheVariants.{DivisionByZero, LockHeld, LockNotHeld, LockOutOfRange};
 ghost use Rattle.lrc_trace.specs.declared.act.Deed.{Deed};
 ghost use Rattle.lrc_trace.specs.declared.act.Deed.TheVariants.{Acquire, Quiet, Release, Trap};
 ghost use Rattle.lrc_exec.specs.Meaning.{Thread, next_of};
-ghost use Rattle.lrc_consistency_laws.specs.Follows.{Goes};
+ghost use Rattle.lrc_exec.specs.Follows.{Goes};
 ghost use Rattle.lrc_named_tree.specs.Tree.{Block as Tree, Named, Place};
 ghost use Rattle.lrc_named_names.specs.Names.{Declared, Item};
 ghost use Rattle.lrc_named_core.specs.Tree.{assign, behind, Block, empty, Expression, has_division, if_else, named, next, only, Origin, Private, private, release};

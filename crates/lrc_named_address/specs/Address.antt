@@ -1,7 +1,7 @@
 -- The address of an element: the number of its word or lock, as an expression of the core. An index that is out of range makes it
 -- 2^64 - 1, which is no word and no lock.
 use Rattle.std.specs.Prelude.{ℕ, ◌+◌, ◌*◌, ◌==◌, Bool, Option, Some, None, is_none, if◌then◌else◌, List, [], ◌∷◌, filter, nat_lt}
-use Rattle.lrc_lang.specs.declared.program.Operator.TheVariants.{Add, Subtract, Multiply, Less}
+use Rattle.lrc_program.specs.declared.Operator.TheVariants.{Add, Subtract, Multiply, Less}
 use Rattle.lrc_named_core.specs.Tree.{Expression, number, private, me, nodes, binary}
 use Rattle.lrc_named_names.specs.Names.{Item}
 use Rattle.lrc_named_names.specs.Elements.{elements}

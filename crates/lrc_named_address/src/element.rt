@@ -7,10 +7,10 @@ ghost use Rattle.lrc_named_names.specs.View.{item_of};
 ghost use Rattle.lrc_named_address.specs.Address.{address, address_of, base_of, indices_of, is_open, number_within, offset_of, plus_summands, summand_of, test_of, times_tests};
 ghost use Rattle.lrc_named_address.specs.View.{index_of};
 
-use lrc_lang::program::Operator;
 use lrc_named_core::binary;
 use lrc_named_core::tree::{Expression, Tree};
 use lrc_named_names::item::Item;
+use lrc_program::Operator;
 use std::alloc::{AllocError, Global};
 
 // An index of an item: its expression, the size that it has to be below, and how many words or locks one more of it is.

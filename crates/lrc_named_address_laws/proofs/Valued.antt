@@ -3,7 +3,7 @@ use Rattle.std.proofs.Common.{◌≡◌, ℕ, ◌+◌, ◌*◌, ◌-◌, ◌%◌
 use Rattle.std.specs.Prelude.{Option, Some, None, is_none, cond, nat_lt, if◌then◌else◌, ◌⊎◌, ◌==◌}
 use Rattle.std.proofs.lemmas.Bool.{cases_lt, ltb-true, lt-ltb, le-ltb, eqb-true}
 use Rattle.std.proofs.Math.Nat.{mod-eq_of_lt}
-use Rattle.lrc_lang.specs.declared.program.Operator.TheVariants.{Add, Subtract, Multiply, Less}
+use Rattle.lrc_program.specs.declared.Operator.TheVariants.{Add, Subtract, Multiply, Less}
 use Rattle.lrc_exec.specs.Meaning.{combined, one_if}
 use Rattle.lrc_named_core.specs.Tree.{Private, Expression, number, private, me, nodes, binary}
 use Rattle.lrc_named_address.specs.Address.{Index, base_of, is_open, number_within, offset, offset_of, test_of, summand_of, times_tests, plus_summands, address_of}

@@ -1,7 +1,7 @@
 -- Statements with statements within.
 use Rattle.std.proofs.Common.{◌≡◌, ℕ, ◌+◌, ◌<◌, true, false, List, [], ◌∷◌, ◌++◌, length, get_or, take, sym, ap, subst, refl, ◌∙◌, add-one, zero, suc, arith}
 use Rattle.std.proofs.Math.Seq.{take-suc}
-use Rattle.lrc_lang.specs.declared.program.Operator.TheVariants.{Add, Less}
+use Rattle.lrc_program.specs.declared.Operator.TheVariants.{Add, Less}
 use Rattle.lrc_named_tree.specs.Tree.{Named, Place, Arms}
 use Rattle.lrc_named_tree.specs.Tree as tree
 use Rattle.lrc_named_tree.specs.View as trees

@@ -12,7 +12,6 @@ ghost use Rattle.lrc_named_statements.specs.Statements.{AreCores, IsChoice, IsCo
 ghost use Rattle.lrc_named_blocks.specs.View.{arms_of};
 ghost use Rattle.lrc_named_statements.specs.Well.{AreWellArms, IsLockPlace, IsWellBlock, IsWellStatement};
 
-use lrc_lang::program::Operator;
 use lrc_named_core::binary;
 use lrc_named_core::tree::{Expression as Core, Private, Statement};
 use lrc_named_names::names::Names;
@@ -21,6 +20,7 @@ use lrc_named_statements::{Statements, barrier, lock_item};
 use lrc_named_translation::own::{following, has_name};
 use lrc_named_translation::parts::holding;
 use lrc_named_tree::tree::{Arm, Expression, Name, Place, Statement as Tree};
+use lrc_program::Operator;
 use std::alloc::{AllocError, Global};
 
 /// A `with`: which token it is, its lock, its block, and which token the `}` is.

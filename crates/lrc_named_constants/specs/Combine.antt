@@ -1,7 +1,7 @@
 -- What is known of an expression, by what is known of its parts.
 use Rattle.std.specs.Prelude.{ℕ, zero, suc, Bool, true, false, Option, Some, None, List, [], ◌∷◌}
-use Rattle.lrc_lang.specs.declared.program.Operator.{Operator}
-use Rattle.lrc_lang.specs.declared.program.Operator.TheVariants.{Equal, NotEqual}
+use Rattle.lrc_program.specs.declared.Operator.{Operator}
+use Rattle.lrc_program.specs.declared.Operator.TheVariants.{Equal, NotEqual}
 use Rattle.lrc_exec.specs.Meaning.{operated}
 use Rattle.lrc_named_constants.specs.declared.constancy.Constancy.{Constancy}
 use Rattle.lrc_named_constants.specs.declared.constancy.Constancy.TheVariants.{Varies, Undefined, Value}

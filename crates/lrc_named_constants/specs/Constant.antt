@@ -3,7 +3,7 @@
 use Rattle.std.specs.Prelude.{◌≡◌, ℕ, Option, Some, None, List, [], ◌∷◌, map, option_map, slice_get}
 use Rattle.std.specs.List.{position_or_len}
 use Rattle.std.specs.Str.{bytes_eq}
-use Rattle.lrc_lang.specs.declared.program.Operator.{Operator}
+use Rattle.lrc_program.specs.declared.Operator.{Operator}
 use Rattle.lrc_named_tree.specs.Tree.{Named, Expression, Expressions}
 use Rattle.lrc_named_constants.specs.declared.constancy.Constancy.{Constancy}
 use Rattle.lrc_named_constants.specs.declared.constancy.Constancy.TheVariants.{Varies, Value}

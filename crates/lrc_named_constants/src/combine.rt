@@ -5,7 +5,7 @@ ghost use Rattle.lrc_exec.specs.Meaning.{operated};
 ghost use Rattle.lrc_named_constants.specs.Combine.{joined, truth_of, unless_varies, both_of, either_of};
 
 use crate::constancy::Constancy;
-use lrc_lang::program::Operator;
+use lrc_program::Operator;
 
 // What an operator gives; none is a division by zero.
 fn apply(operator: Operator, x: u64, y: u64) -> Option<u64>

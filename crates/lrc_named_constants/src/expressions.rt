@@ -13,9 +13,9 @@ ghost use Rattle.lrc_named_tree.specs.Tree.{call};
 
 use crate::combine::{both, either, join};
 use crate::constancy::{Constancy, Known};
-use lrc_lang::program::Operator;
 use lrc_named_names::names::{Meaning, Names};
 use lrc_named_tree::tree::{Expression, Name};
+use lrc_program::Operator;
 use std::alloc::{AllocError, Global};
 
 // Whether a parameter has this name.

@@ -1,8 +1,8 @@
 -- The trees of a core without where they lie in memory. A token is its index among the tokens of the named program's text.
 use Rattle.std.specs.Prelude.{ℕ, Bool, true, false, ◌||◌, List}
-use Rattle.lrc_lang.specs.declared.program.Operator.{Operator}
-use Rattle.lrc_lang.specs.declared.program.Operator.TheVariants.{Add, Subtract, Multiply, Divide, Remainder, Equal, NotEqual}
-use Rattle.lrc_lang.specs.declared.program.Operator.TheVariants.{Less, LessOrEqual, Greater, GreaterOrEqual}
+use Rattle.lrc_program.specs.declared.Operator.{Operator}
+use Rattle.lrc_program.specs.declared.Operator.TheVariants.{Add, Subtract, Multiply, Divide, Remainder, Equal, NotEqual}
+use Rattle.lrc_program.specs.declared.Operator.TheVariants.{Less, LessOrEqual, Greater, GreaterOrEqual}
 
 -- a private name: one of the named program, or one of the translation's own, with its number and the first and the last token of
 -- the expression whose value it holds

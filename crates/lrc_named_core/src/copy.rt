@@ -6,7 +6,7 @@ ghost use Rattle.lrc_named_core.specs.Tree.{binary as joined, divides, me, nodes
 ghost use Rattle.lrc_named_core.specs.View.{expression_of};
 
 use crate::tree::{Expression, Private, Tree};
-use lrc_lang::program::Operator;
+use lrc_program::Operator;
 use std::alloc::{AllocError, Global};
 use std::rc::Rc;
 

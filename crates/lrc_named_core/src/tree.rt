@@ -4,7 +4,7 @@ ghost use Rattle.std.specs.Prelude.{◌≡◌};
 ghost use Rattle.lrc_named_core.specs.Tree.{has_division, has_name};
 ghost use Rattle.lrc_named_core.specs.Shape.{tree_of};
 
-use lrc_lang::program::Operator;
+use lrc_program::Operator;
 use std::rc::Rc;
 
 /// A private name.

@@ -1,6 +1,6 @@
 -- A token of what completes an expression takes it one step on.
 use Rattle.std.proofs.Common.{◌≡◌, ℕ, List, [], ◌∷◌, Option, Some, None, refl, ap, subst}
-use Rattle.lrc_lang.specs.declared.program.Operator.{Operator}
+use Rattle.lrc_program.specs.declared.Operator.{Operator}
 use Rattle.lrc_named_tokens.specs.declared.token.Keyword.TheVariants as keywords
 use Rattle.lrc_named_tokens.specs.declared.token.Sign.{Sign}
 use Rattle.lrc_named_tokens.specs.declared.token.Sign.TheVariants as signs

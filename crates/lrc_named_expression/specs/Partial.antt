@@ -1,6 +1,6 @@
 -- An expression of which some tokens have come: what the parser keeps of it, and what the next token makes of that.
 use Rattle.std.specs.Prelude.{ℕ, List, [], ◌∷◌, Option, Some, None}
-use Rattle.lrc_lang.specs.declared.program.Operator.{Operator}
+use Rattle.lrc_program.specs.declared.Operator.{Operator}
 use Rattle.lrc_named_tokens.specs.declared.token.Keyword.TheVariants as keywords
 use Rattle.lrc_named_tokens.specs.declared.token.Sign.{Sign}
 use Rattle.lrc_named_tokens.specs.declared.token.Sign.TheVariants as signs

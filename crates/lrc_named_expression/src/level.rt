@@ -7,8 +7,8 @@ ghost use Rattle.lrc_named_expression.specs.Seen.{pending_seen, tests_seen, leve
 ghost use Rattle.lrc_named_tree.specs.Tree.{negation};
 ghost use Rattle.lrc_named_tree.specs.View.{expression_of};
 
-use lrc_lang::program::Operator;
 use lrc_named_tree::tree::Expression;
+use lrc_program::Operator;
 use std::alloc::{AllocError, Global};
 
 /// A left side, and the operator after it.

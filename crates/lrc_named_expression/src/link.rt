@@ -5,8 +5,8 @@ ghost use Rattle.lrc_named_expression.specs.Link.{link_of, link_of_sign, link_of
 ghost use Rattle.lrc_named_expression.specs.Seen.{link_seen};
 ghost use Rattle.lrc_named_tokens.specs.View.{token_of};
 
-use lrc_lang::program::Operator;
 use lrc_named_tokens::token::{Keyword, Sign, Token};
+use lrc_program::Operator;
 
 /// What a token joins two operands to.
 #[derive(Clone, Copy)]

@@ -17,9 +17,9 @@ ghost use Rattle.lrc_named_tree.specs.View.{named_of, expression_of, expressions
 use crate::level::{Level, waiting};
 use crate::link::{Link, link_of};
 use lrc_lang::fault::FaultKind;
-use lrc_lang::program::Operator;
 use lrc_named_tokens::token::{Keyword, Sign, Token};
 use lrc_named_tree::tree::{Expression, Name};
+use lrc_program::Operator;
 use std::alloc::Global;
 use std::mem;
 

@@ -1,7 +1,7 @@
 -- The extent of an expression, by the extents of its parts.
 use Rattle.std.proofs.Common.{◌≡◌, ◌≤◌, ◌+◌, ◌⊎◌, inl, inr, ◌||◌, ℕ, suc, min, Bool, true, false, Option, Some, None, List, ◌∷◌, length, drop, get_or, refl, sym, ap, subst, ◌∙◌, arith}
 use Rattle.std.proofs.Math.Seq.{drop-cons}
-use Rattle.lrc_lang.specs.declared.program.Operator.{Operator}
+use Rattle.lrc_program.specs.declared.Operator.{Operator}
 use Rattle.lrc_named_tree.specs.declared.tree.Expression as code_expression
 use Rattle.lrc_named_tree.specs.Tree.{Named, Expression, Expressions}
 use Rattle.lrc_named_tree.specs.View.{expression_of, expressions_of}

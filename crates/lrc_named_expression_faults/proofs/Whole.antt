@@ -2,7 +2,7 @@
 use Rattle.std.proofs.Common.{◌≡◌, ℕ, List, [], length, drop, sym, ap, subst, ◌∙◌}
 use Rattle.std.specs.Prelude.{Option, Some, None, if◌then◌else◌}
 use Rattle.std.proofs.Math.Seq.{drop-length}
-use Rattle.lrc_lang.specs.declared.program.Operator.{Operator}
+use Rattle.lrc_program.specs.declared.Operator.{Operator}
 use Rattle.lrc_named_tree.specs.declared.tree.Expression as code_expression
 use Rattle.lrc_named_tree.specs.Tree.{Named, Expression, Expressions, number, me, nodes, element, call, binary, both, either}
 use Rattle.lrc_named_tree.specs.View.{expression_of, expressions_of}

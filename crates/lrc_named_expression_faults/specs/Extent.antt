@@ -1,6 +1,6 @@
 -- What a function's body has in it, with the bodies of what it calls, and so on. In a body a name means what was declared before it.
 use Rattle.std.specs.Prelude.{◌≡◌, ◌+◌, ◌≤◌, ℕ, min, true, false, Some, List, take, slice_get}
-use Rattle.lrc_lang.specs.declared.program.Operator.{Operator}
+use Rattle.lrc_program.specs.declared.Operator.{Operator}
 use Rattle.lrc_named_tree.specs.Tree.{Named, Expression, Expressions}
 use Rattle.lrc_named_names.specs.Names.{Item, Meaning, Declared, place_of, meaning_at, meaning_of}
 use Rattle.lrc_named_constants.specs.Well.{bytes_of, is_among}

@@ -1,6 +1,6 @@
 -- What is counted of an expression, by its form.
 use Rattle.std.proofs.Common.{◌≡◌, ◌+◌, ℕ, Bool, true, false, min, max, Some, None, refl, sym, ap, ◌∙◌, arith}
-use Rattle.lrc_lang.specs.declared.program.Operator.{Operator}
+use Rattle.lrc_program.specs.declared.Operator.{Operator}
 use Rattle.lrc_lang.specs.Grammar.{joins}
 use Rattle.lrc_named_core.specs.Tree.{Private, Expression, number, private, me, nodes, binary}
 use Rattle.lrc_named_text.specs.declared.expression.Room.{Room}

@@ -1,6 +1,6 @@
 -- What is counted of an expression, as far as the limits ask.
 use Rattle.std.specs.Prelude.{◌≡◌, Bool, false, min, Option, Some, None}
-use Rattle.lrc_lang.specs.declared.program.Operator.{Operator}
+use Rattle.lrc_program.specs.declared.Operator.{Operator}
 use Rattle.lrc_lang.specs.Grammar.{joins}
 use Rattle.lrc_named_core.specs.Tree.{Expression, number, private, me, nodes, binary}
 use Rattle.lrc_named_text.specs.declared.expression.Room.{Room}

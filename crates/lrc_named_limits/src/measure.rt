@@ -9,8 +9,8 @@ ghost use Rattle.lrc_named_text.specs.Expressions.{left_room, right_room};
 ghost use Rattle.lrc_named_limits.specs.Limits.{operators, surrounded};
 ghost use Rattle.lrc_named_limits.specs.Measure.{IsMeasure, needs_parentheses};
 
-use lrc_lang::program::Operator;
 use lrc_named_core::tree::{Expression, Private, Tree};
+use lrc_program::Operator;
 
 /// What is counted of an expression of the core.
 #[derive(Clone, Copy)]

@@ -1,6 +1,6 @@
 -- Statements that set a place.
 use Rattle.std.proofs.Common.{◌≡◌, ℕ, ◌+◌, Some, List, [], ◌∷◌, ◌++◌, sym, subst}
-use Rattle.lrc_lang.specs.declared.program.Operator.{Operator}
+use Rattle.lrc_program.specs.declared.Operator.{Operator}
 use Rattle.lrc_named_tree.specs.Tree.{Named, Expressions, Place, Update, set}
 use Rattle.lrc_named_tree.specs.Tree as tree
 use Rattle.lrc_named_names.specs.Names.{Item, Meaning, Declared, meaning_of}

@@ -1,8 +1,8 @@
 -- The core of statements. `IsCore declared held s core` says: where the statements around s hold so many names of the translation's
 -- own, these are the core statements of the statement s.
 use Rattle.std.specs.Prelude.{◌≡◌, ◌≢◌, ℕ, ◌+◌, true, false, Option, Some, None, List, []}
-use Rattle.lrc_lang.specs.declared.program.Operator.{Operator}
-use Rattle.lrc_lang.specs.declared.program.Operator.TheVariants.{Add, Subtract, Divide, Less}
+use Rattle.lrc_program.specs.declared.Operator.{Operator}
+use Rattle.lrc_program.specs.declared.Operator.TheVariants.{Add, Subtract, Divide, Less}
 use Rattle.lrc_named_tree.specs.Tree.{Named, Expressions, Place, Update, set, add, subtract, Arms}
 use Rattle.lrc_named_tree.specs.Tree as tree
 use Rattle.lrc_named_tree.specs.Ends.{last_of}

@@ -15,13 +15,13 @@ ghost use Rattle.lrc_named_statements.specs.Well.{IsSettable};
 
 use crate::origins::{at_item, from, holding_place, operator_of};
 use crate::statements::{Statements, is_shared, shared_element};
-use lrc_lang::program::Operator;
 use lrc_named_core::binary;
 use lrc_named_core::tree::{Expression as Core, Private, Statement};
 use lrc_named_translation::meanings::shared_item;
 use lrc_named_translation::own::following;
 use lrc_named_translation::parts::{Element, bare, using_item};
 use lrc_named_tree::tree::{Expression, Place, Update};
+use lrc_program::Operator;
 use std::alloc::AllocError;
 
 impl<'t, 'n, 'p> Statements<'t, 'n, 'p> {

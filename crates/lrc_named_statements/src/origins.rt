@@ -5,11 +5,11 @@ ghost use Rattle.lrc_named_core.specs.View.{origin_of, private_of};
 ghost use Rattle.lrc_named_tree.specs.View.{expressions_of, place_of, update_of};
 ghost use Rattle.lrc_named_statements.specs.Statements.{asserting, at_item, closing, from, holding_place, last_index, operator_of};
 
-use lrc_lang::program::Operator;
 use lrc_named_core::tree::{Origin, Private, Trap};
 use lrc_named_translation::own::following;
 use lrc_named_translation::parts::using_item;
 use lrc_named_tree::tree::{Expression, Place, Update};
+use lrc_program::Operator;
 use std::alloc::AllocError;
 
 /// Returns what a statement comes from that comes from the one that begins with this token, and lies on its line.

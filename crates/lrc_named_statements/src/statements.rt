@@ -13,7 +13,6 @@ ghost use Rattle.lrc_named_statements.specs.Statements.{IsAddress, IsMadeAt, IsN
 ghost use Rattle.lrc_named_statements.specs.Well.{IsLock, is_shared};
 
 use crate::origins::from;
-use lrc_lang::program::Operator;
 use lrc_named_address::address;
 use lrc_named_core::binary;
 use lrc_named_core::tree::{Expression as Core, Statement};
@@ -23,6 +22,7 @@ use lrc_named_translation::own::truth;
 use lrc_named_translation::parts::Element;
 use lrc_named_translation::{Arguments, Translator};
 use lrc_named_tree::tree::{Expression, Place};
+use lrc_program::Operator;
 use std::alloc::{AllocError, Global};
 
 /// What statements are translated by: what is declared.

@@ -1,7 +1,7 @@
 -- What a statement is in the core is determined.
 use Rattle.std.proofs.Common.{◌≡◌, ℕ, ◌+◌, true, false, Some, None, List, ◌∷◌, [], refl, sym, subst}
 use Rattle.std.specs.Prelude.{Option}
-use Rattle.lrc_lang.specs.declared.program.Operator.{Operator}
+use Rattle.lrc_program.specs.declared.Operator.{Operator}
 use Rattle.lrc_named_tree.specs.Tree.{Named, Expressions, Place, Arms}
 use Rattle.lrc_named_tree.specs.Tree as tree
 use Rattle.lrc_named_names.specs.Names.{Declared, Item, Meaning, meaning_of}

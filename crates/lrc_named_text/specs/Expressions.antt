@@ -1,8 +1,8 @@
 -- The text of expressions. Parentheses stand where the grammar needs them, and nowhere else.
 use Rattle.std.specs.Prelude.{ℕ, Bool, true, false, List, ◌++◌, codes, decimal}
-use Rattle.lrc_lang.specs.declared.program.Operator.{Operator}
-use Rattle.lrc_lang.specs.declared.program.Operator.TheVariants.{Add, Subtract, Multiply, Divide, Remainder, Equal, NotEqual}
-use Rattle.lrc_lang.specs.declared.program.Operator.TheVariants.{Less, LessOrEqual, Greater, GreaterOrEqual}
+use Rattle.lrc_program.specs.declared.Operator.{Operator}
+use Rattle.lrc_program.specs.declared.Operator.TheVariants.{Add, Subtract, Multiply, Divide, Remainder, Equal, NotEqual}
+use Rattle.lrc_program.specs.declared.Operator.TheVariants.{Less, LessOrEqual, Greater, GreaterOrEqual}
 use Rattle.lrc_lang.specs.Grammar.{Joins, factors, terms, sums, joins}
 use Rattle.lrc_named_core.specs.Tree.{Private, named, own, Expression, number, private, me, nodes, binary}
 use Rattle.lrc_named_text.specs.declared.expression.Room.{Room}

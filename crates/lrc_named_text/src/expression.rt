@@ -6,8 +6,8 @@ ghost use Rattle.lrc_named_core.specs.Shape.{private_of, tree_of};
 ghost use Rattle.lrc_named_core.specs.View.{expression_of};
 ghost use Rattle.lrc_named_text.specs.Expressions.{expression_text, is_grouped, left_room, operator_text, private_text, right_room};
 
-use lrc_lang::program::Operator;
 use lrc_named_core::tree::{Expression, Private, Tree};
+use lrc_program::Operator;
 use lrc_text::push_number;
 use std::alloc::AllocError;
 

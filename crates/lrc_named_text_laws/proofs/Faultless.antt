@@ -8,7 +8,7 @@ use Rattle.lrc_lang.specs.Faults.{AreFaultless, HasFault, IsFaultless, IsNumberO
 use Rattle.lrc_lang.specs.Grammar.{IsProgram}
 use Rattle.lrc_lang.specs.Symbol.{Names, is_among, names_with, symbol_of}
 use Rattle.lrc_lang.specs.Token.{Placed, Token, finish, keyword, name, number, sign, token}
-use Rattle.lrc_lang.specs.Tree.{ProgramTree}
+use Rattle.lrc_program.specs.Tree.{ProgramTree}
 use Rattle.lrc_lang.specs.declared.fault.FaultKind.{FaultKind}
 use Rattle.lrc_lang.specs.declared.fault.FaultKind.TheVariants as kinds
 use Rattle.lrc_lang.proofs.Reaching.{fold-append}

@@ -4,9 +4,9 @@ use Rattle.lrc_lang.specs.Token.{Token, name, sign}
 use Rattle.lrc_lang.specs.Symbol.{Names, Symbol, operator, symbol_of, symbol_of_sign}
 use Rattle.lrc_lang.specs.Grammar.{AreStatements, IsBlock, IsExpression, IsFactor, IsStatement, IsSum, IsTerm, Joins, factors, terms, sums, joins}
 use Rattle.lrc_lang.specs.Grammar as grammar
-use Rattle.lrc_lang.specs.Statements as lang
-use Rattle.lrc_lang.specs.declared.program.Operator.{Operator}
-use Rattle.lrc_lang.specs.declared.program.Operator.TheVariants.{Add, Subtract, Multiply, Divide, Remainder, Equal, NotEqual, Less, LessOrEqual, Greater, GreaterOrEqual}
+use Rattle.lrc_program.specs.Statements as lang
+use Rattle.lrc_program.specs.declared.Operator.{Operator}
+use Rattle.lrc_program.specs.declared.Operator.TheVariants.{Add, Subtract, Multiply, Divide, Remainder, Equal, NotEqual, Less, LessOrEqual, Greater, GreaterOrEqual}
 use Rattle.lrc_lang.specs.declared.token.Sign.TheVariants as signs
 use Rattle.lrc_named_core.specs.Tree.{Private, named, own, Expression, Statement, Block, empty, next}
 use Rattle.lrc_named_core.specs.Tree as core

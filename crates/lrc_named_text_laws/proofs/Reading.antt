@@ -6,7 +6,7 @@ use Rattle.lrc_lang.specs.Grammar.{AreSymbolsOf, IsProgram}
 use Rattle.lrc_lang.specs.Grammar as grammar
 use Rattle.lrc_lang.specs.Symbol.{symbol_of, symbols}
 use Rattle.lrc_lang.specs.Token.{Lexeme, Placed, Token, finish, token}
-use Rattle.lrc_lang.specs.Tree.{ProgramTree}
+use Rattle.lrc_program.specs.Tree.{ProgramTree}
 use Rattle.lrc_lang.proofs.LexemesUnique.{unique}
 use Rattle.lrc_lang.proofs.Reaching.{one_program}
 use Rattle.lrc_named_core.specs.Tree.{Block}

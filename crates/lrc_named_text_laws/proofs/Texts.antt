@@ -8,8 +8,8 @@ use Rattle.std.proofs.lemmas.List.Elements.{All-append, All-cons, All-head, All-
 use Rattle.lrc_lang.specs.Lexemes.{BeginsWith, IsDigit, IsLetter, IsLetterOrDigit, IsWithinLine, keyword_text, sign_text}
 use Rattle.lrc_lang.specs.Token.{Token, number, name, keyword, sign, finish}
 use Rattle.lrc_lang.specs.Grammar.{Joins, joins}
-use Rattle.lrc_lang.specs.declared.program.Operator.{Operator}
-use Rattle.lrc_lang.specs.declared.program.Operator.TheVariants.{Add, Subtract, Multiply, Divide, Remainder, Equal, NotEqual, Less, LessOrEqual, Greater, GreaterOrEqual}
+use Rattle.lrc_program.specs.declared.Operator.{Operator}
+use Rattle.lrc_program.specs.declared.Operator.TheVariants.{Add, Subtract, Multiply, Divide, Remainder, Equal, NotEqual, Less, LessOrEqual, Greater, GreaterOrEqual}
 use Rattle.lrc_lang.specs.declared.token.Keyword.{Keyword}
 use Rattle.lrc_lang.specs.declared.token.Keyword.TheVariants as keywords
 use Rattle.lrc_lang.specs.declared.token.Sign.{Sign}

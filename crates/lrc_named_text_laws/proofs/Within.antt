@@ -7,8 +7,8 @@ use Rattle.lrc_lang.specs.Faults.{IsNumberOutOfRange}
 use Rattle.lrc_lang.specs.Grammar.{joins}
 use Rattle.lrc_lang.specs.Symbol.{symbol_of}
 use Rattle.lrc_lang.specs.Token.{Token, finish, keyword, name, number, sign}
-use Rattle.lrc_lang.specs.declared.program.Operator.{Operator}
-use Rattle.lrc_lang.specs.declared.program.Operator.TheVariants as operator
+use Rattle.lrc_program.specs.declared.Operator.{Operator}
+use Rattle.lrc_program.specs.declared.Operator.TheVariants as operator
 use Rattle.lrc_lang.specs.declared.token.Keyword.TheVariants as keywords
 use Rattle.lrc_lang.specs.declared.token.Sign.TheVariants as signs
 use Rattle.lrc_named_core.specs.Tree.{Block, Expression, Origin, Private, Statement, empty, next}

@@ -3,7 +3,7 @@
 ghost use Rattle.std.specs.Prelude.{◌≡◌, ◌≤◌, ℕ, List, [], length};
 ghost use Rattle.std.specs.List.{AllByRecursion};
 ghost use Rattle.lrc_lang.specs.Faults.{IsText};
-ghost use Rattle.lrc_lang.specs.Tree.{ProgramTree};
+ghost use Rattle.lrc_program.specs.Tree.{ProgramTree};
 ghost use Rattle.lrc_named_core.specs.Tree.{Block};
 ghost use Rattle.lrc_named_limits.specs.Limits.{IsOverInBlock};
 ghost use Rattle.lrc_named_limits.specs.declared.excess.Excess.{Excess};

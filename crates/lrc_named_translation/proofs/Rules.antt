@@ -1,7 +1,7 @@
 -- Each rule, with the statements that have come behind others.
 use Rattle.std.proofs.Common.{◌≡◌, ℕ, ◌+◌, true, false, Some, None, List, [], ◌∷◌, ◌++◌, refl, sym, subst}
-use Rattle.lrc_lang.specs.declared.program.Operator.{Operator}
-use Rattle.lrc_lang.specs.declared.program.Operator.TheVariants.{Equal}
+use Rattle.lrc_program.specs.declared.Operator.{Operator}
+use Rattle.lrc_program.specs.declared.Operator.TheVariants.{Equal}
 use Rattle.lrc_named_tree.specs.Tree.{Named, Expressions}
 use Rattle.lrc_named_tree.specs.Tree as tree
 use Rattle.lrc_named_tree.specs.View as trees

@@ -2,8 +2,8 @@
 -- translated has taken so many names of its own, the expression e is the statements `before` and then the expression p, and then so
 -- many names are taken. In the body of a function the parameters stand for `cores`, and `known` is known of them.
 use Rattle.std.specs.Prelude.{◌≡◌, ◌+◌, ℕ, Bool, true, false, not, Option, Some, None, List, [], ◌∷◌, slice_get}
-use Rattle.lrc_lang.specs.declared.program.Operator.{Operator}
-use Rattle.lrc_lang.specs.declared.program.Operator.TheVariants.{Add, Multiply, Equal, NotEqual}
+use Rattle.lrc_program.specs.declared.Operator.{Operator}
+use Rattle.lrc_program.specs.declared.Operator.TheVariants.{Add, Multiply, Equal, NotEqual}
 use Rattle.lrc_named_tree.specs.Tree.{Named, Expressions}
 use Rattle.lrc_named_tree.specs.Tree as tree
 use Rattle.lrc_named_tree.specs.Ends.{first_of, last_of}

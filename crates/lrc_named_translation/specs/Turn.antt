@@ -1,5 +1,5 @@
 -- `and` and `or`, at once and in turn.
-use Rattle.lrc_lang.specs.declared.program.Operator.TheVariants.{Add, Multiply, Equal}
+use Rattle.lrc_program.specs.declared.Operator.TheVariants.{Add, Multiply, Equal}
 use Rattle.lrc_named_tree.specs.Tree as tree
 use Rattle.lrc_named_tree.specs.View.{named_of, expression_of, expressions_of}
 use Rattle.lrc_named_core.specs.Tree.{Private, Expression, number, private, binary, Origin, Block, assign, if_else, empty, next, only, behind}

@@ -20,7 +20,6 @@ use crate::parts::{
     Element, Junction, Kind, copy_at, holding, holding_junction, private_name, using_item,
 };
 use crate::turn::{Turn, at_once};
-use lrc_lang::program::Operator;
 use lrc_named_address::address;
 use lrc_named_constants::constancy::{Constancy, Known};
 use lrc_named_constants::{Constants, bind, parameter_place};
@@ -28,6 +27,7 @@ use lrc_named_core::binary;
 use lrc_named_core::tree::{Expression as Core, Origin, Private, Statement};
 use lrc_named_names::names::Names;
 use lrc_named_tree::tree::{Expression, Name};
+use lrc_program::Operator;
 use std::alloc::{AllocError, Global};
 
 /// What the expressions of a statement are translated by: what is declared, and what their core statements come from.

@@ -5,9 +5,9 @@ ghost use Rattle.lrc_named_core.specs.Tree.{has_division, has_name};
 ghost use Rattle.lrc_named_core.specs.View.{block_of, expression_of};
 ghost use Rattle.lrc_named_translation.specs.Made.{is_plain, truth};
 
-use lrc_lang::program::Operator;
 use lrc_named_core::binary;
 use lrc_named_core::tree::{Expression, Statement};
+use lrc_program::Operator;
 use std::alloc::{AllocError, Global};
 
 /// Returns the number of the next name of the translation's own. It fails if memory runs out, as it does long before the

@@ -8,9 +8,9 @@ ghost use Rattle.lrc_named_translation.specs.Turn.{at_once, condition, in_turn};
 
 use crate::own::truth;
 use crate::parts::Kind;
-use lrc_lang::program::Operator;
 use lrc_named_core::binary;
 use lrc_named_core::tree::{Expression as Core, Origin, Private, Statement};
+use lrc_program::Operator;
 use std::alloc::{AllocError, Global};
 
 /// Returns the expression of both sides where neither has to be left out. It fails only if memory runs out.

@@ -1,6 +1,6 @@
 -- Trees without where they lie in memory. A token is its index among the tokens of the text.
 use Rattle.std.specs.Prelude.{ℕ, List}
-use Rattle.lrc_lang.specs.declared.program.Operator.{Operator}
+use Rattle.lrc_program.specs.declared.Operator.{Operator}
 
 -- a name: which token it is, and its bytes
 pub record Named : Type 0 where

@@ -1,6 +1,6 @@
 // The trees of a named program. A token is given by its index among the tokens of the text, from 0.
 
-use lrc_lang::program::Operator;
+use lrc_program::Operator;
 
 /// A name, where it stands.
 #[derive(Clone, Copy)]

@@ -1,6 +1,6 @@
 -- What the warnings of a named program are told by, field by field.
 use Rattle.std.proofs.Common.{◌≡◌, ◌∙◌, ℕ, List, [], ap, subst}
-use Rattle.lrc_lang.specs.Tree.{ProgramTree}
+use Rattle.lrc_program.specs.Tree.{ProgramTree}
 use Rattle.lrc_labels.specs.Reading.{Label}
 use Rattle.lrc_lint_warnings.specs.declared.warning.Spot.{Spot}
 use Rattle.lrc_lint_warnings.specs.declared.warning.Warning.{Warning}

@@ -3,7 +3,7 @@ use Rattle.std.proofs.Common.{◌≡◌, ℕ, List, []}
 use Rattle.std.specs.Prelude.{IsPermutation}
 use Rattle.lrc_lang.specs.Faults.{IsText}
 use Rattle.lrc_lang.specs.Positions.{HasLocated, Located}
-use Rattle.lrc_lang.specs.Tree.{ProgramTree}
+use Rattle.lrc_program.specs.Tree.{ProgramTree}
 use Rattle.lrc_lint.specs.Linted.{labels_in, tokens_of}
 use Rattle.lrc_lint_warned.specs.Places.{statements_at}
 use Rattle.lrc_lint_warnings.specs.Collected.{found_in}

@@ -2,7 +2,7 @@
 use Rattle.std.specs.Prelude.{◌≡◌, ℕ, List, [], IsPermutation}
 use Rattle.lrc_lang.specs.Faults.{IsText}
 use Rattle.lrc_lang.specs.Positions.{HasLocated, Located}
-use Rattle.lrc_lang.specs.Tree.{ProgramTree}
+use Rattle.lrc_program.specs.Tree.{ProgramTree}
 use Rattle.lrc_labels.specs.Reading.{Label}
 use Rattle.lrc_lint.specs.Linted.{labels_in, tokens_of}
 use Rattle.lrc_lint_warned.specs.Places.{statements_at}

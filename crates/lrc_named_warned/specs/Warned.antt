@@ -1,6 +1,6 @@
 -- What is told of a named program without a fault.
 use Rattle.std.specs.Prelude.{◌≢◌, ℕ, List, []}
-use Rattle.lrc_lang.specs.Tree.{ProgramTree}
+use Rattle.lrc_program.specs.Tree.{ProgramTree}
 use Rattle.lrc_named_tokens.specs.Token.{Located}
 use Rattle.lrc_named_tree.specs.Tree.{NamedTree}
 use Rattle.lrc_named_names.specs.Names.{Declared}

@@ -2,18 +2,18 @@
 
 ghost use Rattle.std.specs.Prelude.{IfOk};
 ghost use Rattle.lrc_lang.specs.Faults.{IsText};
-ghost use Rattle.lrc_lang.specs.Tree.{program_of};
+ghost use Rattle.lrc_program.specs.Tree.{program_of};
 ghost use Rattle.lrc_named_warned.specs.CoreSide.{IsCoreSide, side_seen};
 
 use crate::tokens::{begins_in, numbered, tokens_of};
 use lrc_labels::label::Labels;
 use lrc_labels::read_labels;
 use lrc_lang::positions::positions_of;
-use lrc_lang::program::Program;
 use lrc_lint_warned::places::statements_at;
 use lrc_lint_warnings::warning::Warning;
 use lrc_lint_warnings::warnings;
 use lrc_private_names::names_of;
+use lrc_program::Program;
 use std::alloc::{AllocError, Global};
 
 /// What the core has to say.

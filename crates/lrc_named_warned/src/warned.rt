@@ -3,7 +3,7 @@
 ghost use Rattle.std.specs.Prelude.{◌≡◌, ◌≢◌, [], IfOk, MatchOption, None, OnOk, map};
 ghost use Rattle.lrc_lang.specs.declared.fault.FaultKind.TheVariants.{NoMemory};
 ghost use Rattle.lrc_lang.specs.Faults.{IsText};
-ghost use Rattle.lrc_lang.specs.Tree.{program_of as core_program_of};
+ghost use Rattle.lrc_program.specs.Tree.{program_of as core_program_of};
 ghost use Rattle.lrc_text.specs.Parts.{whole_text};
 ghost use Rattle.lrc_named_check.specs.Program.{IsClean};
 ghost use Rattle.lrc_named_core.specs.View.{origin_of};
@@ -18,7 +18,6 @@ use crate::core_side::{CoreSide, core_side};
 use crate::tokens::{lines_of, spots_of};
 use lrc_lang::fault::FaultKind;
 use lrc_lang::parse as parse_core;
-use lrc_lang::program::Program;
 use lrc_lint_fault::Linted;
 use lrc_lint_warnings::warning::Spot;
 use lrc_named_check::names_of;
@@ -34,6 +33,7 @@ use lrc_named_uses::{loops_in, unused_of};
 use lrc_named_warnings::context::Context;
 use lrc_named_warnings::push_told;
 use lrc_named_written::{Written, core_text};
+use lrc_program::Program;
 use std::alloc::{AllocError, Global};
 
 /// Returns what `lint` answers to a text that is a named program without a fault, its warnings with status 0; or none, if

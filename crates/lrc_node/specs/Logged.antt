@@ -7,7 +7,7 @@ use Rattle.lrc_trace.specs.declared.act.Deed.{Deed}
 use Rattle.lrc_trace.specs.declared.act.Deed.TheVariants as deeds
 use Rattle.lrc_trace.specs.Trace.{TraceRecord}
 use Rattle.lrc_protocol.specs.Node.{Node}
-use Rattle.lrc_protocol.specs.Run.{Input, run, taken, EntryRecord, Logged, Logging, logged, refused, too_large, logs}
+use Rattle.lrc_protocol.specs.Run.{Input, EntryRecord, Logged, Logging, logged, refused, too_large, logs}
 use Rattle.lrc_protocol.specs.Follows.{inputs_of}
 use Rattle.lrc_protocol.specs.Traced.{traced, trace_of, with_act}
 use Rattle.lrc_protocol.specs.Turn.{TurnRecord}
@@ -16,8 +16,6 @@ use Rattle.lrc_trace.specs.declared.end.End.{End}
 use Rattle.lrc_trace.specs.declared.end.End.TheVariants.{Ended, Trapped, Unfinished}
 use Rattle.lrc_node.specs.declared.fault.NodeFault.{NodeFault}
 use Rattle.lrc_node.specs.declared.fault.NodeFault.TheVariants.{Failed, NotReady, Unexpected, Worn, NoMemory}
-use Rattle.lrc_node.specs.declared.logged.Input.{Input as Given}
-use Rattle.lrc_node.specs.declared.logged.Input.TheVariants.{Run, Taken}
 
 -- a node, none once it has failed, and its log
 pub record LoggedNode : Type 0 where
@@ -32,11 +30,6 @@ sound l = record { node = Some l.node; log = l.log }
 pub record TracedLog : Type 0 where
   pub logged : LoggedNode
   pub trace : TraceRecord
-
--- what makes a turn, as the protocol has it
-abbrev pub seen_input : Given → Input
-seen_input Run = run
-seen_input (Taken envelope) = taken envelope.value
 
 -- What comes of an input to a node that has not failed: the turn is logged; or it is refused and nothing changes; or a
 -- number is too large, or no memory is left, and the node has failed.

@@ -1,6 +1,6 @@
 -- A node's log as a whole: all that came to the node, from its first turn on.
 use Rattle.std.specs.Prelude.{◌≡◌, ℕ, ◌++◌, ◌∷◌, [], List, Some}
-use Rattle.lrc_lang.specs.declared.program.Program.{Program}
+use Rattle.lrc_program.specs.declared.Program.{Program}
 use Rattle.lrc_protocol.specs.Node.{Node, OptionsRecord, fresh_node}
 use Rattle.lrc_protocol.specs.Run.{Input, run, EntryRecord, next_stamp}
 use Rattle.lrc_protocol.specs.Follows.{inputs_of, local, turns_of}

@@ -1,7 +1,7 @@
 // What the log of a node says of it. Each function is a theorem: its body is empty, and its clauses are the law.
 
 ghost use Rattle.std.specs.Prelude.{◌≡◌, ℕ, Some, [], Ok, Err};
-ghost use Rattle.lrc_lang.specs.declared.program.Program.{Program};
+ghost use Rattle.lrc_program.specs.declared.Program.{Program};
 ghost use Rattle.lrc_protocol.specs.Node.{Node as NodeRecord, OptionsRecord, fresh_node};
 ghost use Rattle.lrc_protocol.specs.Run.{Input, EntryRecord, Logged as LogRecord, logged, logs};
 ghost use Rattle.lrc_node.specs.Logged.{LeadsFrom, LogsTo, NotesIn, TracedLog};

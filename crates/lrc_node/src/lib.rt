@@ -32,9 +32,8 @@ mod collections;
 mod pages;
 
 pub use fault::NodeFault;
-pub use logged::{Entry, Input, Logged};
+pub use logged::Logged;
 pub use lrc_trace::end::End;
 pub use node::Node;
 pub use options::{Options, options_of};
 pub use state::NodeState;
-pub use turn::Turn;

@@ -1,54 +1,28 @@
 // A node with its log.
 
 ghost use Rattle.std.specs.Prelude.{◌≡◌, ◌<◌, ◌≤◌, ◌+◌, ℕ, Err, IfErr, IfNone, IfOk, IfSome, MatchResult, None, OnErr, OnOk, [], false, max, true, vec_capacity, vec_len};
-ghost use Rattle.lrc_lang.specs.declared.program.Program.{Program};
+ghost use Rattle.lrc_program.specs.declared.Program.{Program};
 ghost use Rattle.lrc_protocol.specs.Node.{OptionsRecord};
 ghost use Rattle.lrc_protocol.specs.Run as log;
 ghost use Rattle.lrc_protocol.specs.Run.{MOST_STAMP};
 ghost use Rattle.lrc_protocol.specs.Turn.{is_ready};
 ghost use Rattle.lrc_node.specs.Fault.{MayAnswer, is_final};
-ghost use Rattle.lrc_node.specs.Logged.{LogsTo, MakesBox, MakesRoom, NotesIn, Settles, WearsOut, end_next, ended_by, entered_in, newest, seen_input, sound};
+ghost use Rattle.lrc_node.specs.Logged.{LogsTo, MakesBox, MakesRoom, NotesIn, Settles, WearsOut, end_next, ended_by, entered_in, newest, sound};
+ghost use Rattle.lrc_log.specs.Input.{seen_input};
 ghost use Rattle.lrc_node.specs.Whole.{IsWholeLog};
 ghost use Rattle.lrc_control.specs.Text.{end_of};
 ghost use Rattle.lrc_node.specs.declared.fault.NodeFault.TheVariants.{Failed};
 
 use crate::fault::NodeFault;
 use crate::node::Node;
-use crate::turn::Turn;
 use lrc_envelope::Envelope;
 use lrc_exec::machine::Ask;
+use lrc_log::{Entry, Input, Turn};
 use lrc_trace::act::{Act, Deed};
 use lrc_trace::end::End;
 use lrc_trace::trace::Trace;
 use std::alloc::Global;
 use std::marker::Model;
-
-/// The input of a turn.
-#[derive(Drop)]
-pub enum Input {
-    /// The node goes on by itself.
-    Run,
-    /// This message is delivered to the node.
-    Taken(Box<Envelope>),
-}
-
-/// A turn with its input and its stamp.
-#[derive(Drop)]
-pub struct Entry {
-    pub input: Input,
-    pub stamp: u64,
-    pub turn: Turn,
-}
-
-impl Model for Entry {
-    ghost use Rattle.lrc_protocol.specs.Run.{EntryRecord};
-
-    ghost Value = { EntryRecord };
-
-    ghost use Rattle.lrc_node.specs.Logged.{seen_input};
-
-    ghost view = { λ e. record { input = seen_input e.input; stamp = e.stamp; turn = e.turn } };
-}
 
 /// A node with its log: the turns that it made, with their stamps. The stamp of a turn is the greater of two stamps
 /// plus one: that of the node's last turn, and that of the turn that sent the message. A refused call adds nothing to
@@ -65,7 +39,7 @@ pub struct Logged<'c> {
 impl<'c> Model for Logged<'c> {
     ghost use Rattle.std.specs.Prelude.{◌≡◌};
     ghost use Rattle.std.specs.Coded.{codes};
-    ghost use Rattle.lrc_lang.specs.contracts.program.Statement as statement;
+    ghost use Rattle.lrc_program.specs.contracts.Statement as statement;
     ghost use Rattle.lrc_protocol.specs.Run.{last_stamp};
     ghost use Rattle.lrc_node.specs.Logged.{TracedLog};
 

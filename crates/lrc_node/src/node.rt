@@ -14,10 +14,10 @@ ghost use Rattle.lrc_trace.specs.declared.end.End.TheVariants.{Unfinished};
 use crate::fault::NodeFault;
 use crate::options::Options;
 use crate::state::NodeState;
-use crate::turn::Turn;
 use lrc_envelope::Envelope;
 use lrc_exec::code::Code;
 use lrc_exec::machine::Ask;
+use lrc_log::Turn;
 use lrc_trace::end::End;
 use lrc_trace::trace::Trace;
 use std::alloc::{AllocError, Global};
@@ -37,7 +37,7 @@ pub struct Node<'c> {
 impl<'c> Model for Node<'c> {
     ghost use Rattle.std.specs.Prelude.{◌≡◌, None};
     ghost use Rattle.std.specs.Coded.{codes};
-    ghost use Rattle.lrc_lang.specs.contracts.program.Statement as statement;
+    ghost use Rattle.lrc_program.specs.contracts.Statement as statement;
     ghost use Rattle.lrc_node_laws.specs.Traced.{IsTraced};
     ghost use Rattle.lrc_node.specs.Node.{TracedNode, seen_end, seen_node};
 

@@ -12,9 +12,9 @@ ghost use Rattle.lrc_node.specs.declared.fault.NodeFault.TheVariants.{NotReady, 
 
 use crate::fault::NodeFault;
 use crate::state::NodeState;
-use crate::turn::Turn;
 use lrc_envelope::Envelope;
 use lrc_exec::machine::Ask;
+use lrc_log::Turn;
 use lrc_trace::act::{Act, Deed};
 use lrc_trace::trace::Trace;
 use std::alloc::AllocError;

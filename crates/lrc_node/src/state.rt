@@ -32,7 +32,7 @@ pub struct NodeState<'c> {
 
 impl<'c> Model for NodeState<'c> {
     ghost use Rattle.std.specs.Coded.{codes};
-    ghost use Rattle.lrc_lang.specs.contracts.program.Statement as statement;
+    ghost use Rattle.lrc_program.specs.contracts.Statement as statement;
     ghost use Rattle.lrc_protocol.specs.Node.{Node};
 
     ghost Value = { Node };

@@ -2,25 +2,8 @@
 
 ghost use Rattle.std.specs.Prelude.{◌≡◌, None};
 
-use lrc_envelope::Envelope;
 use lrc_mail::Letter;
-use lrc_trace::act::{Act, Deed};
-use std::marker::Model;
-
-/// What a node's turn does: its act, if it makes one, and the messages that it sends, in order.
-#[derive(Drop)]
-pub struct Turn {
-    pub act: Option<Act>,
-    pub out: Vec<Envelope>,
-}
-
-impl Model for Turn {
-    ghost use Rattle.lrc_protocol.specs.Turn.{TurnRecord};
-
-    ghost Value = { TurnRecord };
-
-    ghost view = { λ t. record { act = t.act; out = t.out.items } };
-}
+use lrc_trace::act::Deed;
 
 /// A turn before its messages have numbers: its deed, if it makes an act, and the letters that it sends.
 #[derive(Drop)]

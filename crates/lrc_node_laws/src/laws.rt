@@ -9,7 +9,7 @@ ghost use Rattle.lrc_order_laws.specs.Shape.{HasShape};
 ghost use Rattle.lrc_lock.specs.Held.{is_awaited};
 ghost use Rattle.lrc_order_laws.specs.Waiting.{acquiring, FixesNext};
 ghost use Rattle.lrc_protocol.specs.Node.{next_in};
-ghost use Rattle.lrc_lang.specs.declared.program.Program.{Program};
+ghost use Rattle.lrc_program.specs.declared.Program.{Program};
 ghost use Rattle.lrc_node_laws.specs.Comes.{CanBeRepaired};
 ghost use Rattle.lrc_protocol.specs.Turn.{with_needs, is_learnable, expects_changes_reply, TurnRecord, done};
 ghost use Rattle.lrc_protocol.specs.Follows.{is_expected};

@@ -3,7 +3,7 @@ use Rattle.std.proofs.Common.{◌≡◌, ℕ, ◌+◌, ◌≤◌, ◌&&◌, List
 use Rattle.std.specs.Prelude.{Option, Some, None, ◌==◌, Contains, unwrap_or, option_map, count_by, slice_get, slice_index_or, slice_set, if◌then◌else◌}
 use Rattle.std.specs.List.{list_all}
 use Rattle.std.proofs.lemmas.Bool.{eq-eqb, and_from}
-use Rattle.lrc_lang.specs.declared.program.Program.{Program}
+use Rattle.lrc_program.specs.declared.Program.{Program}
 use Rattle.lrc_time.specs.Time.{covers, Covers}
 use Rattle.lrc_time.proofs.Times.{covers-holds}
 use Rattle.lrc_trace.proofs.Intervals.{numbered_arrive}

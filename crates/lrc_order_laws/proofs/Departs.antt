@@ -4,7 +4,7 @@ use Rattle.std.proofs.Common.{map, take, take_all, refl, sym, ap, subst, ◌∙�
 use Rattle.std.specs.Prelude.{Option, Some, None, ◌==◌, option_map, filter, count_by, slice_get}
 use Rattle.std.specs.Option.{option_to_list}
 use Rattle.std.proofs.lemmas.List.{length_push}
-use Rattle.lrc_lang.specs.declared.program.Program.{Program}
+use Rattle.lrc_program.specs.declared.Program.{Program}
 use Rattle.lrc_exec.specs.Meaning.{Setting}
 use Rattle.lrc_trace.specs.declared.act.Act.{Act}
 use Rattle.lrc_trace.specs.declared.act.Deed.{Deed}
@@ -12,7 +12,7 @@ use Rattle.lrc_trace.specs.declared.act.Deed.TheVariants.{Depart}
 use Rattle.lrc_trace.specs.Run.{act_of, Does, is_arrive, is_depart, count_of, arrives_before, departs_before}
 use Rattle.lrc_trace.proofs.Positions.{Does-cases, Does-last, arrives_before-prefix, departs_before-prefix}
 use Rattle.lrc_trace.proofs.Intervals.{count_of-more, count_of-same}
-use Rattle.lrc_consistency_laws.specs.Follows.{deeds_of}
+use Rattle.lrc_exec.specs.Follows.{deeds_of}
 use Rattle.lrc_protocol.specs.declared.event.Event.{Event}
 use Rattle.lrc_protocol.specs.Node.{Wait, nothing, grant, departure, access, upkeep, discard, OptionsRecord}
 use Rattle.lrc_protocol.specs.Run.{Input, EntryRecord, Logged, World, Flying, with_turn, run_of}

@@ -2,7 +2,7 @@
 -- every run.
 use Rattle.std.proofs.Common.{◌≡◌, ℕ, List, [], ◌∷◌, ◌++◌, subst}
 use Rattle.std.specs.Prelude.{Option, Some, None, fold, slice_get}
-use Rattle.lrc_lang.specs.declared.program.Program.{Program}
+use Rattle.lrc_program.specs.declared.Program.{Program}
 use Rattle.lrc_protocol.specs.declared.event.Event.{Event}
 use Rattle.lrc_protocol.specs.Node.{Node, OptionsRecord, fresh_node}
 use Rattle.lrc_protocol.specs.Turn.{TurnRecord, Outcome, done, not_ready, unexpected, worn}

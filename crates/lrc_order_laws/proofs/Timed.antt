@@ -1,7 +1,7 @@
 -- Every run is a timed run that keeps time, is well synchronized, and waits at barriers: all that holds of such runs holds of it.
 use Rattle.std.proofs.Common.{◌≡◌, ℕ}
 use Rattle.std.specs.Prelude.{Some, List}
-use Rattle.lrc_lang.specs.declared.program.Program.{Program}
+use Rattle.lrc_program.specs.declared.Program.{Program}
 use Rattle.lrc_trace.specs.Synchronization.{IsWellSynchronized, WaitsAtBarriers}
 use Rattle.lrc_clock.specs.Keeping.{KeepsTime}
 use Rattle.lrc_consistency_laws.proofs.Waiting.{waits_at_barriers}

@@ -1,7 +1,7 @@
 -- The times of a run's acts are those that its nodes have.
 use Rattle.std.proofs.Common.{◌≡◌, ◌<◌, ℕ, List, get_or}
 use Rattle.std.specs.Prelude.{All, Some}
-use Rattle.lrc_lang.specs.declared.program.Program.{Program}
+use Rattle.lrc_program.specs.declared.Program.{Program}
 use Rattle.lrc_trace.proofs.Positions.{Does-read}
 use Rattle.lrc_clock.specs.Keeping.{KeepsTime}
 use Rattle.lrc_clock.proofs.Deciding.{one_list}

@@ -1,7 +1,7 @@
 // What holds of barriers in every run. Each function is a theorem: its body is empty, and its clauses are the law.
 
 ghost use Rattle.std.specs.Prelude.{◌≡◌, ◌≢◌, ℕ, ◌+◌, ◌<◌, true, false, Bool, Contains, count_by, List, Some, None, slice_get, slice_index_or};
-ghost use Rattle.lrc_lang.specs.declared.program.Program.{Program};
+ghost use Rattle.lrc_program.specs.declared.Program.{Program};
 ghost use Rattle.lrc_barrier.specs.Barrier.{ManagerRecord};
 ghost use Rattle.lrc_barrier.specs.declared.arrival.Arrival.{Arrival};
 ghost use Rattle.lrc_clock.specs.Times.{time_at, time_before, arrived_time};

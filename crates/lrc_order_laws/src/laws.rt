@@ -2,14 +2,14 @@
 
 ghost use Rattle.std.specs.Prelude.{◌≡◌, ◌⊎◌, ℕ, ◌+◌, ◌<◌, ◌≤◌, true, false, Contains, List, Some, [], length, map};
 ghost use Rattle.std.specs.Prelude.{slice_get, slice_index, slice_index_or};
-ghost use Rattle.lrc_lang.specs.declared.program.Program.{Program};
+ghost use Rattle.lrc_program.specs.declared.Program.{Program};
 ghost use Rattle.lrc_protocol.specs.declared.event.Event.{Event};
 ghost use Rattle.lrc_protocol.specs.Node.{OptionsRecord, nothing, grant, was_taken};
 ghost use Rattle.lrc_protocol.specs.Run.{Logged, World, Flying, run_of};
 ghost use Rattle.lrc_exec.specs.Plain.{setting_of};
 ghost use Rattle.lrc_order_laws.specs.Shape.{HasShape};
 ghost use Rattle.lrc_time.specs.Time.{entry};
-ghost use Rattle.lrc_consistency_laws.specs.Follows.{deeds_of};
+ghost use Rattle.lrc_exec.specs.Follows.{deeds_of};
 ghost use Rattle.lrc_order_laws.specs.Counts.{closes, is_arrive, is_depart, count, awaits_acquire, is_inside};
 ghost use Rattle.lrc_exec.specs.Meaning.{Thread, releases};
 ghost use Rattle.lrc_lock.specs.declared.state.LockState.TheVariants.{Away};

@@ -2,7 +2,7 @@
 // theorem: its body is empty, and its clauses are the law.
 
 ghost use Rattle.std.specs.Prelude.{◌≡◌, ◌↔◌, ℕ, ◌+◌, ◌<◌, true, List, Some, length, slice_get};
-ghost use Rattle.lrc_lang.specs.declared.program.Program.{Program};
+ghost use Rattle.lrc_program.specs.declared.Program.{Program};
 ghost use Rattle.lrc_trace.specs.Synchronization.{Holds};
 ghost use Rattle.lrc_clock.specs.Times.{released_time};
 ghost use Rattle.lrc_envelope.specs.Envelope.{EnvelopeRecord};

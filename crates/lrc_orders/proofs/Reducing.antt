@@ -5,7 +5,7 @@ use Rattle.std.proofs.lemmas.Bool.{cases_eq, cases_lt, le-leb}
 use Rattle.std.proofs.lemmas.List.{get_or_default, length-drop, length_push}
 use Rattle.std.proofs.lemmas.List.Sums.{list_all-from_AllPass}
 use Rattle.std.proofs.lemmas.Option.{some_pair_parts}
-use Rattle.lrc_lang.specs.declared.program.Program.{Program}
+use Rattle.lrc_program.specs.declared.Program.{Program}
 use Rattle.lrc_trace.specs.declared.act.Act.{Act}
 use Rattle.lrc_trace.specs.declared.act.Deed.{Deed}
 use Rattle.lrc_trace.specs.declared.act.Deed.TheVariants.{Quiet, Print, Read, Write, Acquire, Release, Arrive, Depart, Trap, End}
@@ -20,8 +20,8 @@ use Rattle.lrc_trace.proofs.Decided.{HappensBefore-decided}
 use Rattle.lrc_exec.specs.Meaning.{Thread, Next, next_of}
 use Rattle.lrc_exec.specs.Plain.{Plain, deed_done, thread_in, plain_step, plain_start}
 use Rattle.lrc_exec.proofs.NextLaws.{IsFine, next_of-fine}
-use Rattle.lrc_consistency_laws.specs.Follows.{Goes, quietly, printing, reading, writing, acquiring, releasing, arriving, departing, trapping, ending}
-use Rattle.lrc_consistency_laws.specs.Follows.{Makes, deeds_of, FollowsText}
+use Rattle.lrc_exec.specs.Follows.{Goes, quietly, printing, reading, writing, acquiring, releasing, arriving, departing, trapping, ending}
+use Rattle.lrc_exec.specs.Follows.{Makes, deeds_of, FollowsText}
 use Rattle.lrc_consistency_laws.specs.InOrder.{ReadsInOrder}
 use Rattle.lrc_consistency_laws.proofs.Ahead.{does_ahead}
 use Rattle.lrc_consistency_laws.specs.Matching.{IsPaired, Matches}

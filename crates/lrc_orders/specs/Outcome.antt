@@ -1,6 +1,6 @@
 -- Outcomes of a program.
 use Rattle.std.specs.Prelude.{◌≡◌, ℕ, List, Some, slice_get}
-use Rattle.lrc_lang.specs.declared.program.Program.{Program}
+use Rattle.lrc_program.specs.declared.Program.{Program}
 use Rattle.lrc_trace.specs.declared.act.Act.{Act}
 use Rattle.lrc_exec.specs.Plain.{Plain, plain_start, plain_from}
 use Rattle.lrc_orders.specs.declared.outcomes.Outcome.{Outcome}

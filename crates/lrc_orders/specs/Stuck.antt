@@ -1,6 +1,6 @@
 -- Orders after which a program cannot go on.
 use Rattle.std.specs.Prelude.{◌≡◌, ℕ, Some, None, IsSome, List}
-use Rattle.lrc_lang.specs.declared.program.Program.{Program}
+use Rattle.lrc_program.specs.declared.Program.{Program}
 use Rattle.lrc_trace.specs.declared.act.Act.{Act}
 use Rattle.lrc_exec.specs.Plain.{Plain, thread_in, plain_step, plain_start, plain_from}
 

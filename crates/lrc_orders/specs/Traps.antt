@@ -1,7 +1,7 @@
 -- Orders in which a node traps.
 use Rattle.std.specs.Prelude.{◌≡◌, ℕ, Bool, true, false, Some, List}
 use Rattle.std.specs.List.{list_any}
-use Rattle.lrc_lang.specs.declared.program.Program.{Program}
+use Rattle.lrc_program.specs.declared.Program.{Program}
 use Rattle.lrc_trace.specs.declared.act.Act.{Act}
 use Rattle.lrc_trace.specs.declared.act.Deed.{Deed}
 use Rattle.lrc_trace.specs.declared.act.Deed.TheVariants.{Trap}

@@ -2,9 +2,9 @@
 use Rattle.std.proofs.Common.{◌≡◌, ℕ, ◌<◌, ◌⊎◌, List, [], ◌∷◌, Bool, true, false, length, refl, sym, ap, ◌∙◌, subst}
 use Rattle.std.specs.Prelude.{Option, Some, None, if◌then◌else◌, nat_lt, slice_get}
 use Rattle.std.proofs.lemmas.Option.{slice_get_within}
-use Rattle.lrc_lang.specs.declared.program.Expression.{Expression}
-use Rattle.lrc_lang.specs.declared.program.Statement.{Statement}
-use Rattle.lrc_lang.specs.declared.program.Statement.TheVariants.{Assign, Read, Write, Acquire, Release, Barrier, Print, If', While'}
+use Rattle.lrc_program.specs.declared.Expression.{Expression}
+use Rattle.lrc_program.specs.declared.Statement.{Statement}
+use Rattle.lrc_program.specs.declared.Statement.TheVariants.{Assign, Read, Write, Acquire, Release, Barrier, Print, If', While'}
 use Rattle.lrc_trace.specs.declared.act.Cause.{Cause}
 use Rattle.lrc_trace.specs.declared.act.Deed.{Deed}
 use Rattle.lrc_trace.specs.declared.act.Deed.TheVariants as deeds

@@ -1,14 +1,14 @@
 // Standings at which a thread may be about to make an act that conflicts.
 
 ghost use Rattle.std.specs.Prelude.{◌≡◌, ◌≤◌, false};
-ghost use Rattle.lrc_lang.specs.Sizes.{names_in_statement, names_in_expression};
-ghost use Rattle.lrc_lang.specs.Statements.{statement_of, expression_of};
+ghost use Rattle.lrc_program.specs.Sizes.{names_in_statement, names_in_expression};
+ghost use Rattle.lrc_program.specs.Statements.{statement_of, expression_of};
 ghost use Rattle.lrc_exec.specs.Spots.{IsFlat};
 ghost use Rattle.lrc_orders_away.specs.Away.{AreAway, IsAwayAt, IsAwayBy, IsNever, IsNoAcquire, IsNoRead, IsNoWrite};
 
-use lrc_lang::program::{Expression, Statement};
 use lrc_orders_reach::ahead::Follower;
 use lrc_orders_reach::standing::Standing;
+use lrc_program::{Expression, Statement};
 use lrc_ranges::evaluate::range_of;
 use lrc_ranges::range::Range;
 use lrc_trace::act::Deed;

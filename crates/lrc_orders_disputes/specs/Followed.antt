@@ -4,7 +4,7 @@ use Rattle.lrc_trace.specs.declared.act.Deed.{Deed}
 use Rattle.lrc_trace.specs.declared.act.Deed.TheVariants.{Read, Write, Acquire, Depart}
 use Rattle.lrc_exec.specs.Meaning.{Thread, holds, next_of}
 use Rattle.lrc_exec.specs.Plain.{Plain, thread_in}
-use Rattle.lrc_consistency_laws.specs.Follows.{Goes}
+use Rattle.lrc_exec.specs.Follows.{Goes}
 use Rattle.lrc_orders_undisputed.specs.Undisputed.{Conflicts}
 
 -- What other nodes are taken to do before a node goes on: a read gives any value that the word may hold, no lock is acquired that the node

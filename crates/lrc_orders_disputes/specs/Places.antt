@@ -1,7 +1,7 @@
 -- Where the texts of the other nodes lead up to their next barriers, whatever values names and words have.
 use Rattle.std.specs.Prelude.{◌≡◌, ◌≢◌, ℕ, Bool, true, false, List, ◌∷◌, Some}
-use Rattle.lrc_lang.specs.declared.program.Statement.{Statement}
-use Rattle.lrc_lang.specs.declared.program.Statement.TheVariants.{Barrier}
+use Rattle.lrc_program.specs.declared.Statement.{Statement}
+use Rattle.lrc_program.specs.declared.Statement.TheVariants.{Barrier}
 use Rattle.lrc_trace.specs.declared.act.Deed.{Deed}
 use Rattle.lrc_exec.specs.Flat.{where_it_holds, where_it_fails}
 use Rattle.lrc_exec.specs.Meaning.{Thread, next_of}

@@ -1,8 +1,8 @@
 // Following texts finds undisputed acts. Each function is a theorem: its body is empty, and its clause is the law.
 
 ghost use Rattle.std.specs.Prelude.{◌≡◌, ℕ, Bool, true, List, Some};
-ghost use Rattle.lrc_lang.specs.declared.program.Statement.{Statement};
-ghost use Rattle.lrc_lang.specs.declared.program.Program.{Program};
+ghost use Rattle.lrc_program.specs.declared.Statement.{Statement};
+ghost use Rattle.lrc_program.specs.declared.Program.{Program};
 ghost use Rattle.lrc_trace.specs.declared.act.Act.{Act};
 ghost use Rattle.lrc_trace.specs.declared.act.Deed.{Deed};
 ghost use Rattle.lrc_exec.specs.Meaning.{Thread};

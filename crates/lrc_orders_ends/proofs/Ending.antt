@@ -2,11 +2,11 @@
 use Rattle.std.proofs.Common.{◌≡◌, ℕ, List, [], ◌∷◌, ◌++◌, refl, sym, ap, ◌∙◌, subst}
 use Rattle.std.specs.Prelude.{Option, Some, None, option_map}
 use Rattle.std.proofs.lemmas.Option.{some_pair_parts}
-use Rattle.lrc_lang.specs.declared.program.Program.{Program}
+use Rattle.lrc_program.specs.declared.Program.{Program}
 use Rattle.lrc_trace.specs.declared.act.Act.{Act}
 use Rattle.lrc_exec.specs.Plain.{Plain, plain_from, plain_start}
 use Rattle.lrc_exec.proofs.PlainLaws.{plain_from-append, then_from}
-use Rattle.lrc_consistency_laws.specs.Follows.{nodes_of_acts}
+use Rattle.lrc_exec.specs.Follows.{nodes_of_acts}
 use Rattle.lrc_consistency_laws.proofs.Plainly.{one_more, plain_from-joined}
 use Rattle.lrc_orders.specs.Stuck.{IsAtRest}
 use Rattle.lrc_orders_laws.specs.Steps.{IsSettledState, beginning, onward, Leads, alone, together}

@@ -1,6 +1,6 @@
 -- Settled states from which steps lead to an end.
 use Rattle.std.specs.Prelude.{ℕ, List}
-use Rattle.lrc_lang.specs.declared.program.Program.{Program}
+use Rattle.lrc_program.specs.declared.Program.{Program}
 use Rattle.lrc_trace.specs.declared.act.Act.{Act}
 use Rattle.lrc_exec.specs.Plain.{Plain}
 use Rattle.lrc_orders.specs.Stuck.{IsAtRest}

@@ -1,10 +1,10 @@
 // What settled states say of orders that can end. Each function is a theorem: its body is empty, and its clause is the law.
 
 ghost use Rattle.std.specs.Prelude.{ℕ, List};
-ghost use Rattle.lrc_lang.specs.declared.program.Program.{Program};
+ghost use Rattle.lrc_program.specs.declared.Program.{Program};
 ghost use Rattle.lrc_trace.specs.declared.act.Act.{Act};
 ghost use Rattle.lrc_exec.specs.Plain.{Plain};
-ghost use Rattle.lrc_consistency_laws.specs.Follows.{nodes_of_acts};
+ghost use Rattle.lrc_exec.specs.Follows.{nodes_of_acts};
 ghost use Rattle.lrc_orders_laws.specs.Steps.{IsSettledState};
 ghost use Rattle.lrc_orders_ends.specs.Ends.{CannotEnd};
 ghost use Rattle.lrc_orders_ends.specs.BySteps.{EndsBySteps, EveryStateEnds};

@@ -7,7 +7,7 @@ use Rattle.lrc_trace.specs.declared.act.Deed.{Deed}
 use Rattle.lrc_trace.specs.Run.{act_of}
 use Rattle.lrc_exec.specs.Meaning.{Thread, next_of}
 use Rattle.lrc_exec.specs.Plain.{Plain, thread_in, plain_step}
-use Rattle.lrc_consistency_laws.specs.Follows.{deeds_of}
+use Rattle.lrc_exec.specs.Follows.{deeds_of}
 use Rattle.lrc_consistency_laws.proofs.Runs.{deeds_of-own, deeds_of-other}
 use Rattle.lrc_orders_laws.specs.Free.{is_free, is_free_in, Turns, TurnsIn}
 use Rattle.lrc_orders_laws.specs.Settling.{IsSettledAt, IsSettled, Settles, settled, settling}

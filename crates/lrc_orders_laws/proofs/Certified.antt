@@ -1,7 +1,7 @@
 -- States that have the settled start, and all that a step leads to from one of them, have every settled state.
 use Rattle.std.proofs.Common.{ℕ, List}
 use Rattle.std.specs.Prelude.{Contains}
-use Rattle.lrc_lang.specs.declared.program.Program.{Program}
+use Rattle.lrc_program.specs.declared.Program.{Program}
 use Rattle.lrc_trace.specs.declared.act.Act.{Act}
 use Rattle.lrc_exec.specs.Plain.{Plain}
 use Rattle.lrc_consistency_laws.specs.Racing.{HasNoRace}

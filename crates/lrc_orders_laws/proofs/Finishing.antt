@@ -10,7 +10,7 @@ use Rattle.lrc_trace.specs.declared.act.Deed.TheVariants.{Quiet, Print, Release,
 use Rattle.lrc_exec.specs.Meaning.{Thread, Next, quiet, prints, reads, writes, acquires, releases, arrives, departs, traps, ends, next_of, first_act}
 use Rattle.lrc_exec.specs.Plain.{Plain, thread_in, plain_from}
 use Rattle.lrc_exec.proofs.NextLaws.{IsFine, next_of-fine}
-use Rattle.lrc_consistency_laws.specs.Follows.{Goes, quietly, printing, reading, writing, acquiring, releasing, arriving, departing, trapping, ending}
+use Rattle.lrc_exec.specs.Follows.{Goes, quietly, printing, reading, writing, acquiring, releasing, arriving, departing, trapping, ending}
 use Rattle.lrc_consistency_laws.proofs.Runs.{CanDo}
 use Rattle.lrc_consistency_laws.proofs.Plainly.{stepwise}
 use Rattle.lrc_orders.proofs.Effects.{after_of}

@@ -8,7 +8,7 @@ use Rattle.lrc_trace.specs.declared.act.Deed.{Deed}
 use Rattle.lrc_trace.specs.Run.{act_of}
 use Rattle.lrc_exec.specs.Meaning.{Thread, Next}
 use Rattle.lrc_exec.specs.Plain.{Plain, thread_in, plain_step, plain_from}
-use Rattle.lrc_consistency_laws.specs.Follows.{Goes, quietly, printing, reading, writing, acquiring, releasing, arriving, departing, trapping, ending}
+use Rattle.lrc_exec.specs.Follows.{Goes, quietly, printing, reading, writing, acquiring, releasing, arriving, departing, trapping, ending}
 use Rattle.lrc_consistency_laws.proofs.Plainly.{stepwise, one_more}
 use Rattle.lrc_orders.specs.Meeting.{access_of, next_access_in, next_access, Meet}
 use Rattle.lrc_orders.specs.Stuck.{IsAtRest}

@@ -4,11 +4,11 @@ use Rattle.std.specs.Prelude.{Some, ◌↔◌}
 use Rattle.std.specs.List.{range_with_len}
 use Rattle.std.proofs.lemmas.Bool.{true≢false}
 use Rattle.std.proofs.lemmas.List.{map-append}
-use Rattle.lrc_lang.specs.declared.program.Program.{Program}
+use Rattle.lrc_program.specs.declared.Program.{Program}
 use Rattle.lrc_trace.specs.declared.act.Act.{Act}
 use Rattle.lrc_exec.specs.Plain.{Plain, plain_from, plain_start}
 use Rattle.lrc_exec.proofs.PlainLaws.{plain_from-nodes}
-use Rattle.lrc_consistency_laws.specs.Follows.{nodes_of_acts}
+use Rattle.lrc_exec.specs.Follows.{nodes_of_acts}
 use Rattle.lrc_consistency_laws.specs.Racing.{HasNoRace}
 use Rattle.lrc_consistency_laws.proofs.Plainly.{one_more, plain_from-joined}
 use Rattle.lrc_orders.specs.Meeting.{Meet, NeverMeets}

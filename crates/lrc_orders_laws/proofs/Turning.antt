@@ -10,7 +10,7 @@ use Rattle.lrc_trace.specs.declared.act.Deed.TheVariants.{Read}
 use Rattle.lrc_trace.specs.Run.{act_of}
 use Rattle.lrc_exec.specs.Meaning.{Thread, Next, quiet, prints, reads, writes, acquires, releases, arrives, departs, traps, ends, next_of}
 use Rattle.lrc_exec.specs.Plain.{Plain, thread_in, plain_step, plain_from, with_thread, deed_done}
-use Rattle.lrc_consistency_laws.specs.Follows.{Goes, quietly, printing, reading, writing, acquiring, releasing, arriving, departing, trapping, ending}
+use Rattle.lrc_exec.specs.Follows.{Goes, quietly, printing, reading, writing, acquiring, releasing, arriving, departing, trapping, ending}
 use Rattle.lrc_consistency_laws.proofs.Runs.{CanDo}
 use Rattle.lrc_consistency_laws.proofs.Plainly.{stepwise, one_more}
 use Rattle.lrc_orders.proofs.Effects.{after_of}

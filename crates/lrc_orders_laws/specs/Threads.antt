@@ -5,7 +5,7 @@ use Rattle.lrc_trace.specs.declared.act.Deed.{Deed}
 use Rattle.lrc_trace.specs.declared.act.Deed.TheVariants.{Release}
 use Rattle.lrc_exec.specs.Meaning.{Thread, next_of}
 use Rattle.lrc_exec.specs.Plain.{Plain, thread_in}
-use Rattle.lrc_consistency_laws.specs.Follows.{Goes, deeds_of}
+use Rattle.lrc_exec.specs.Follows.{Goes, deeds_of}
 use Rattle.lrc_orders_laws.specs.Free.{is_free, Turns}
 use Rattle.lrc_orders_laws.specs.Settling.{Settles}
 

@@ -1,12 +1,12 @@
 // What settled states have of a program. Each function is a theorem: its body is empty, and its clause is the law.
 
 ghost use Rattle.std.specs.Prelude.{◌≡◌, ◌≢◌, ℕ, ◌<◌, ◌↔◌, List, [], ◌∷◌, ◌++◌, Option, Some};
-ghost use Rattle.lrc_lang.specs.declared.program.Program.{Program};
+ghost use Rattle.lrc_program.specs.declared.Program.{Program};
 ghost use Rattle.lrc_trace.specs.declared.act.Act.{Act};
 ghost use Rattle.lrc_trace.specs.declared.act.Deed.{Deed};
 ghost use Rattle.lrc_exec.specs.Meaning.{Thread};
 ghost use Rattle.lrc_exec.specs.Plain.{Plain, thread_in, plain_step, plain_from, plain_start};
-ghost use Rattle.lrc_consistency_laws.specs.Follows.{deeds_of, nodes_of_acts};
+ghost use Rattle.lrc_exec.specs.Follows.{deeds_of, nodes_of_acts};
 ghost use Rattle.lrc_consistency_laws.specs.Racing.{HasNoRace};
 ghost use Rattle.lrc_orders.specs.Outcome.{IsOutcome};
 ghost use Rattle.lrc_orders.specs.Meeting.{Meet};

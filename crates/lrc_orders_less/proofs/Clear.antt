@@ -14,7 +14,7 @@ use Rattle.lrc_exec.specs.Plain.{thread_in}
 use Rattle.lrc_exec.specs.Spots.{thread_at}
 use Rattle.lrc_exec.specs.States.{plain_at}
 use Rattle.lrc_exec.proofs.Spots.{node_within, stands_at, thread_there}
-use Rattle.lrc_consistency_laws.specs.Follows.{Goes, quietly, printing, reading, writing, acquiring, releasing, arriving, departing, trapping, ending}
+use Rattle.lrc_exec.specs.Follows.{Goes, quietly, printing, reading, writing, acquiring, releasing, arriving, departing, trapping, ending}
 use Rattle.lrc_orders_laws.specs.Alike.{DoAlike}
 use Rattle.lrc_orders_laws.specs.Alike as alike
 use Rattle.lrc_orders_laws.specs.Free.{is_contended}

@@ -5,10 +5,10 @@ use Rattle.std.proofs.Math.ListN.{get_or-append}
 use Rattle.std.proofs.Math.Seq.{get_or-append_seam}
 use Rattle.std.proofs.lemmas.Bool.{cases_lt}
 use Rattle.std.proofs.lemmas.List.{get_or_default, length_push}
-use Rattle.lrc_lang.specs.declared.program.Expression.{Expression}
-use Rattle.lrc_lang.specs.declared.program.Statement.{Statement, Row_of-Statement, end_of-Statement, more_of-Statement}
-use Rattle.lrc_lang.specs.declared.program.Statement.TheBlock.{hidden-the_row-Statement-0}
-use Rattle.lrc_lang.specs.declared.program.Statement.TheVariants.{Assign, Read, Write, Acquire, Release, Barrier, Print, If', While', If, While}
+use Rattle.lrc_program.specs.declared.Expression.{Expression}
+use Rattle.lrc_program.specs.declared.Statement.{Statement, Row_of-Statement, end_of-Statement, more_of-Statement}
+use Rattle.lrc_program.specs.declared.Statement.TheBlock.{hidden-the_row-Statement-0}
+use Rattle.lrc_program.specs.declared.Statement.TheVariants.{Assign, Read, Write, Acquire, Release, Barrier, Print, If', While', If, While}
 use Rattle.lrc_exec.specs.declared.code.Instruction.{Instruction}
 use Rattle.lrc_exec.specs.Flat.{IsSoundFrom, rest_at}
 use Rattle.lrc_exec.specs.Meaning.{block}

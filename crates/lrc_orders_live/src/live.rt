@@ -6,7 +6,7 @@ ghost use Rattle.lrc_orders_laws.specs.Names.{matters, uses};
 ghost use Rattle.lrc_orders_live.specs.Live.{AreLive, AreNames, has, matters_among};
 
 use lrc_exec::code::Instruction;
-use lrc_lang::program::{Expression, Statement};
+use lrc_program::{Expression, Statement};
 use std::alloc::{AllocError, Global};
 
 /// Returns, for each place of the code, the names that matter there: the rest of the code may use their values before

@@ -8,7 +8,7 @@ use Rattle.lrc_exec.specs.declared.spot.Spot.{Spot}
 use Rattle.lrc_exec.specs.Flat.{rest_at}
 use Rattle.lrc_exec.specs.Meaning.{Thread, Next, departs, next_of}
 use Rattle.lrc_exec.specs.Spots.{spot_thread, thread_at}
-use Rattle.lrc_consistency_laws.specs.Follows.{Goes, quietly, printing, reading, writing, acquiring, releasing, arriving, departing, trapping, ending}
+use Rattle.lrc_exec.specs.Follows.{Goes, quietly, printing, reading, writing, acquiring, releasing, arriving, departing, trapping, ending}
 use Rattle.lrc_orders_reach.specs.declared.ahead.Follower.{Follower}
 use Rattle.lrc_orders_reach.specs.declared.standing.Standing.{Standing}
 use Rattle.lrc_orders_reach.specs.Standing.{ComesTo, there, on, HasSome, IsClosed, IsClosedAt, IsOpen, IsPart, IsReach, IsStep, Stands, StandsIn}

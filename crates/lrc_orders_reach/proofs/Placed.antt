@@ -3,7 +3,7 @@ use Rattle.std.proofs.Common.{◌≡◌, ℕ, ◌+◌, ◌-◌, ◌<◌, ◌⊎�
 use Rattle.std.specs.Prelude.{Option, Some, None}
 use Rattle.std.proofs.lemmas.List.{get_or_past}
 use Rattle.std.proofs.lemmas.Option.{slice_get-get_or}
-use Rattle.lrc_lang.specs.declared.program.Statement.{Statement}
+use Rattle.lrc_program.specs.declared.Statement.{Statement}
 use Rattle.lrc_trace.specs.declared.act.Deed.{Deed}
 use Rattle.lrc_exec.specs.declared.code.Instruction.{Instruction}
 use Rattle.lrc_exec.specs.declared.spot.Flat.{Flat}
@@ -11,7 +11,7 @@ use Rattle.lrc_exec.specs.Flat.{rest_at, rests_from, IsSoundAt, where_it_fails, 
 use Rattle.lrc_exec.specs.Meaning.{Thread, ends, first_act, next_of}
 use Rattle.lrc_exec.specs.Spots.{IsFlat}
 use Rattle.lrc_exec.proofs.Flat.{length-rests_from, rest_at-end, rest_at-instruction}
-use Rattle.lrc_consistency_laws.specs.Follows.{Goes}
+use Rattle.lrc_exec.specs.Follows.{Goes}
 use Rattle.lrc_ranges.specs.declared.range.Range.{Range}
 use Rattle.lrc_orders_reach.specs.declared.ahead.Ahead.{Ahead}
 use Rattle.lrc_orders_reach.specs.declared.ahead.Follower.{Follower}

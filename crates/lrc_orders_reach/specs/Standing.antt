@@ -1,6 +1,6 @@
 -- Threads that stand at places with values in ranges, and what comes of them.
 use Rattle.std.specs.Prelude.{◌≡◌, ◌⊎◌, ℕ, Bool, true, false, List, ◌∷◌, Option, Some, None, length, slice_get, slice_index_or}
-use Rattle.lrc_lang.specs.declared.program.Statement.{Statement}
+use Rattle.lrc_program.specs.declared.Statement.{Statement}
 use Rattle.lrc_trace.specs.declared.act.Deed.{Deed}
 use Rattle.lrc_trace.specs.declared.act.Deed.TheVariants.{Acquire, Depart}
 use Rattle.lrc_exec.specs.declared.spot.Flat.{Flat}
@@ -8,7 +8,7 @@ use Rattle.lrc_exec.specs.declared.spot.Spot.{Spot}
 use Rattle.lrc_exec.specs.Flat.{rest_at, where_it_holds, where_it_fails}
 use Rattle.lrc_exec.specs.Meaning.{Setting, Thread, next_of}
 use Rattle.lrc_exec.specs.Spots.{spot_thread}
-use Rattle.lrc_consistency_laws.specs.Follows.{Goes}
+use Rattle.lrc_exec.specs.Follows.{Goes}
 use Rattle.lrc_ranges.specs.declared.range.Range.{Range}
 use Rattle.lrc_ranges.specs.Ranges.{AreIn}
 use Rattle.lrc_orders_reach.specs.Ahead.{AreInSome}

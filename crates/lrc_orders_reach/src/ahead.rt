@@ -1,8 +1,8 @@
 // What comes of a statement.
 
 ghost use Rattle.std.specs.Prelude.{◌≡◌, ◌<◌, ◌≤◌, ℕ, IfSome, None, true, false};
-ghost use Rattle.lrc_lang.specs.Sizes.{names_in_expression, names_in_statement};
-ghost use Rattle.lrc_lang.specs.Statements.{expression_of, statement_of};
+ghost use Rattle.lrc_program.specs.Sizes.{names_in_expression, names_in_statement};
+ghost use Rattle.lrc_program.specs.Statements.{expression_of, statement_of};
 ghost use Rattle.lrc_exec.specs.Spots.{IsFlat};
 ghost use Rattle.lrc_ranges.specs.Ranges.{IsIn, IsMet};
 ghost use Rattle.lrc_orders_reach.specs.Ahead.{Acquires, Assigns, IsAhead, IsBlocked, IsOn, IsOnWith, IsParted, IsPartWhere, ReadsAny};
@@ -10,7 +10,7 @@ ghost use Rattle.lrc_orders_reach.specs.Standing.{IsPut, IsStep};
 
 use crate::standing::Standing;
 use lrc_exec::spot::Flat;
-use lrc_lang::program::{Expression, Statement};
+use lrc_program::{Expression, Statement};
 use lrc_ranges::evaluate::range_of;
 use lrc_ranges::narrow::narrow;
 use lrc_ranges::range::Range;

@@ -7,7 +7,7 @@ ghost use Rattle.lrc_orders_reach.specs.Standing.{HasSome, IsClosed, IsClosedAt,
 use crate::ahead::{Follower, ahead_at};
 use crate::standing::Standing;
 use lrc_exec::spot::Spot;
-use lrc_lang::program::Statement;
+use lrc_program::Statement;
 use std::alloc::{AllocError, Global};
 
 // So many standings are kept apart; further ones are joined to those of their places.

@@ -16,7 +16,7 @@ use Rattle.lrc_exec.specs.Plain.{Plain, thread_in, plain_step, plain_from}
 use Rattle.lrc_exec.specs.Spots.{spot_thread}
 use Rattle.lrc_exec.proofs.PlainLaws.{plain_from-last}
 use Rattle.lrc_exec.proofs.RoundsLaws.{range-last}
-use Rattle.lrc_consistency_laws.specs.Follows.{departing}
+use Rattle.lrc_exec.specs.Follows.{departing}
 use Rattle.lrc_consistency_laws.proofs.Runs.{CanDo}
 use Rattle.lrc_exec.specs.declared.state.State.{State}
 use Rattle.lrc_exec.specs.States.{plain_at, IsStateOf}

@@ -9,7 +9,7 @@ use Rattle.lrc_exec.specs.Ask.{ask_of, deed_asked, done, answered}
 use Rattle.lrc_exec.specs.Meaning.{Thread, Next, quiet, prints, reads, writes, acquires, releases, arrives, departs, traps, ends, next_of}
 use Rattle.lrc_exec.specs.Spots.{thread_at, spot_thread}
 use Rattle.lrc_exec.proofs.NextLaws.{IsFine, next_of-fine}
-use Rattle.lrc_consistency_laws.specs.Follows.{Goes, quietly, printing, releasing, arriving, trapping, ending}
+use Rattle.lrc_exec.specs.Follows.{Goes, quietly, printing, releasing, arriving, trapping, ending}
 use Rattle.lrc_orders_laws.specs.Free.{is_free}
 use Rattle.lrc_orders_settling.specs.Settling.{is_free_ask, is_last_ask, is_barrier_ask}
 

@@ -11,7 +11,7 @@ use Rattle.lrc_exec.specs.Spots.{thread_at, spot_thread}
 use Rattle.lrc_exec.specs.Meaning.{Setting, Thread, Next}
 use Rattle.lrc_exec.specs.Plain.{Plain, thread_in}
 use Rattle.lrc_exec.proofs.NextLaws.{IsFine, next_of-fine}
-use Rattle.lrc_consistency_laws.specs.Follows.{Goes, quietly, printing, reading, writing, acquiring, releasing, arriving, departing, trapping, ending}
+use Rattle.lrc_exec.specs.Follows.{Goes, quietly, printing, reading, writing, acquiring, releasing, arriving, departing, trapping, ending}
 use Rattle.lrc_orders.proofs.Effects.{after_of, holders_after}
 use Rattle.lrc_orders_laws.specs.Free.{is_free_in, is_contended, TurnsIn}
 use Rattle.lrc_orders_laws.specs.Rows.{AreAlike}

@@ -9,7 +9,7 @@ use Rattle.lrc_exec.specs.declared.spot.Flat.{Flat}
 use Rattle.lrc_exec.specs.declared.spot.Spot.{Spot}
 use Rattle.lrc_exec.specs.Meaning.{Thread, Next, quiet, prints, reads, writes, acquires, releases, arrives, departs, traps, ends, next_of}
 use Rattle.lrc_exec.specs.Spots.{thread_at, spot_thread}
-use Rattle.lrc_consistency_laws.specs.Follows.{Goes, quietly, printing, reading, writing, acquiring, releasing, arriving, departing, trapping, ending}
+use Rattle.lrc_exec.specs.Follows.{Goes, quietly, printing, reading, writing, acquiring, releasing, arriving, departing, trapping, ending}
 use Rattle.lrc_orders_laws.specs.Free.{is_free, is_free_in, after_quiet, after_quiets, Turns, TurnsIn}
 use Rattle.lrc_orders_laws.specs.Threads.{ThreadSettles, stopped, waits, turns, goes}
 use Rattle.lrc_orders_laws.proofs.Rounds.{turns_before}

@@ -8,7 +8,7 @@ use Rattle.lrc_exec.specs.declared.spot.Flat.{Flat}
 use Rattle.lrc_exec.specs.declared.spot.Spot.{Spot}
 use Rattle.lrc_exec.specs.Meaning.{Thread, next_of}
 use Rattle.lrc_exec.specs.Spots.{thread_at, spot_thread}
-use Rattle.lrc_consistency_laws.specs.Follows.{Goes}
+use Rattle.lrc_exec.specs.Follows.{Goes}
 use Rattle.lrc_orders_laws.specs.Free.{is_free, is_free_in, TurnsIn}
 use Rattle.lrc_orders_laws.specs.Threads.{ThreadSettles}
 use Rattle.lrc_orders_settling.specs.declared.settling.Settling.{Settling}

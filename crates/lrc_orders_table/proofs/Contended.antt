@@ -14,7 +14,7 @@ use Rattle.lrc_exec.specs.Meaning.{Thread, Next, quiet, prints, reads, writes, a
 use Rattle.lrc_exec.specs.Plain.{Plain, plain_step, thread_in}
 use Rattle.lrc_exec.specs.Spots.{spot_thread, thread_at}
 use Rattle.lrc_exec.proofs.NextLaws.{IsFine, next_of-fine}
-use Rattle.lrc_consistency_laws.specs.Follows.{Goes, reading, writing, acquiring}
+use Rattle.lrc_exec.specs.Follows.{Goes, reading, writing, acquiring}
 use Rattle.lrc_consistency_laws.proofs.Runs.{CanDo}
 use Rattle.lrc_exec.specs.declared.state.State.{State}
 use Rattle.lrc_exec.specs.States.{plain_at}

@@ -6,7 +6,7 @@ use Rattle.lrc_trace.specs.declared.act.Deed.{Deed}
 use Rattle.lrc_trace.specs.declared.act.Deed.TheVariants.{Quiet, Print, Read, Write, Acquire, Release, Arrive, Depart, Trap, End}
 use Rattle.lrc_exec.specs.Meaning.{Thread, Next, reads, writes, acquires, next_of}
 use Rattle.lrc_exec.specs.Plain.{Plain, plain_step}
-use Rattle.lrc_consistency_laws.specs.Follows.{Goes, quietly, printing, reading, writing, acquiring, releasing, arriving, departing, trapping, ending}
+use Rattle.lrc_exec.specs.Follows.{Goes, quietly, printing, reading, writing, acquiring, releasing, arriving, departing, trapping, ending}
 use Rattle.lrc_consistency_laws.proofs.Runs.{CanDo}
 use Rattle.lrc_orders.proofs.Effects.{after_of, memory_after, holders_after, arrivals_after, memory_other, holders_other}
 use Rattle.lrc_orders_laws.specs.Free.{is_contended}

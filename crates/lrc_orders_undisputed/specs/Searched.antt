@@ -1,11 +1,11 @@
 -- States of which a search that makes undisputed acts at once says that they are enough.
 use Rattle.std.specs.Prelude.{◌≡◌, ◌⊎◌, ℕ, List, [], ◌∷◌, ◌++◌, Some, Contains}
-use Rattle.lrc_lang.specs.declared.program.Program.{Program}
+use Rattle.lrc_program.specs.declared.Program.{Program}
 use Rattle.lrc_trace.specs.declared.act.Act.{Act}
 use Rattle.lrc_trace.specs.declared.act.Deed.{Deed}
 use Rattle.lrc_trace.specs.Run.{act_of}
 use Rattle.lrc_exec.specs.Plain.{Plain, plain_step, plain_from, plain_start}
-use Rattle.lrc_consistency_laws.specs.Follows.{nodes_of_acts}
+use Rattle.lrc_exec.specs.Follows.{nodes_of_acts}
 use Rattle.lrc_orders_undisputed.specs.Undisputed.{IsUndisputed}
 use Rattle.lrc_orders_undisputed.specs.Findings.{Finding, Shows, StandsFor}
 use Rattle.lrc_orders_undisputed.specs.Rounds.{ComesRound}

@@ -1,6 +1,6 @@
 -- A node's way, one act further.
 use Rattle.std.proofs.Common.{◌≡◌, ℕ, ◌+◌, ◌<◌, List, Option, length, get_or, refl, sym, ap, subst, ◌∙◌}
-use Rattle.lrc_lang.specs.declared.program.Program.{Program}
+use Rattle.lrc_program.specs.declared.Program.{Program}
 use Rattle.lrc_trace.specs.declared.act.Act.{Act}
 use Rattle.lrc_trace.proofs.Positions.{Does-node}
 use Rattle.lrc_exec.specs.Meaning.{Thread}

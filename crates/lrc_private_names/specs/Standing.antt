@@ -1,7 +1,7 @@
 -- Where a node stands before an act of a run, and which of its acts set a private name.
 use Rattle.std.specs.Prelude.{◌≡◌, ◌<◌, ◌&&◌, ℕ, Bool, true, false, List, [], ◌∷◌, Option, Some, None, if◌then◌else◌, length, slice_index_or, take}
-use Rattle.lrc_lang.specs.declared.program.Program.{Program}
-use Rattle.lrc_lang.specs.declared.program.Statement.{Statement}
+use Rattle.lrc_program.specs.declared.Program.{Program}
+use Rattle.lrc_program.specs.declared.Statement.{Statement}
 use Rattle.lrc_trace.specs.declared.act.Act.{Act}
 use Rattle.lrc_trace.specs.declared.act.Deed.{Deed}
 use Rattle.lrc_trace.specs.declared.act.Deed.TheVariants.{Arrive, Trap, End}

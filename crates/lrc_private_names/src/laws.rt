@@ -1,7 +1,7 @@
 // Laws of private names. Each function is a theorem: its body is empty, and its clauses are the law.
 
 ghost use Rattle.std.specs.Prelude.{◌≡◌, ◌+◌, ◌<◌, ◌≤◌, ℕ, List, length, slice_index};
-ghost use Rattle.lrc_lang.specs.declared.program.Program.{Program};
+ghost use Rattle.lrc_program.specs.declared.Program.{Program};
 ghost use Rattle.lrc_trace.specs.declared.act.Act.{Act};
 ghost use Rattle.lrc_private_names.specs.Standing.{Sets, SetsLast, thread_before};
 

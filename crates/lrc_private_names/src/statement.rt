@@ -3,7 +3,7 @@
 ghost use Rattle.std.specs.Prelude.{◌≡◌};
 ghost use Rattle.lrc_private_names.specs.Statement.{has_name, name_set, reads_name};
 
-use lrc_lang::program::{Expression, Statement};
+use lrc_program::{Expression, Statement};
 
 /// Returns whether the name occurs in an expression.
 fn has_name(expression: &Expression, name: u8) -> bool

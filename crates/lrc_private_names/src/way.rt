@@ -1,9 +1,9 @@
 // A node on its way through the text, and which of its acts set its private names.
 
 ghost use Rattle.std.specs.Prelude.{◌≡◌, ◌∷◌, ◌<◌, ◌≤◌, ℕ, [], IfOk, IfSome, List, MatchOption, None, length, slice_index_or};
-ghost use Rattle.lrc_lang.specs.Sizes.{names_in_statement};
-ghost use Rattle.lrc_lang.specs.Statements.{statement_of};
-ghost use Rattle.lrc_lang.specs.declared.program.Statement.{Statement as AnyStatement};
+ghost use Rattle.lrc_program.specs.Sizes.{names_in_statement};
+ghost use Rattle.lrc_program.specs.Statements.{statement_of};
+ghost use Rattle.lrc_program.specs.declared.Statement.{Statement as AnyStatement};
 ghost use Rattle.lrc_exec.specs.Plain.{start_of};
 ghost use Rattle.lrc_lines.specs.Walks.{goes_on, value_given};
 ghost use Rattle.lrc_private_names.specs.Standing.{completes, first_set, passes, set_by};
@@ -13,7 +13,7 @@ use crate::statement::name_set;
 use lrc_exec::code::Code;
 use lrc_exec::machine::Ask;
 use lrc_exec::spot::{Flat, Spot};
-use lrc_lang::program::Statement;
+use lrc_program::Statement;
 use lrc_trace::act::{Act, Deed};
 use std::alloc::{AllocError, Global};
 

@@ -11,7 +11,7 @@ use Rattle.lrc_envelope.specs.declared.message.Message.TheVariants.{ChangesReque
 use Rattle.lrc_lock.specs.Held.{LockStep, refuses, stays as stays_here, passes, forwarded, lock_at, is_free}
 use Rattle.lrc_barrier.specs.Barrier.{ManagerRecord, ArriveStep, refuses as refuses_arrival, waits, departs as all_depart, arrived, CleanStep}
 use Rattle.lrc_barrier.specs.Barrier.{refuses_clean, awaits, discards, cleaned}
-use Rattle.lrc_consistency_laws.specs.Follows.{Goes, quietly, printing, reading, writing, acquiring, releasing, arriving, departing, trapping, ending}
+use Rattle.lrc_exec.specs.Follows.{Goes, quietly, printing, reading, writing, acquiring, releasing, arriving, departing, trapping, ending}
 use Rattle.lrc_protocol.specs.Times.{MOST_NUMBER}
 use Rattle.lrc_protocol.specs.Pages.{is_readable, copy_at, Need, need_of, is_met, changes_came, page_came, with_part}
 use Rattle.lrc_protocol.specs.Barriers.{arrival_in, kept_pages, with_keepers, base_at, Collection}

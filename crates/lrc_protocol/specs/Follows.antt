@@ -2,12 +2,12 @@
 -- messages; and of the logs of all nodes.
 use Rattle.std.specs.Prelude.{ℕ, ◌==◌, Bool, Option, Some, None, List, [], ◌∷◌, ◌++◌, option_map, map, filter, filter_map, flat_map, fold}
 use Rattle.std.specs.Prelude.{false, is_some, not, slice_get, slice_index_or, unwrap_or}
-use Rattle.lrc_lang.specs.declared.program.Program.{Program}
+use Rattle.lrc_program.specs.declared.Program.{Program}
 use Rattle.lrc_trace.specs.declared.act.Deed.{Deed}
 use Rattle.lrc_exec.specs.Meaning.{Thread, next_of}
 use Rattle.lrc_envelope.specs.Envelope.{EnvelopeRecord}
 use Rattle.lrc_envelope.specs.declared.message.Message.{Message}
-use Rattle.lrc_consistency_laws.specs.Follows.{Goes}
+use Rattle.lrc_exec.specs.Follows.{Goes}
 use Rattle.lrc_protocol.specs.Node.{collection_of, Course, ended, fresh_node, going, Node, OptionsRecord, trapped, Wait}
 use Rattle.lrc_protocol.specs.Turn.{done, is_repeat, not_ready, Outcome, takes, TurnRecord, unexpected, worn}
 use Rattle.lrc_protocol.specs.Run.{EntryRecord, Flying, Input, outcome_of, World}

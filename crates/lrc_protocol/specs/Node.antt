@@ -2,8 +2,8 @@
 use Rattle.std.specs.Prelude.{[], ℕ, ◌+◌, ◌==◌, ◌∷◌, Bool, false, if◌then◌else◌, List, nat_le, nat_lt, None, Option}
 use Rattle.std.specs.Prelude.{option_map, replicate, slice_index, slice_index_or, slice_set, Some, true}
 use Rattle.std.specs.List.{list_any}
-use Rattle.lrc_lang.specs.declared.program.Program.{Program}
-use Rattle.lrc_lang.specs.declared.program.Statement.{Statement}
+use Rattle.lrc_program.specs.declared.Program.{Program}
+use Rattle.lrc_program.specs.declared.Statement.{Statement}
 use Rattle.lrc_trace.specs.declared.act.Cause.{Cause}
 use Rattle.lrc_trace.specs.declared.act.Deed.{Deed}
 use Rattle.lrc_trace.specs.declared.act.Deed.TheVariants.{Depart}

@@ -2,12 +2,12 @@
 
 ghost use Rattle.std.specs.Prelude.{◌≡◌, ◌≢◌, ℕ, ◌<◌, true, false, List, length, map, Some, None, slice_get, slice_index};
 ghost use Rattle.std.specs.List.{range_with_len};
-ghost use Rattle.lrc_lang.specs.declared.program.Program.{Program};
+ghost use Rattle.lrc_program.specs.declared.Program.{Program};
 ghost use Rattle.lrc_trace.specs.declared.act.Cause.{Cause};
 ghost use Rattle.lrc_exec.specs.Meaning.{Thread, ends, next_of};
 ghost use Rattle.lrc_exec.specs.Plain.{start_of};
 ghost use Rattle.lrc_envelope.specs.Envelope.{EnvelopeRecord};
-ghost use Rattle.lrc_consistency_laws.specs.Follows.{deeds_of, FollowsText};
+ghost use Rattle.lrc_exec.specs.Follows.{deeds_of, FollowsText};
 ghost use Rattle.lrc_protocol.specs.declared.event.Event.{Event};
 ghost use Rattle.lrc_protocol.specs.declared.event.Event.TheVariants.{Run, Deliver, Repeat};
 ghost use Rattle.lrc_protocol.specs.Node.{going, trapped, ended, is_idle, Node, OptionsRecord};

@@ -2,7 +2,7 @@
 // the law.
 
 ghost use Rattle.std.specs.Prelude.{◌≡◌, ◌<◌, ◌^◌, ◌↔◌, ◌++◌, ℕ, Bool, List, length};
-ghost use Rattle.lrc_lang.specs.declared.program.Program.{Program};
+ghost use Rattle.lrc_program.specs.declared.Program.{Program};
 ghost use Rattle.lrc_trace.specs.declared.act.Act.{Act};
 ghost use Rattle.lrc_acts_text.specs.ActsText.{acts_text};
 ghost use Rattle.lrc_acts_text.specs.Rapid.{rapid_of, rapid_text};

@@ -1,14 +1,14 @@
 // Ranges of the values of expressions.
 
 ghost use Rattle.std.specs.Prelude.{◌≡◌, ◌≤◌, ℕ, List, Some};
-ghost use Rattle.lrc_lang.specs.Sizes.{names_in_expression};
-ghost use Rattle.lrc_lang.specs.Statements.{expression_of};
+ghost use Rattle.lrc_program.specs.Sizes.{names_in_expression};
+ghost use Rattle.lrc_program.specs.Statements.{expression_of};
 ghost use Rattle.lrc_exec.specs.Meaning.{value_of};
 ghost use Rattle.lrc_ranges.specs.Ranges.{AreIn, IsIn};
 
 use crate::operate::applied;
 use crate::range::Range;
-use lrc_lang::program::Expression;
+use lrc_program::Expression;
 
 /// Returns a range that has each value that the expression can have on node `me` of `nodes`, if the 32 private names
 /// have values in these ranges.

@@ -1,16 +1,16 @@
 // What is left of the ranges of names where a condition holds, and where it fails.
 
 ghost use Rattle.std.specs.Prelude.{◌≡◌, ◌≢◌, ◌<◌, ◌≤◌, ◌↔◌, ℕ, List, Some, IfSome, IsTrue, slice_index};
-ghost use Rattle.lrc_lang.specs.declared.program.Operator.TheVariants.{Multiply};
-ghost use Rattle.lrc_lang.specs.Sizes.{names_in_expression};
-ghost use Rattle.lrc_lang.specs.Statements.{expression_of};
+ghost use Rattle.lrc_program.specs.declared.Operator.TheVariants.{Multiply};
+ghost use Rattle.lrc_program.specs.Sizes.{names_in_expression};
+ghost use Rattle.lrc_program.specs.Statements.{expression_of};
 ghost use Rattle.lrc_exec.specs.Meaning.{operated, value_of};
 ghost use Rattle.lrc_ranges.specs.Ranges.{AreIn, IsIn, IsMet};
 ghost use Rattle.lrc_ranges.specs.Relations.{Relates};
 
 use crate::evaluate::range_of;
 use crate::range::Range;
-use lrc_lang::program::{Expression, Operator};
+use lrc_program::{Expression, Operator};
 
 /// What two values that are compared are to one another.
 #[derive(Clone, Copy, PartialEq, Eq)]

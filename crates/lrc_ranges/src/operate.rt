@@ -5,7 +5,7 @@ ghost use Rattle.lrc_exec.specs.Meaning.{operated, one_if};
 ghost use Rattle.lrc_ranges.specs.Ranges.{IsIn};
 
 use crate::range::Range;
-use lrc_lang::program::Operator;
+use lrc_program::Operator;
 
 /// Returns a range that has what the operator gives of each value of the one range and each value of the other.
 pub fn applied(operator: Operator, x: Range, y: Range) -> Range

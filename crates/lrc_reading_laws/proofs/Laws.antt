@@ -2,7 +2,7 @@
 use Rattle.std.proofs.Common.{◌≡◌, ℕ, List, [], ◌∷◌}
 use Rattle.std.specs.Prelude.{◌==◌, true, Some, None, slice_get, Contains, if◌then◌else◌}
 use Rattle.std.specs.List.{list_any}
-use Rattle.lrc_lang.specs.declared.program.Program.{Program}
+use Rattle.lrc_program.specs.declared.Program.{Program}
 use Rattle.lrc_trace.specs.Reading.{ReadsLazily}
 use Rattle.lrc_page.specs.Page.{words_of}
 use Rattle.lrc_time.specs.Time.{Covers}

@@ -1,6 +1,6 @@
 -- The laws of all groups together: every run reads lazily, and the closed intervals are what the acts made.
 use Rattle.std.proofs.Common.{ℕ, List}
-use Rattle.lrc_lang.specs.declared.program.Program.{Program}
+use Rattle.lrc_program.specs.declared.Program.{Program}
 use Rattle.lrc_store.specs.Store.{StoredRecord}
 use Rattle.lrc_protocol.specs.Node.{OptionsRecord}
 use Rattle.lrc_protocol.specs.Run.{World}

@@ -1,7 +1,7 @@
 // What messages of barriers bring, in every run. Each function is a theorem: its body is empty, and its clauses are the law.
 
 ghost use Rattle.std.specs.Prelude.{◌≡◌, ℕ, List, Some, true, Contains, slice_get};
-ghost use Rattle.lrc_lang.specs.declared.program.Program.{Program};
+ghost use Rattle.lrc_program.specs.declared.Program.{Program};
 ghost use Rattle.lrc_envelope.specs.Envelope.{EnvelopeRecord};
 ghost use Rattle.lrc_envelope.specs.Records.{ArriveRecord, DepartRecord};
 ghost use Rattle.lrc_envelope.specs.declared.message.Message.TheVariants.{Arrive, Depart};

@@ -2,7 +2,7 @@
 // the law.
 
 ghost use Rattle.std.specs.Prelude.{◌≡◌, ◌↔◌, ℕ, List, Some, Contains};
-ghost use Rattle.lrc_lang.specs.declared.program.Program.{Program};
+ghost use Rattle.lrc_program.specs.declared.Program.{Program};
 ghost use Rattle.lrc_trace.specs.declared.race.Race.{Race};
 ghost use Rattle.lrc_trace.specs.Interval.{IsNamedRace};
 ghost use Rattle.lrc_trace.specs.Trace.{TraceRecord};

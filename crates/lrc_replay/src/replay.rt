@@ -10,7 +10,8 @@ ghost use Rattle.lrc_replay.specs.Replays.{Answers, AnswersAt, IsMade, IsReplay,
 
 use lrc_envelope::Envelope;
 use lrc_exec::code::Code;
-use lrc_node::{Node, NodeFault, NodeState, Options, Turn};
+use lrc_log::Turn;
+use lrc_node::{Node, NodeFault, NodeState, Options};
 use lrc_protocol::Event;
 use std::alloc::{AllocError, Global};
 use std::collections::VecDeque;

@@ -1,6 +1,6 @@
 -- Where a run on threads stopped, and what its nodes had done by then.
 use Rattle.std.specs.Prelude.{◌≡◌, ◌<◌, ◌^◌, ◌⊎◌, ℕ, false, Option, Some, None, List, length, slice_get}
-use Rattle.lrc_lang.specs.declared.program.Program.{Program}
+use Rattle.lrc_program.specs.declared.Program.{Program}
 use Rattle.lrc_envelope.specs.declared.picker.Picker.{Picker}
 use Rattle.lrc_exec.specs.Nodes.{AreNodes}
 use Rattle.lrc_post.specs.Mailbox.{MailboxRecord}

@@ -1,6 +1,6 @@
 -- What a run of nodes on threads answers.
 use Rattle.std.specs.Prelude.{◌≡◌, ℕ, ◌⊎◌, Bool, false, true, Some, List, All, Any, length}
-use Rattle.lrc_lang.specs.declared.program.Program.{Program}
+use Rattle.lrc_program.specs.declared.Program.{Program}
 use Rattle.lrc_trace.specs.Trace.{TraceRecord}
 use Rattle.lrc_judge.specs.Races.{AreNamedRaces}
 use Rattle.lrc_envelope.specs.declared.picker.Picker.{Picker}

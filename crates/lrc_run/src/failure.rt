@@ -3,7 +3,7 @@
 ghost use Rattle.std.specs.Prelude.{◌≡◌, ◌≤◌, ◌<◌, ◌^◌, Err, IfOk, MatchOption, None, OnOk, Some, count_by, length};
 ghost use Rattle.lrc_protocol.specs.Run.{turns_of_logs};
 ghost use Rattle.lrc_envelope.specs.declared.picker.Picker.{Picker as AnyPicker};
-ghost use Rattle.lrc_node.specs.Logged.{seen_input};
+ghost use Rattle.lrc_log.specs.Input.{seen_input};
 ghost use Rattle.lrc_node.specs.Options.{options_of};
 ghost use Rattle.lrc_threads.specs.Threads.{IsFirstFailure};
 ghost use Rattle.lrc_threads.specs.declared.stop.Stop.TheVariants as stops;
@@ -16,9 +16,9 @@ ghost use Rattle.lrc_run.specs.Unfinished.{input_of, is_take, next_taken, put_at
 use crate::halt::{Halt, Left, WornOut};
 use crate::sent::are_takes_sent;
 use bytes::Bytes;
-use lrc_lang::program::Program;
-use lrc_node::{Entry, Input};
+use lrc_log::{Entry, Input};
 use lrc_post::{Mailbox, Wire};
+use lrc_program::Program;
 use lrc_protocol::Event;
 use lrc_setting::setting::Setting;
 use lrc_threads::{Failure, Stop};

@@ -5,7 +5,7 @@ ghost use Rattle.lrc_run.specs.Halts.{fault_of};
 ghost use Rattle.lrc_run.specs.declared.halt.Halt.TheVariants as halts;
 
 use crate::fault::RunFault;
-use lrc_node::Entry;
+use lrc_log::Entry;
 use lrc_post::Wires;
 use lrc_protocol::Event;
 use lrc_threads::Stop;

@@ -8,7 +8,7 @@ ghost use Rattle.lrc_weave.specs.Sent.{AreTakesSent};
 ghost use Rattle.lrc_run.specs.Sources.{AreSentTo, HasSource, IsAmong, IsNextTo, IsSentIn, IsTakeSent};
 
 use lrc_envelope::Envelope;
-use lrc_node::{Entry, Input};
+use lrc_log::{Entry, Input};
 use lrc_wire::{EncodeFault, encode};
 use std::alloc::{AllocError, Global};
 

@@ -4,8 +4,8 @@ use Rattle.std.specs.Prelude.{slice_index}
 use Rattle.std.specs.List.{range_with_len}
 use Rattle.std.proofs.lemmas.List.{length-map}
 use Rattle.lrc_exec.specs.Flat.{statements_in}
-use Rattle.lrc_lang.specs.Tree.{ProgramTree, program_of}
-use Rattle.lrc_lang.specs.declared.program.Program.{Program}
+use Rattle.lrc_program.specs.Tree.{ProgramTree, program_of}
+use Rattle.lrc_program.specs.declared.Program.{Program}
 use Rattle.lrc_lang.proofs.Beginnings.{lines_same}
 use Rattle.lrc_lines.specs.Statements.{numbers_of}
 use Rattle.lrc_lines.proofs.Numbering.{lines_counted}

@@ -2,8 +2,8 @@
 use Rattle.std.specs.Prelude.{◌≡◌, ℕ, List}
 use Rattle.lrc_lang.specs.Faults.{IsText}
 use Rattle.lrc_lang.specs.Symbol.{Names}
-use Rattle.lrc_lang.specs.Tree.{program_of}
-use Rattle.lrc_lang.specs.declared.program.Program.{Program}
+use Rattle.lrc_program.specs.Tree.{program_of}
+use Rattle.lrc_program.specs.declared.Program.{Program}
 use Rattle.lrc_labels.specs.declared.cut.Divider.TheVariants.{LineFeed}
 use Rattle.lrc_labels.specs.Cut.{cut, divides}
 use Rattle.lrc_labels.specs.Reading.{Label, labels_of}

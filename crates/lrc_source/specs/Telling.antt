@@ -3,8 +3,8 @@ use Rattle.std.specs.Prelude.{◌≡◌, ◌==◌, ℕ, Bool, false, List, [], �
 use Rattle.std.specs.Str.{bytes_eq}
 use Rattle.lrc_lang.specs.Lines.{HasLines}
 use Rattle.lrc_lang.specs.Symbol.{Names}
-use Rattle.lrc_lang.specs.Tree.{program_of}
-use Rattle.lrc_lang.specs.declared.program.Program.{Program}
+use Rattle.lrc_program.specs.Tree.{program_of}
+use Rattle.lrc_program.specs.declared.Program.{Program}
 use Rattle.lrc_lines.specs.Statements.{numbers_of}
 use Rattle.lrc_named_core.specs.Tree.{Trap}
 use Rattle.lrc_named_core.specs.View.{trap_of}

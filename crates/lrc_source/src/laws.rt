@@ -1,7 +1,7 @@
 // Laws of sources. Each function is a theorem: its body is empty, and its clauses are the law.
 
 ghost use Rattle.std.specs.Prelude.{◌≡◌};
-ghost use Rattle.lrc_lang.specs.Tree.{program_of};
+ghost use Rattle.lrc_program.specs.Tree.{program_of};
 ghost use Rattle.lrc_source.specs.Sources.{IsSource, SourceRecord};
 
 /// A text has only one source: no other program, and no other lines, labels or names are of it.

@@ -4,8 +4,8 @@ ghost use Rattle.std.specs.Prelude.{◌≡◌, [], IfOk, map, option_map, slice_
 ghost use Rattle.std.specs.List.{range_with_len};
 ghost use Rattle.std.specs.Str.{bytes_eq};
 ghost use Rattle.lrc_lang.specs.Faults.{IsText};
-ghost use Rattle.lrc_lang.specs.Tree.{program_of};
-ghost use Rattle.lrc_lang.specs.declared.program.Program.{Program};
+ghost use Rattle.lrc_program.specs.Tree.{program_of};
+ghost use Rattle.lrc_program.specs.declared.Program.{Program};
 ghost use Rattle.lrc_named_core.specs.View.{trap_of};
 ghost use Rattle.lrc_named_held.specs.Held.{held_seen};
 ghost use Rattle.lrc_source.specs.Telling.{AreLines, as_translated, as_written, is_own, name_held, name_told, names_at, names_told, shown_text, traps_of};

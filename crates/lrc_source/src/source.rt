@@ -2,7 +2,7 @@
 
 ghost use Rattle.std.specs.Prelude.{◌≡◌, IfOk, map};
 ghost use Rattle.lrc_lang.specs.Faults.{IsText};
-ghost use Rattle.lrc_lang.specs.Tree.{program_of};
+ghost use Rattle.lrc_program.specs.Tree.{program_of};
 ghost use Rattle.lrc_labels.specs.Reading.{label_seen};
 ghost use Rattle.lrc_private_names.specs.Spelling.{AreNamesOf};
 ghost use Rattle.lrc_source.specs.Sources.{labels_in};
@@ -12,7 +12,7 @@ use crate::read_text::ReadText;
 use crate::text::SourceText;
 use lrc_exec::code::Code;
 use lrc_labels::label::Label;
-use lrc_lang::program::Program;
+use lrc_program::Program;
 use std::alloc::{AllocError, Global};
 use std::marker::Model;
 
@@ -27,7 +27,7 @@ pub struct Source<'s> {
 impl<'s> Model for Source<'s> {
     ghost use Rattle.std.specs.Prelude.{◌≡◌};
     ghost use Rattle.std.specs.Coded.{codes};
-    ghost use Rattle.lrc_lang.specs.contracts.program.Statement as statement;
+    ghost use Rattle.lrc_program.specs.contracts.Statement as statement;
     ghost use Rattle.lrc_source.specs.Sources.{SourceRecord};
 
     ghost Value = { SourceRecord };

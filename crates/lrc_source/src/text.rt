@@ -4,7 +4,7 @@ ghost use Rattle.std.specs.Prelude.{◌≡◌, ◌⊎◌, ℕ, IfErr, IfOk, Matc
 ghost use Rattle.lrc_lang.specs.declared.fault.FaultKind.{FaultKind as Kind};
 ghost use Rattle.lrc_lang.specs.Faults.{HasFirstFault, IsText};
 ghost use Rattle.lrc_lang.specs.Parser.SeenParser.{IsOutOfMemory};
-ghost use Rattle.lrc_lang.specs.Tree.{ProgramTree, program_of};
+ghost use Rattle.lrc_program.specs.Tree.{ProgramTree, program_of};
 ghost use Rattle.lrc_labels.specs.Reading.{label_seen};
 ghost use Rattle.lrc_private_names.specs.Spelling.{AreNamesOf};
 ghost use Rattle.lrc_source.specs.Sources.{IsSource, IsSourceOf, labels_in};
@@ -15,8 +15,8 @@ use lrc_labels::label::Label;
 use lrc_labels::read_labels;
 use lrc_lang::fault::{FaultKind, ParseFault};
 use lrc_lang::parse;
-use lrc_lang::program::Program;
 use lrc_private_names::names_of;
+use lrc_program::Program;
 use std::alloc::{AllocError, Global};
 use std::marker::Model;
 
@@ -34,7 +34,7 @@ pub struct SourceText<'t> {
 impl<'t> Model for SourceText<'t> {
     ghost use Rattle.std.specs.Prelude.{map};
     ghost use Rattle.std.specs.Coded.{codes};
-    ghost use Rattle.lrc_lang.specs.contracts.program.Statement as statement;
+    ghost use Rattle.lrc_program.specs.contracts.Statement as statement;
     ghost use Rattle.lrc_labels.specs.Reading.{label_seen};
     ghost use Rattle.lrc_source.specs.Sources.{IsSource, SourceRecord};
 

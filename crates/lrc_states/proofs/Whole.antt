@@ -4,7 +4,7 @@ use Rattle.std.specs.Prelude.{Err, fold, IfErr, IfOk, Ok, Result, Vec}
 use Rattle.std.specs.declared.alloc.Global.{Global}
 use Rattle.std.proofs.lemmas.List.{length-drop, take-append-drop, take_all}
 use Rattle.std.proofs.lemmas.List.Sums.{fold-append}
-use Rattle.lrc_lang.specs.declared.program.Program.{Program}
+use Rattle.lrc_program.specs.declared.Program.{Program}
 use Rattle.lrc_page.specs.declared.size.Size.{Size}
 use Rattle.lrc_labels.specs.Reading.{Label}
 use Rattle.lrc_protocol.specs.declared.event.Event.{Event}

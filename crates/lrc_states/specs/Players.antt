@@ -12,7 +12,7 @@ use Rattle.lrc_states.specs.declared.player.Player.{Player}
 use Rattle.lrc_replay.specs.Acts.{Plan}
 use Rattle.lrc_replay.specs.Courses.{IsCourse, plan_of}
 use Rattle.lrc_states.specs.Objects.{message_object, truth_text}
-use Rattle.lrc_lang.specs.declared.program.Program.{Program}
+use Rattle.lrc_program.specs.declared.Program.{Program}
 use Rattle.lrc_lang.specs.Symbol.{Names}
 use Rattle.lrc_labels.specs.Reading.{Label}
 use Rattle.lrc_source.specs.Telling.{AreLines}

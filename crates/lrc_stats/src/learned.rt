@@ -9,7 +9,7 @@ ghost use Rattle.lrc_stats.specs.Seen.{HasSeen};
 use crate::seen::Seen;
 use crate::turns::add;
 use lrc_envelope::Message;
-use lrc_node::{Entry, Input};
+use lrc_log::{Entry, Input};
 use lrc_store::Interval;
 use std::alloc::{AllocError, Global};
 

@@ -7,7 +7,7 @@ ghost use Rattle.lrc_stats.specs.Sent.{bytes_in, is_wanted, sent_by_turn, sent_m
 
 use crate::turns::add;
 use lrc_envelope::Envelope;
-use lrc_node::Entry;
+use lrc_log::Entry;
 use lrc_wire::{EncodeFault, MessageKind, encode};
 use std::alloc::{AllocError, Global};
 

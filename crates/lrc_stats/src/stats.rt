@@ -13,7 +13,7 @@ use crate::learned::{Learned, collections, learned_by_all};
 use crate::sent::{Sent, Wanted, sent_messages, total_of};
 use crate::turns::{misses, turns_made, turns_making};
 use lrc_messages::kind_name;
-use lrc_node::Entry;
+use lrc_log::Entry;
 use lrc_text::push_number;
 use lrc_wire::MessageKind;
 use std::alloc::{AllocError, Global};

@@ -7,7 +7,7 @@ ghost use Rattle.lrc_stats.specs.Turns.{asks_for_page, is_miss, makes_of_kind, t
 
 use crate::deed_kind::DeedKind;
 use lrc_envelope::{Envelope, Message};
-use lrc_node::{Entry, Input};
+use lrc_log::{Entry, Input};
 use std::alloc::AllocError;
 
 /// Adds two counts. Fails if the sum does not fit into 64 bits: there is no memory for that many things.

@@ -1,6 +1,6 @@
 -- The lines of reasons.
 use Rattle.std.specs.Prelude.{◌≡◌, ℕ, List, [], None, Some, slice_get, slice_index_or}
-use Rattle.lrc_lang.specs.declared.program.Program.{Program}
+use Rattle.lrc_program.specs.declared.Program.{Program}
 use Rattle.lrc_trace.specs.declared.act.Act.{Act}
 use Rattle.lrc_page.specs.declared.size.Size.{Size}
 use Rattle.lrc_why_chains.specs.Writes.{AreExactly}

@@ -1,7 +1,7 @@
 // Flat code that threads share.
 
 ghost use Rattle.std.specs.Prelude.{◌≡◌};
-ghost use Rattle.lrc_lang.specs.declared.program.Program.{Program as AnyProgram};
+ghost use Rattle.lrc_program.specs.declared.Program.{Program as AnyProgram};
 
 use lrc_exec::code::Code;
 

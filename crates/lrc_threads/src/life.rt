@@ -6,7 +6,7 @@ ghost use Rattle.lrc_protocol.specs.Run.{turns_of_logs};
 ghost use Rattle.lrc_threads.specs.Threads.{HaveNoFailure, IsFirstFailure};
 
 use crate::stop::Stop;
-use lrc_node::Entry;
+use lrc_log::Entry;
 use lrc_trace::trace::Trace;
 use std::alloc::{AllocError, Global};
 

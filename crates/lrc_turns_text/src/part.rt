@@ -8,7 +8,7 @@ ghost use Rattle.lrc_turns_text.specs.TurnsText.{messages_text, text_behind, tex
 
 use crate::told::Told;
 use crate::turn::push_turn;
-use lrc_node::Entry;
+use lrc_log::Entry;
 use std::alloc::{AllocError, Global};
 
 /// Returns the turn at a place of a node's log, or none if the log has no such turn.

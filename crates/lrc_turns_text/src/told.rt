@@ -1,13 +1,13 @@
 // What is known of the turns that were told.
 
 ghost use Rattle.std.specs.Prelude.{◌≡◌, ℕ, ◌+◌, ◌<◌, ◌≤◌, ◌||◌, [], ◌∷◌, ◌++◌, cond, is_some, IfOk, List, OnOk, slice_index};
-ghost use Rattle.lrc_node.specs.Logged.{seen_input};
+ghost use Rattle.lrc_log.specs.Input.{seen_input};
 ghost use Rattle.lrc_turns_text.specs.Told.{Tells, holds_input, holds_key};
 ghost use Rattle.lrc_turns_text.specs.Turns.{Made};
 ghost use Rattle.lrc_turns_text.specs.TurnsText.{took_before, takes_numbered};
 
 use lrc_envelope::Envelope;
-use lrc_node::{Entry, Input};
+use lrc_log::{Entry, Input};
 use std::alloc::{AllocError, Global};
 use std::collections::HashSet;
 

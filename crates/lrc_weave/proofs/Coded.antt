@@ -10,7 +10,7 @@ use Rattle.lrc_protocol.specs.Follows.{log_of, come_of}
 use Rattle.lrc_weave.specs.Next.{stamp_of, IsNextOf}
 use Rattle.lrc_protocol.specs.declared.event.Event.{Event}
 use Rattle.lrc_weave.specs.declared.events.MessageName.{MessageName}
-use Rattle.lrc_lang.specs.declared.program.Program.{Program}
+use Rattle.lrc_program.specs.declared.Program.{Program}
 use Rattle.lrc_protocol.specs.Node.{OptionsRecord}
 use Rattle.lrc_weave.specs.Logs.{AreLogs}
 use Rattle.lrc_weave.specs.Sent.{AreTakesSent}

@@ -1,6 +1,6 @@
 -- Logs of nodes, and the messages that they tell of.
 use Rattle.std.specs.Prelude.{◌≡◌, ℕ, ◌==◌, Some, List, [], ◌∷◌, length, filter, flat_map, slice_get}
-use Rattle.lrc_lang.specs.declared.program.Program.{Program}
+use Rattle.lrc_program.specs.declared.Program.{Program}
 use Rattle.lrc_protocol.specs.Node.{OptionsRecord, fresh_node}
 use Rattle.lrc_protocol.specs.Run.{Input, run, taken, EntryRecord, Logged, logged, logs, Flying, sent_by}
 

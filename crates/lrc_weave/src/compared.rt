@@ -11,7 +11,7 @@ use crate::lines::Lines;
 use crate::putting::all_puts;
 use crate::spelled::Speller;
 use crate::takes::are_takes;
-use lrc_node::Entry;
+use lrc_log::Entry;
 use lrc_post::{Mailbox, Wire};
 use std::alloc::{AllocError, Global};
 

@@ -1,7 +1,7 @@
 // The events that make the turns of logs.
 
 ghost use Rattle.std.specs.Prelude.{◌≡◌, ◌<◌, ◌≤◌, ◌++◌, Err, IfOk, OnOk, length, map, position};
-ghost use Rattle.lrc_node.specs.Logged.{seen_input};
+ghost use Rattle.lrc_log.specs.Input.{seen_input};
 ghost use Rattle.lrc_protocol.specs.Run.{taken};
 ghost use Rattle.lrc_weave.specs.declared.fault.WeaveFault.TheVariants.{Mismatch};
 ghost use Rattle.lrc_weave.specs.Again.{AreAgain};
@@ -9,7 +9,7 @@ ghost use Rattle.lrc_weave.specs.Events.{has_name, message_name, IsMadeByEvent, 
 
 use crate::fault::WeaveFault;
 use lrc_envelope::Envelope;
-use lrc_node::{Entry, Input};
+use lrc_log::{Entry, Input};
 use lrc_protocol::Event;
 use std::alloc::AllocError;
 

@@ -9,7 +9,7 @@ ghost use Rattle.lrc_weave.specs.Matched.{message_of, sent_as};
 use crate::putting::PutsByNode;
 use crate::spelled::Speller;
 use lrc_envelope::Envelope;
-use lrc_node::Entry;
+use lrc_log::Entry;
 use lrc_post::Wire;
 use std::alloc::{AllocError, Global};
 

@@ -3,7 +3,7 @@
 ghost use Rattle.std.specs.Prelude.{◌≡◌, IfOk, map, option_map, slice_get};
 ghost use Rattle.lrc_weave.specs.Next.{IsFirst, earlier_of, stamp_of};
 
-use lrc_node::Entry;
+use lrc_log::Entry;
 use std::alloc::{AllocError, Global};
 use std::marker::Model;
 

@@ -2,12 +2,12 @@
 
 ghost use Rattle.std.specs.Prelude.{◌≡◌, ◌++◌, ◌∷◌, ◌↔◌, [], IsTrue, length, position};
 ghost use Rattle.lrc_protocol.specs.Run.{turns_of_logs};
-ghost use Rattle.lrc_node.specs.Logged.{seen_input};
+ghost use Rattle.lrc_log.specs.Input.{seen_input};
 ghost use Rattle.lrc_weave.specs.Compared.{AreAllOwn, AreOwn, AreOwnNext, IsNextOwn};
 ghost use Rattle.lrc_weave.specs.Matched.{is_own, is_put, own_in, own_puts, own_takes};
 
 use lrc_envelope::Envelope;
-use lrc_node::{Entry, Input};
+use lrc_log::{Entry, Input};
 use lrc_post::{Mailbox, Wire};
 
 /// Returns whether each mailbox holds the owner's takes and its puts to itself in the order in which its turns made

@@ -8,7 +8,7 @@ ghost use Rattle.lrc_weave.specs.Matched.{Takes, message_of, takes_in};
 use crate::history::next_take;
 use crate::spelled::Speller;
 use lrc_envelope::Envelope;
-use lrc_node::{Entry, Input};
+use lrc_log::{Entry, Input};
 use lrc_post::Wire;
 use std::alloc::AllocError;
 

@@ -1,8 +1,8 @@
 // The weave of logs.
 
 ghost use Rattle.std.specs.Prelude.{◌≡◌, ◌≤◌, ◌<◌, ◌+◌, ℕ, List, Err, IfOk, OnOk, length, map};
-ghost use Rattle.lrc_lang.specs.declared.program.Program.{Program};
-ghost use Rattle.lrc_node.specs.Logged.{seen_input};
+ghost use Rattle.lrc_program.specs.declared.Program.{Program};
+ghost use Rattle.lrc_log.specs.Input.{seen_input};
 ghost use Rattle.lrc_protocol.specs.Node.{OptionsRecord};
 ghost use Rattle.lrc_protocol.specs.Run.{Flying, turns_of_logs};
 ghost use Rattle.lrc_weave.specs.declared.fault.WeaveFault.TheVariants.{Mismatch};
@@ -20,7 +20,7 @@ use crate::events::{MessageName, event_of, turn};
 use crate::fault::WeaveFault;
 use crate::order::{first_stamps, next_turn, stamp_at};
 use crate::owner::are_all_own;
-use lrc_node::{Entry, Input};
+use lrc_log::{Entry, Input};
 use lrc_post::Mailbox;
 use lrc_protocol::Event;
 use lrc_trace::act::Act;

@@ -1,7 +1,7 @@
 -- What `why` prints of the acts of a run.
 use Rattle.std.specs.Prelude.{◌≡◌, ◌≢◌, ℕ, IfSome, List, [], Option, Some, None, length, map, slice_index, slice_index_or}
 use Rattle.lrc_lang.specs.Symbol.{Names}
-use Rattle.lrc_lang.specs.declared.program.Program.{Program}
+use Rattle.lrc_program.specs.declared.Program.{Program}
 use Rattle.lrc_trace.specs.declared.act.Act.{Act}
 use Rattle.lrc_page.specs.declared.size.Size.{Size}
 use Rattle.lrc_page.specs.Page.{words_of}

@@ -3,15 +3,15 @@
 ghost use Rattle.std.specs.Prelude.{◌≡◌, ◌++◌, ◌≤◌, ◌<◌, OnOk, length, map, ok_or, slice_index};
 ghost use Rattle.lrc_exec.specs.Condition.{condition_holds};
 ghost use Rattle.lrc_exec.specs.Meaning.{value_in};
-ghost use Rattle.lrc_lang.specs.Sizes.{names_in_expression, names_in_statement};
-ghost use Rattle.lrc_lang.specs.Statements.{expression_of, statement_of};
+ghost use Rattle.lrc_program.specs.Sizes.{names_in_expression, names_in_statement};
+ghost use Rattle.lrc_program.specs.Statements.{expression_of, statement_of};
 ghost use Rattle.lrc_why_run.specs.Private.{condition_line, is_quiet, is_text, name_line, name_text, names_text, private_text, quiet_text, set_text, sets_line, statement_text, unseen_text};
 ghost use Rattle.lrc_private_names.specs.Ways.{IsOnWay, thread_of};
 
 use lrc_exec::machine::Machine;
 use lrc_exec::value::evaluate;
-use lrc_lang::program::{Expression, Statement};
 use lrc_private_names::{Way, reads_name, spelling};
+use lrc_program::{Expression, Statement};
 use lrc_text::push_number;
 use lrc_trace::act::Deed;
 use lrc_why_lines::places::push_there;

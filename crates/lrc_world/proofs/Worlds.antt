@@ -2,7 +2,7 @@
 use Rattle.std.proofs.Common.{◌≡◌, ◌<◌, ◌≤◌, ℕ, List, [], ◌∷◌, false, Some, All, refl, sym, ap, subst, arith, length, map, ◌++◌, ◌+◌}
 use Rattle.std.specs.List.{list_any, range_with_len}
 use Rattle.lrc_lock.proofs.Starts.{made_more}
-use Rattle.lrc_lang.specs.declared.program.Program.{Program}
+use Rattle.lrc_program.specs.declared.Program.{Program}
 use Rattle.lrc_protocol.specs.Node.{Node, OptionsRecord, fresh_node}
 use Rattle.lrc_world.proofs.Kept.{unlogged}
 use Rattle.lrc_trace.specs.declared.act.Act.{Act}

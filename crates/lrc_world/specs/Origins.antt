@@ -2,7 +2,7 @@
 use Rattle.std.specs.Prelude.{◌≡◌, ℕ, ◌+◌, ◌++◌, ◌==◌, Bool, false, Option, Some, None, List, [], ◌∷◌, if◌then◌else◌, is_some, length, replicate, slice_get, take}
 use Rattle.std.specs.List.{count_by}
 use Rattle.std.specs.Option.{option_to_list}
-use Rattle.lrc_lang.specs.declared.program.Program.{Program}
+use Rattle.lrc_program.specs.declared.Program.{Program}
 use Rattle.lrc_trace.specs.declared.act.Act.{Act}
 use Rattle.lrc_clock.specs.Keeping.{KeepsTime}
 use Rattle.lrc_lines.specs.Statements.{act_statements}

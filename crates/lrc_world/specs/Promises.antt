@@ -1,12 +1,12 @@
 -- What every run promises.
 use Rattle.std.specs.Prelude.{◌≡◌, ℕ, false, Some, List}
-use Rattle.lrc_lang.specs.declared.program.Program.{Program}
+use Rattle.lrc_program.specs.declared.Program.{Program}
 use Rattle.lrc_trace.specs.declared.act.Act.{Act}
 use Rattle.lrc_trace.specs.Conflict.{IsRaceFree, IsFirstRace}
 use Rattle.lrc_trace.specs.Reading.{ReadsLazily}
 use Rattle.lrc_trace.specs.Synchronization.{IsWellSynchronized}
 use Rattle.lrc_exec.specs.Plain.{plain}
-use Rattle.lrc_consistency_laws.specs.Follows.{nodes_of_acts}
+use Rattle.lrc_exec.specs.Follows.{nodes_of_acts}
 use Rattle.lrc_consistency_laws.specs.Racing.{HasNoRace, PlainToRace}
 use Rattle.lrc_trace.specs.declared.end.End.{End}
 use Rattle.lrc_protocol.specs.declared.event.Event.{Event}

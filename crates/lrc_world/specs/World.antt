@@ -13,7 +13,7 @@ use Rattle.lrc_wire.specs.declared.version.Version.TheVariants.{Two}
 use Rattle.lrc_protocol.specs.Run.{EntryRecord, Logged, Input, taken, logged, refused, too_large, logs, World as Run, Flying as Sent, delivers}
 use Rattle.lrc_protocol.specs.declared.event.Event.{Event}
 use Rattle.lrc_protocol.specs.Follows.{inputs_of}
-use Rattle.lrc_lang.specs.declared.program.Program.{Program}
+use Rattle.lrc_program.specs.declared.Program.{Program}
 use Rattle.lrc_protocol.specs.Node.{Node, OptionsRecord, fresh_node}
 use Rattle.lrc_protocol.specs.Traced.{traced, trace_of, with_act}
 use Rattle.lrc_node.specs.declared.fault.NodeFault.{NodeFault}

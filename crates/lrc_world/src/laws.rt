@@ -1,7 +1,7 @@
 // What holds of every run. Each function is a theorem: its body is empty, and its clauses are the law.
 
 ghost use Rattle.std.specs.Prelude.{◌≡◌, ℕ, List, Some, Contains, length, map, slice_get};
-ghost use Rattle.lrc_lang.specs.declared.program.Program.{Program};
+ghost use Rattle.lrc_program.specs.declared.Program.{Program};
 ghost use Rattle.lrc_trace.specs.Conflict.{Accesses};
 ghost use Rattle.lrc_trace.specs.declared.trace.Segment.{Segment};
 ghost use Rattle.lrc_protocol.specs.declared.event.Event.{Event};

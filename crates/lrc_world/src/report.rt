@@ -5,7 +5,8 @@ ghost use Rattle.lrc_world.specs.Report.{of_turns};
 ghost use Rattle.lrc_world.specs.declared.report.SimFault.TheVariants as faults;
 ghost use Rattle.lrc_world.specs.declared.report.TurnFault.TheVariants.{NoMemory};
 
-use lrc_node::{End, Entry};
+use lrc_log::Entry;
+use lrc_node::End;
 use lrc_trace::act::Act;
 use lrc_trace::race::Race;
 use std::alloc::{AllocError, AllocFailed};

@@ -2,7 +2,7 @@
 
 ghost use Rattle.std.specs.Prelude.{◌≡◌, ◌↔◌, ◌<◌, ◌≤◌, ◌++◌, ℕ, [], All, IfErr, IfOk, map, true};
 ghost use Rattle.lrc_exec.specs.Nodes.{AreNodes};
-ghost use Rattle.lrc_lang.specs.declared.program.Program.{Program};
+ghost use Rattle.lrc_program.specs.declared.Program.{Program};
 ghost use Rattle.lrc_protocol.specs.Node.{OptionsRecord};
 ghost use Rattle.lrc_protocol.specs.Run.{World as AnyRun, fresh_world, turns_of_logs};
 ghost use Rattle.lrc_race.specs.Races.{AreRacesOf, AreTracesOf};
@@ -24,8 +24,8 @@ use crate::turned::Turned;
 use crate::world::World;
 use lrc_envelope::Picker;
 use lrc_exec::code::Code;
-use lrc_lang::program::Program;
 use lrc_node::{Options, options_of};
+use lrc_program::Program;
 use lrc_protocol::Event;
 use lrc_setting::setting::Setting;
 use std::alloc::{AllocError, Global};

@@ -16,8 +16,8 @@ use crate::report::{Report, SimFault};
 use crate::run::{Order, Run, run_in};
 use crate::setting::setting_of;
 use lrc_envelope::Picker;
-use lrc_lang::program::Program;
 use lrc_node::Options;
+use lrc_program::Program;
 use lrc_protocol::Event;
 use std::alloc::Global;
 

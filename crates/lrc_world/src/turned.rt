@@ -1,8 +1,8 @@
 // The turns that the events of a run make.
 
 ghost use Rattle.std.specs.Prelude.{◌≡◌, ◌++◌, ◌≤◌, ℕ, [], List, Some, IfOk, OnOk, length, map, option_map, replicate};
-ghost use Rattle.lrc_lang.specs.declared.program.Program.{Program};
-ghost use Rattle.lrc_node.specs.Logged.{seen_input};
+ghost use Rattle.lrc_program.specs.declared.Program.{Program};
+ghost use Rattle.lrc_log.specs.Input.{seen_input};
 ghost use Rattle.lrc_protocol.specs.declared.event.Event.{Event as AnyEvent};
 ghost use Rattle.lrc_protocol.specs.declared.event.Event.TheVariants as events;
 ghost use Rattle.lrc_protocol.specs.Node.{OptionsRecord};
@@ -14,7 +14,7 @@ ghost use Rattle.lrc_world.specs.Walk.{Leads, come_after, come_with, flight_with
 ghost use Rattle.lrc_protocol.specs.Follows.{next_entry};
 
 use lrc_envelope::Envelope;
-use lrc_node::{Entry, Input};
+use lrc_log::{Entry, Input};
 use lrc_protocol::Event;
 use std::alloc::{AllocError, Global};
 use std::collections::VecDeque;

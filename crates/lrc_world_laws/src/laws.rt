@@ -1,7 +1,7 @@
 // What holds of every run that the simulator makes. Each function is a theorem: its body is empty, and its clauses are the law.
 
 ghost use Rattle.std.specs.Prelude.{◌≡◌, ℕ, List, false, Some, Contains, slice_get};
-ghost use Rattle.lrc_lang.specs.declared.program.Program.{Program};
+ghost use Rattle.lrc_program.specs.declared.Program.{Program};
 ghost use Rattle.lrc_trace.specs.Conflict.{Accesses};
 ghost use Rattle.lrc_trace.specs.Interval.{interval_at};
 ghost use Rattle.lrc_trace.specs.Run.{departs_before};

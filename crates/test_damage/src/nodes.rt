@@ -6,9 +6,9 @@ use crate::random::Random;
 use lrc_envelope::Envelope;
 use lrc_exec::code::Code;
 use lrc_lang::parse;
-use lrc_lang::program::Program;
 use lrc_node::{Node, NodeFault, Options};
 use lrc_page::Size;
+use lrc_program::Program;
 use lrc_trace::act::Act;
 use std::alloc::{AllocError, Global};
 

@@ -8,7 +8,7 @@ use lrc_labels::label::Label;
 use lrc_labels::read_labels;
 use lrc_lang::lines::lines_of;
 use lrc_lang::parse;
-use lrc_lang::program::Program;
+use lrc_program::Program;
 use lrc_trace::act::Act;
 use std::alloc::Global;
 

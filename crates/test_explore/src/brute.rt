@@ -6,9 +6,9 @@ use lrc_explore::answers::{explore, findings, outcomes};
 use lrc_judge::are_in_range;
 use lrc_judge::first::first_race;
 use lrc_lang::parse;
-use lrc_lang::program::Program;
 use lrc_orders::outcomes::Outcome;
 use lrc_orders::search::{Findings, Verdict};
+use lrc_program::Program;
 use lrc_trace::act::{Act, Deed};
 use std::alloc::{AllocError, Global};
 

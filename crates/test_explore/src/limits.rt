@@ -3,8 +3,8 @@
 use crate::checks::passes;
 use lrc_explore::answers::{explore, outcomes};
 use lrc_lang::parse;
-use lrc_lang::program::Program;
 use lrc_orders::search::ExploreFault;
+use lrc_program::Program;
 use std::alloc::Global;
 
 /// Three writes of a word of its own: a node stands before each of them, and past the last. So it has four states.

@@ -1,9 +1,9 @@
 // What comes of a call for which memory may be refused.
 
 use lrc_lang::parse;
-use lrc_lang::program::Program;
 use lrc_node::Options;
 use lrc_page::Size;
+use lrc_program::Program;
 use lrc_trace::act::{Act, Deed};
 use std::alloc::Global;
 use std::process::Abort;

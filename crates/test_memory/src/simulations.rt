@@ -1,7 +1,7 @@
 // Runs by events, two of each program: whichever growth is refused, one of the two runs meets none.
 
 use crate::answers::{Answer, are_answers, of_acts, options, parsed_at_last};
-use lrc_lang::program::Program;
+use lrc_program::Program;
 use lrc_protocol::Event;
 use lrc_world::report::SimFault;
 use lrc_world::simulate::simulate;

@@ -2,7 +2,7 @@
 
 use crate::answers::{Answer, are_answers, of_acts, options, parsed_at_last};
 use lrc_envelope::Picker;
-use lrc_lang::program::Program;
+use lrc_program::Program;
 use lrc_run::{RunFault, run};
 use std::alloc::Global;
 use std::sync::Wait;

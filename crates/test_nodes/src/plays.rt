@@ -3,9 +3,10 @@
 use lrc_envelope::Envelope;
 use lrc_exec::code::Code;
 use lrc_lang::parse;
-use lrc_lang::program::Program;
-use lrc_node::{End, Node, NodeFault, Options, Turn};
+use lrc_log::Turn;
+use lrc_node::{End, Node, NodeFault, Options};
 use lrc_page::Size;
+use lrc_program::Program;
 use lrc_trace::act::Deed;
 use lrc_wire::{decode, encode};
 use std::alloc::Global;

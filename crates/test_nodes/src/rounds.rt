@@ -3,9 +3,9 @@
 use crate::checks::holds;
 use lrc_envelope::Picker;
 use lrc_lang::parse;
-use lrc_lang::program::Program;
 use lrc_node::Options;
 use lrc_page::Size;
+use lrc_program::Program;
 use lrc_protocol::Event;
 use lrc_world::keep::Keep;
 use lrc_world::report::{Report, SimFault};

@@ -4,9 +4,9 @@ use crate::checks::holds;
 use lrc_envelope::Envelope;
 use lrc_exec::code::Code;
 use lrc_lang::parse;
-use lrc_lang::program::Program;
 use lrc_node::{Logged, Node, NodeFault, Options};
 use lrc_page::Size;
+use lrc_program::Program;
 use lrc_wire::{decode, encode};
 use std::alloc::{AllocError, Global};
 

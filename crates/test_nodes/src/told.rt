@@ -3,9 +3,10 @@
 use crate::checks::holds;
 use lrc_envelope::{Envelope, Message, Picker};
 use lrc_lang::parse;
-use lrc_lang::program::Program;
-use lrc_node::{Entry, Options};
+use lrc_log::Entry;
+use lrc_node::Options;
 use lrc_page::Size;
+use lrc_program::Program;
 use lrc_protocol::Event;
 use lrc_store::Intervals;
 use lrc_wire::encode;

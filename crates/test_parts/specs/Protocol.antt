@@ -2,9 +2,9 @@
 -- node, each condition's Quiet act made by an assignment.
 use Rattle.std.specs.Prelude.{ℕ, ◌==◌, if◌then◌else◌, length, Option, option_map, List, [], ◌∷◌, map, filter, flat_map, replicate}
 use Rattle.std.specs.List.{enumerate_from}
-use Rattle.lrc_lang.specs.declared.program.Expression.TheVariants.{Number, Private}
-use Rattle.lrc_lang.specs.declared.program.Statement.{Statement}
-use Rattle.lrc_lang.specs.declared.program.Statement.TheVariants.{Assign, Read, Write, Acquire, Release, Barrier, Print}
+use Rattle.lrc_program.specs.declared.Expression.TheVariants.{Number, Private}
+use Rattle.lrc_program.specs.declared.Statement.{Statement}
+use Rattle.lrc_program.specs.declared.Statement.TheVariants.{Assign, Read, Write, Acquire, Release, Barrier, Print}
 use Rattle.lrc_trace.specs.declared.act.Deed.{Deed}
 use Rattle.lrc_page.specs.declared.size.Size.TheVariants.{Words64}
 use Rattle.lrc_page.specs.declared.changes.Change.{Change}

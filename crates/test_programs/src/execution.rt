@@ -9,7 +9,7 @@ use lrc_exec::machine::{Ask, Machine};
 use lrc_exec::plain::plain_run;
 use lrc_exec::rounds::plain_rounds;
 use lrc_lang::parse;
-use lrc_lang::program::Program;
+use lrc_program::Program;
 use lrc_trace::act::{Act, Cause, Deed};
 use std::alloc::{AllocError, Global};
 

@@ -3,7 +3,7 @@
 use crate::checks::{holds, holds_at};
 use lrc_lang::fault::{FaultKind, ParseFault};
 use lrc_lang::parse;
-use lrc_lang::program::{Expression, Operator, Program, Statement};
+use lrc_program::{Expression, Operator, Program, Statement};
 use std::alloc::{AllocError, Global};
 
 /// A spelling that is wanted, how much of it has been shown, and whether all that was shown is of it.

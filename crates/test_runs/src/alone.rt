@@ -3,7 +3,7 @@
 use crate::checks::passes;
 use bytes::Bytes;
 use lrc_envelope::{Clean, Envelope, Message, Picker};
-use lrc_node::{Entry, Input, Turn};
+use lrc_log::{Entry, Input, Turn};
 use lrc_post::{Mailbox, Parcel};
 use lrc_weave::{WeaveFault, weave, weave_run};
 use lrc_wire::encode;

@@ -4,7 +4,7 @@ use crate::checks::passes;
 use crate::shell::setting_of;
 use lrc_envelope::Picker;
 use lrc_lang::parse;
-use lrc_lang::program::Program;
+use lrc_program::Program;
 use lrc_run::{OpenGate, run_on_threads};
 use lrc_setting::setting::Setting;
 use lrc_trace::act::Act;

@@ -1,10 +1,10 @@
 // A program whose nodes are on threads, and what comes of it.
 
 use lrc_envelope::Picker;
-use lrc_lang::program::Program;
 use lrc_node::Options;
 use lrc_page::Size;
 use lrc_post::Wires;
+use lrc_program::Program;
 use lrc_run::{RunFault, run};
 use lrc_setting::setting::{Nodes, Setting, Steps};
 use lrc_world::report::Report;

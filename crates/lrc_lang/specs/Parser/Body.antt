@@ -3,7 +3,7 @@ use Rattle.std.specs.Prelude.{ℕ, Bool, true, false, List, [], ◌∷◌, Optio
 use Rattle.lrc_lang.specs.declared.token.Keyword.TheVariants.{Acquire, Release, Barrier, Print, If, Else, While}
 use Rattle.lrc_lang.specs.declared.token.Sign.TheVariants as signs
 use Rattle.lrc_lang.specs.Symbol.{Symbol}
-use Rattle.lrc_lang.specs.Tree.{Expression, Statement, Block, empty, next}
+use Rattle.lrc_program.specs.Tree.{Expression, Statement, Block, empty, next}
 use Rattle.lrc_lang.specs.Parser.Partial.{Partial, nothing, partial_with, value_of}
 
 -- what an expression stands in a statement for

@@ -2,9 +2,9 @@
 use Rattle.std.specs.Prelude.{List, [], ◌∷◌, Option, Some, None, option_map}
 use Rattle.lrc_lang.specs.declared.token.Keyword.TheVariants.{Me, Nodes}
 use Rattle.lrc_lang.specs.declared.token.Sign.TheVariants.{OpenParenthesis, CloseParenthesis}
-use Rattle.lrc_lang.specs.declared.program.Operator.{Operator}
+use Rattle.lrc_program.specs.declared.Operator.{Operator}
 use Rattle.lrc_lang.specs.Symbol.{Symbol}
-use Rattle.lrc_lang.specs.Tree.{Expression, binary}
+use Rattle.lrc_program.specs.Tree.{Expression, binary}
 use Rattle.lrc_lang.specs.Grammar.{Joins, factors, terms, sums, joins}
 
 -- a left side, and the operator behind it

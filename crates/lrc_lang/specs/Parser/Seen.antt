@@ -10,7 +10,7 @@ use Rattle.lrc_lang.specs.declared.partial.Pending as code_pending
 use Rattle.lrc_lang.specs.declared.partial.Level as code_level
 use Rattle.lrc_lang.specs.declared.partial.Partial as code_partial
 use Rattle.lrc_lang.specs.Symbol.{Symbol, number, name, operator, keyword, sign, finish}
-use Rattle.lrc_lang.specs.Tree.{expression_of}
+use Rattle.lrc_program.specs.Tree.{expression_of}
 use Rattle.lrc_lang.specs.Grammar.{Joins, factors, terms, sums}
 use Rattle.lrc_lang.specs.Parser.Partial.{Pending, Level, Partial}
 

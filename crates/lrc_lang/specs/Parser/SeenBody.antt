@@ -12,7 +12,7 @@ use Rattle.lrc_lang.specs.declared.body.Owner.TheVariants as code_owners
 use Rattle.lrc_lang.specs.declared.body.Around as code_around
 use Rattle.lrc_lang.specs.declared.body.Body as code_body
 use Rattle.lrc_lang.specs.Symbol.{Symbol, sign}
-use Rattle.lrc_lang.specs.Tree.{Block, expression_of, statement_of, block_of}
+use Rattle.lrc_program.specs.Tree.{Block, expression_of, statement_of, block_of}
 use Rattle.lrc_lang.specs.Parser.Partial.{Partial}
 use Rattle.lrc_lang.specs.Parser.Seen.{partial_seen, GivesNew}
 use Rattle.lrc_lang.specs.Parser.Body.{Purpose, assigned, word_read, word_written, written, acquired, released, printed}

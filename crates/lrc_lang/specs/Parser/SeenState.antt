@@ -1,6 +1,6 @@
 -- The parser's state as the definitions see it, without where it lies in memory.
 use Rattle.std.specs.Prelude.{◌≡◌, ◌<◌, ◌⊎◌, Some, None, Result, Ok, Err}
-use Rattle.lrc_lang.specs.declared.TheConstants.{MOST_WORDS}
+use Rattle.lrc_program.specs.declared.TheConstants.{MOST_WORDS}
 use Rattle.lrc_lang.specs.declared.fault.FaultKind.{FaultKind}
 use Rattle.lrc_lang.specs.declared.fault.FaultKind.TheVariants as kinds
 use Rattle.lrc_lang.specs.declared.state.Stage as code_stage

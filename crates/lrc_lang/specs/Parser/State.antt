@@ -3,7 +3,7 @@ use Rattle.std.specs.Prelude.{ℕ, Option, Some, None}
 use Rattle.lrc_lang.specs.declared.token.Keyword.TheVariants.{Words, Locks}
 use Rattle.lrc_lang.specs.declared.token.Sign.TheVariants.{Semicolon}
 use Rattle.lrc_lang.specs.Symbol.{Symbol, number, keyword, sign, finish}
-use Rattle.lrc_lang.specs.Tree.{ProgramTree, Block}
+use Rattle.lrc_program.specs.Tree.{ProgramTree, Block}
 use Rattle.lrc_lang.specs.Parser.Body.{Body, body_with, whole_of, if_some}
 use Rattle.lrc_lang.specs.Parser.Body as body
 

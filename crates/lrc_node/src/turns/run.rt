@@ -12,8 +12,9 @@ ghost use Rattle.lrc_node.specs.declared.fault.NodeFault.TheVariants.{NoMemory, 
 
 use crate::fault::NodeFault;
 use crate::state::NodeState;
-use crate::turn::{Effect, Turn};
+use crate::turn::Effect;
 use lrc_exec::machine::Ask;
+use lrc_log::Turn;
 use lrc_page::page_of;
 use lrc_trace::act::{Act, Deed};
 use lrc_trace::end::End;

@@ -8,8 +8,9 @@ ghost use Rattle.lrc_node.specs.declared.fault.NodeFault.TheVariants.{NoMemory, 
 
 use crate::fault::NodeFault;
 use crate::state::NodeState;
-use crate::turn::{Effect, Turn};
+use crate::turn::Effect;
 use lrc_envelope::Envelope;
+use lrc_log::Turn;
 use lrc_mail::{Letter, MailFault};
 use lrc_trace::act::Act;
 

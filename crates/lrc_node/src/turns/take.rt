@@ -12,8 +12,8 @@ ghost use Rattle.lrc_node.specs.declared.fault.NodeFault.TheVariants.{NoMemory, 
 
 use crate::fault::NodeFault;
 use crate::state::NodeState;
-use crate::turn::Turn;
 use lrc_envelope::Envelope;
+use lrc_log::Turn;
 
 impl NodeState<'_> {
     /// Takes a message. A repeat of a message that was taken is an empty turn. It fails with `Unexpected`, and changes

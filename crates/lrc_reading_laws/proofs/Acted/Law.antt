@@ -1,6 +1,6 @@
 -- In every history the closed intervals have what the acts of their nodes made in them.
 use Rattle.std.proofs.Common.{ℕ, List}
-use Rattle.lrc_lang.specs.declared.program.Program.{Program}
+use Rattle.lrc_program.specs.declared.Program.{Program}
 use Rattle.lrc_store.specs.Store.{StoredRecord}
 use Rattle.lrc_protocol.specs.Node.{OptionsRecord}
 use Rattle.lrc_protocol.specs.Run.{World}

@@ -4,7 +4,7 @@ use Rattle.std.specs.Prelude.{Option, Some, ◌==◌, Contains, slice_get, slice
 use Rattle.std.specs.List.{range_with_len}
 use lib.Pointwise.{pointwise}
 use Rattle.std.proofs.lemmas.Bool.{and_from, cases_eq, eq-eqb}
-use Rattle.lrc_lang.specs.declared.program.Program.{Program}
+use Rattle.lrc_program.specs.declared.Program.{Program}
 use Rattle.lrc_time.specs.Time.{entry}
 use Rattle.lrc_envelope.specs.Envelope.{EnvelopeRecord}
 use Rattle.lrc_envelope.specs.Records.{ArriveRecord}

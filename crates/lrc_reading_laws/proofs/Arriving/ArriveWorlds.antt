@@ -5,7 +5,7 @@ use Rattle.std.specs.Prelude.{Some, ◌==◌, Contains, count_by, slice_get, sli
 use Rattle.std.proofs.lemmas.Bool.{and_left, cases_eq, eq-eqb, ne_eqb, false≢true}
 use Rattle.std.specs.List.{range_with_len}
 use Rattle.std.proofs.lemmas.Option.{same_Some, slice_get_within}
-use Rattle.lrc_lang.specs.declared.program.Program.{Program}
+use Rattle.lrc_program.specs.declared.Program.{Program}
 use Rattle.lrc_time.specs.Time.{entry}
 use Rattle.lrc_time.proofs.Times.{entry-zeros, entry-set_same, entry-set_other}
 use Rattle.lrc_envelope.specs.Envelope.{EnvelopeRecord}

@@ -6,7 +6,7 @@ use Rattle.std.specs.List.{fold, range_with_len}
 use Rattle.std.proofs.lemmas.Bool.{and_from, cases_eq, cases_lt, eq-eqb, false≢true}
 use Rattle.std.proofs.lemmas.List.{get_or_past}
 use Rattle.std.proofs.lemmas.Option.{same_Some}
-use Rattle.lrc_lang.specs.declared.program.Program.{Program}
+use Rattle.lrc_program.specs.declared.Program.{Program}
 use Rattle.lrc_time.specs.Time.{entry, zeros, joined}
 use Rattle.lrc_time.proofs.Times.{covers-trans, entry-joined, entry-zeros, length-joined_same, length-zeros}
 use Rattle.lrc_store.specs.Interval.{IntervalRecord}

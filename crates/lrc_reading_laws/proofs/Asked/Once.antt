@@ -4,7 +4,7 @@ use Rattle.std.specs.Prelude.{Some, ◌==◌, not, count_by, filter, flat_map, m
 use Rattle.std.specs.List.{list_any}
 use Rattle.std.proofs.lemmas.Bool.{and_from, and_left, and_right, or_from, cond_both, cases_Bool, cases_lt, eq-eqb, false≢true, not-true}
 use lib.Pointwise.{pointwise}
-use Rattle.lrc_lang.specs.declared.program.Program.{Program}
+use Rattle.lrc_program.specs.declared.Program.{Program}
 use Rattle.lrc_page.specs.Page.{words_of}
 use Rattle.lrc_page.specs.Place.{pages_of}
 use Rattle.lrc_envelope.specs.declared.message.Message.TheVariants.{ChangesRequest, PageRequest}

@@ -1,7 +1,7 @@
 -- A run, and beside it the list of all intervals that were closed in it, with their changes: each turn adds the one that it closes.
 use Rattle.std.proofs.Common.{◌≡◌, ℕ, List, [], ◌∷◌, ◌++◌, refl}
 use Rattle.std.specs.Prelude.{◌==◌, Some, map, slice_get, if◌then◌else◌}
-use Rattle.lrc_lang.specs.declared.program.Program.{Program}
+use Rattle.lrc_program.specs.declared.Program.{Program}
 use Rattle.lrc_time.specs.Time.{entry}
 use Rattle.lrc_store.specs.Store.{StoredRecord}
 use Rattle.lrc_protocol.specs.declared.event.Event.{Event}

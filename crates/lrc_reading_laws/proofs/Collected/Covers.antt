@@ -1,7 +1,7 @@
 -- In every run what a node has collected is covered by the time of every node; and who fetches has collected all that others have.
 use Rattle.std.proofs.Common.{◌≡◌, ℕ, List, Bool, true, false, is_some, refl, sym, ap, subst, ◌∙◌, arith}
 use Rattle.std.specs.Prelude.{Option, Some, None, slice_get}
-use Rattle.lrc_lang.specs.declared.program.Program.{Program}
+use Rattle.lrc_program.specs.declared.Program.{Program}
 use Rattle.lrc_time.specs.Time.{Covers}
 use Rattle.lrc_time.proofs.Times.{covers-refl, covers-trans}
 use Rattle.lrc_protocol.specs.Pages.{Need}

@@ -18,7 +18,7 @@ use Rattle.lrc_protocol.specs.Pages.{page_came}
 use Rattle.lrc_protocol.specs.Barriers.{kept_pages, with_keepers, with_base, base_at, Collection, clean_memory}
 use Rattle.lrc_protocol.specs.Node.{Wait, nothing, grant, departure, access, upkeep, discard, Node, OptionsRecord}
 use Rattle.lrc_protocol.specs.Turn.{with_needs}
-use Rattle.lrc_lang.specs.declared.program.Program.{Program}
+use Rattle.lrc_program.specs.declared.Program.{Program}
 use Rattle.lrc_node_laws.specs.Own.{HasOwn, OwnCopied}
 use Rattle.lrc_node_laws.specs.Reached.{IsReached}
 use Rattle.lrc_node_laws.specs.Remembered.{IsBetween}

@@ -2,7 +2,7 @@
 use Rattle.std.proofs.Common.{◌≡◌, ℕ, zero, suc, ◌+◌, ◌≤◌, List, [], ◌∷◌, ◌++◌, true, IsTrue, length, refl, sym, ap, subst, inl, inr, ⊎_elim, arith}
 use Rattle.std.specs.Prelude.{Some, None, Contains, slice_get, slice_index_or, replicate}
 use Rattle.std.proofs.lemmas.List.Elements.{All-nil}
-use Rattle.lrc_lang.specs.declared.program.Program.{Program}
+use Rattle.lrc_program.specs.declared.Program.{Program}
 use Rattle.lrc_time.specs.Time.{entry}
 use Rattle.lrc_time.proofs.Times.{entry-set_same}
 use Rattle.lrc_page.specs.Page.{words_of, zero_page}

@@ -1,7 +1,7 @@
 -- A whole turn of a node keeps its copies fitting, as far as it depends on one node.
 use Rattle.std.proofs.Common.{◌≡◌, ℕ, ◌<◌, List, ◌++◌, refl, sym, ap, subst, ◌∙◌}
 use Rattle.std.specs.Prelude.{◌==◌, Contains, map, [], ◌∷◌, if◌then◌else◌}
-use Rattle.lrc_lang.specs.declared.program.Program.{Program}
+use Rattle.lrc_program.specs.declared.Program.{Program}
 use Rattle.lrc_time.specs.Time.{entry}
 use Rattle.lrc_page.specs.Page.{words_of}
 use Rattle.lrc_page.specs.declared.size.Size.{Size}

@@ -2,11 +2,11 @@
 -- plain up to its first race, and races belong to the program.
 use Rattle.std.proofs.Common.{◌≡◌, ℕ}
 use Rattle.std.specs.Prelude.{Some}
-use Rattle.lrc_lang.specs.declared.program.Program.{Program}
+use Rattle.lrc_program.specs.declared.Program.{Program}
 use Rattle.lrc_trace.specs.Conflict.{IsRaceFree, IsFirstRace}
 use Rattle.lrc_trace.specs.Synchronization.{IsWellSynchronized}
 use Rattle.lrc_exec.specs.Plain.{plain}
-use Rattle.lrc_consistency_laws.specs.Follows.{nodes_of_acts, FollowsText}
+use Rattle.lrc_exec.specs.Follows.{nodes_of_acts, FollowsText}
 use Rattle.lrc_consistency_laws.specs.Racing.{HasNoRace, PlainToRace}
 use Rattle.lrc_consistency_laws.proofs.UpToRace.{without_race}
 use Rattle.lrc_consistency_laws.proofs.Racing.{plain_to_race, race_free}

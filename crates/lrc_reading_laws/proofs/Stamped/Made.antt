@@ -5,7 +5,7 @@ use Rattle.std.specs.Prelude.{◌==◌, All, AllPairs, Contains, if◌then◌els
 use Rattle.std.specs.List.{range_with_len}
 use Rattle.std.proofs.lemmas.List.{map-append}
 use Rattle.std.proofs.lemmas.List.Elements.{All-nil, All-push, Contains-push_cases}
-use Rattle.lrc_lang.specs.declared.program.Program.{Program}
+use Rattle.lrc_program.specs.declared.Program.{Program}
 use Rattle.lrc_time.specs.Time.{entry}
 use Rattle.lrc_time.proofs.Times.{entry-set_same}
 use Rattle.lrc_store.specs.Store.{StoredRecord, NoticeRecord, interval_of}

@@ -1,7 +1,7 @@
 -- In every run a node inside a barrier has sent all its intervals with its arrivals, and what a node collected of its own it sent.
 use Rattle.std.proofs.Common.{◌≡◌, ◌⊎◌, ℕ, ◌+◌, ◌≤◌, List, refl, sym, ap, subst, ◌∙◌, inl, inr, ⊎_elim, arith}
 use Rattle.std.specs.Prelude.{Some, slice_get}
-use Rattle.lrc_lang.specs.declared.program.Program.{Program}
+use Rattle.lrc_program.specs.declared.Program.{Program}
 use Rattle.lrc_time.specs.Time.{entry, zeros, Covers}
 use Rattle.lrc_time.proofs.Times.{entry-zeros, entry-set_same}
 use Rattle.lrc_envelope.specs.Envelope.{EnvelopeRecord}

@@ -11,7 +11,7 @@ use Rattle.lrc_trace.specs.declared.act.Deed.{Deed}
 use Rattle.lrc_trace.specs.declared.act.Deed.TheVariants.{Quiet, Print, Read, Write, Acquire, Release, Arrive, Depart, Trap, End}
 use Rattle.lrc_trace.specs.Interval.{closes, interval_at}
 use Rattle.lrc_trace.specs.Run.{count_of}
-use Rattle.lrc_consistency_laws.specs.Follows.{deeds_of}
+use Rattle.lrc_exec.specs.Follows.{deeds_of}
 use Rattle.lrc_order_laws.specs.Counts.{count}
 use Rattle.lrc_node_laws.specs.Opened.{after_deed, open_writes}
 use Rattle.lrc_reading_laws.specs.Written.{written_to, write_in, newer, last_write}

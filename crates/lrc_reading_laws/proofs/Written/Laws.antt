@@ -8,11 +8,11 @@ use Rattle.std.proofs.lemmas.Bool.{cases_eq, eqb-false}
 use Rattle.std.proofs.lemmas.Option.{same_Some}
 use Rattle.std.proofs.lemmas.List.{map-append}
 use Rattle.std.proofs.lemmas.List.Elements.{filter_map-append, Contains-append_cases}
-use Rattle.lrc_lang.specs.declared.program.Program.{Program}
+use Rattle.lrc_program.specs.declared.Program.{Program}
 use Rattle.lrc_trace.specs.declared.act.Deed.{Deed}
 use Rattle.lrc_page.specs.Page.{words_of}
 use Rattle.lrc_time.specs.Time.{entry}
-use Rattle.lrc_consistency_laws.specs.Follows.{deeds_of}
+use Rattle.lrc_exec.specs.Follows.{deeds_of}
 use Rattle.lrc_copies.specs.Page.{IsUntouchedBy, IsMadeOf, IsClosedWith}
 use Rattle.lrc_copies.specs.Stamps.{stamp_index}
 use Rattle.lrc_store.specs.Store.{StoredRecord, notice_of}

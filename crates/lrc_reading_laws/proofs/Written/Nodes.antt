@@ -4,7 +4,7 @@ use Rattle.std.specs.Prelude.{Some, None, unwrap_or, slice_get, slice_index, sli
 use Rattle.std.proofs.lemmas.Bool.{cases_lt}
 use Rattle.std.proofs.lemmas.List.{get_or_past}
 use Rattle.std.proofs.lemmas.List.Elements.{All-get_or}
-use Rattle.lrc_lang.specs.declared.program.Program.{Program}
+use Rattle.lrc_program.specs.declared.Program.{Program}
 use Rattle.lrc_trace.specs.declared.act.Deed.{Deed}
 use Rattle.lrc_page.specs.declared.size.Size.{Size}
 use Rattle.lrc_page.specs.Page.{words_of}
@@ -14,7 +14,7 @@ use Rattle.lrc_time.specs.Time.{entry}
 use Rattle.lrc_time.proofs.Times.{entry-set_same}
 use Rattle.lrc_exec.specs.Meaning.{Setting}
 use Rattle.lrc_exec.specs.Plain.{setting_of, start_of}
-use Rattle.lrc_consistency_laws.specs.Follows.{deeds_of}
+use Rattle.lrc_exec.specs.Follows.{deeds_of}
 use Rattle.lrc_copies.specs.Page.{IsMadeOf, IsUntouchedBy}
 use Rattle.lrc_copies.specs.Stamps.{stamp_index}
 use Rattle.lrc_protocol.specs.Pages.{Copy, valid, written, invalid, absent, copy_at}

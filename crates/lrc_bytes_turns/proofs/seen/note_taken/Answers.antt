@@ -1,6 +1,6 @@
 use Rattle.std.proofs.Common.{rules, ap, sym, ◌∙◌}
 use Rattle.std.specs.Prelude.{◌||◌}
-use Rattle.lrc_node.specs.Logged.{seen_input}
+use Rattle.lrc_log.specs.Input.{seen_input}
 use Rattle.lrc_turns_text.specs.Told.{holds_key}
 use Rattle.lrc_turns_text.specs.TurnsText.{takes_numbered}
 use Rattle.lrc_turns_text.proofs.Noting.{noted_one}

@@ -5,7 +5,7 @@ use Rattle.lrc_chart_invalid.proofs.Finding.{pages_in}
 use Rattle.lrc_judge.specs.FirstPairs.{AreFirstPairs}
 use Rattle.lrc_judge.specs.declared.lanes.Pair.{Pair}
 use Rattle.lrc_labels.specs.Reading.{label_seen}
-use Rattle.lrc_lang.specs.declared.program.Program.{Program}
+use Rattle.lrc_program.specs.declared.Program.{Program}
 use Rattle.lrc_cli_answer.specs.Labels.{labels_in}
 use Rattle.lrc_trace.specs.declared.act.Act.{Act}
 use Rattle.lrc_chart_build.specs.Course.{CourseRecord}

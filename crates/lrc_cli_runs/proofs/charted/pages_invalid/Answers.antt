@@ -1,7 +1,7 @@
 use Rattle.std.proofs.Common.{◌≡◌, ◌∙◌, ℕ, IfOk, List, Result, Some, map, subst, sym}
 use Rattle.std.specs.Prelude.{Vec}
 use Rattle.std.specs.declared.alloc.Global.{Global}
-use Rattle.lrc_lang.specs.declared.program.Program.{Program}
+use Rattle.lrc_program.specs.declared.Program.{Program}
 use Rattle.lrc_chart_invalid.specs.Invalidated.{invalidated_at}
 use Rattle.lrc_chart_invalid.proofs.Finding.{pages_in}
 use Rattle.lrc_protocol.specs.Node.{OptionsRecord}

@@ -1,6 +1,6 @@
 use Rattle.std.proofs.Common.{◌∙◌, ◌<◌, ℕ, All, List, ap, ap₂, length, subst, sym}
 use Rattle.std.proofs.lemmas.Result.{IfOk-weaker}
-use Rattle.lrc_lang.specs.declared.program.Program.{Program}
+use Rattle.lrc_program.specs.declared.Program.{Program}
 use Rattle.lrc_lines.specs.Walks.{act_lines}
 use Rattle.lrc_trace.specs.declared.act.Act.{Act}
 use Rattle.lrc_judge.specs.Order.{IsOrderOf}

@@ -5,8 +5,8 @@ use Rattle.std.proofs.lemmas.List.{length-set}
 use Rattle.std.specs.Prelude.{IfOk}
 use Rattle.std.proofs.lemmas.Result.{IfOk-from_err}
 use Rattle.std.proofs.Math.Seq.{drop-cons, drop-length, get_or-append_seam}
-use Rattle.lrc_lang.specs.declared.program.Statement.TheVariants.{If}
-use Rattle.lrc_lang.specs.Statements.{statement_of}
+use Rattle.lrc_program.specs.declared.Statement.TheVariants.{If}
+use Rattle.lrc_program.specs.Statements.{statement_of}
 use Rattle.lrc_exec.specs.declared.code.Instruction.{Instruction}
 use Rattle.lrc_exec.specs.Flat.{IsGrown, IsPut, statements_in_statement}
 use Rattle.lrc_exec.proofs.Flat.{leading, grown_straight, grown_choice, grown_loop}

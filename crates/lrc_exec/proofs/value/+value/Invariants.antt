@@ -1,8 +1,8 @@
 -- How far an expression still has to be gone into: three times its operators, and the sides of one by two more, or one more once
 -- it is known that they have operators too.
 use Rattle.std.proofs.Common.{◌+◌, ◌*◌}
-use Rattle.lrc_lang.specs.Sizes.{operators_in}
-use Rattle.lrc_lang.specs.Statements.{expression_of}
+use Rattle.lrc_program.specs.Sizes.{operators_in}
+use Rattle.lrc_program.specs.Statements.{expression_of}
 use Rattle.lrc_exec.proofs.value.+value.Given as goal
 
 abbrev pub decreases-compute : goal.decreases-compute

@@ -1,6 +1,6 @@
 use Rattle.std.proofs.Common.{◌≡◌, ℕ, List, map}
 use Rattle.std.specs.List.{range_with_len}
-use Rattle.lrc_lang.specs.declared.program.Program.{Program}
+use Rattle.lrc_program.specs.declared.Program.{Program}
 use Rattle.lrc_explain_waits.specs.Followed.{AreFollowed}
 use Rattle.lrc_explain_waits.specs.Stand.{stand_of}
 use Rattle.lrc_explain_waits.proofs.stand.stands_of.Given as goal

@@ -1,6 +1,6 @@
 use Rattle.std.proofs.Common.{◌≡◌, List, map}
 use Rattle.std.specs.List.{range_with_len}
-use Rattle.lrc_lang.specs.declared.program.Program.{Program}
+use Rattle.lrc_program.specs.declared.Program.{Program}
 use Rattle.lrc_lines.specs.Statements.{numbers_of}
 use Rattle.lrc_named_core.specs.View.{trap_of}
 use Rattle.lrc_trace.specs.declared.act.Act.{Act}

@@ -1,6 +1,6 @@
 use Rattle.std.proofs.Common.{ℕ, true, false, subst}
 use Rattle.std.specs.Prelude.{IfOk}
-use Rattle.lrc_lang.specs.declared.program.Program.{Program}
+use Rattle.lrc_program.specs.declared.Program.{Program}
 use Rattle.lrc_orders.specs.Verdict.{FindsNoRace}
 use Rattle.lrc_explore.specs.Answers.{FitsSettled, IsAnswer}
 use Rattle.lrc_orders.proofs.Faults.{fault_says}

@@ -1,6 +1,6 @@
 use Rattle.std.proofs.Common.{ℕ, true, false, subst}
 use Rattle.std.specs.Prelude.{◌↔◌}
-use Rattle.lrc_lang.specs.declared.program.Program.{Program}
+use Rattle.lrc_program.specs.declared.Program.{Program}
 use Rattle.lrc_orders.specs.Outcome.{HasOutcome, IsOutcome}
 use Rattle.lrc_explore.proofs.Answering.{fault_of_task}
 use Rattle.lrc_explore.proofs.answers.outcomes_of.Goals as goal

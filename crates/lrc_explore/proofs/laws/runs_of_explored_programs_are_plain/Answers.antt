@@ -1,6 +1,6 @@
 -- Where the answer is that no order races, no run that reads lazily does.
 use Rattle.std.proofs.Common.{ℕ}
-use Rattle.lrc_lang.specs.declared.program.Program.{Program}
+use Rattle.lrc_program.specs.declared.Program.{Program}
 use Rattle.lrc_consistency_laws.specs.Racing.{HasNoRace}
 use Rattle.lrc_consistency_laws.proofs.Racing.{race_free}
 use Rattle.lrc_consistency_laws.proofs.UpToRace.{without_race}

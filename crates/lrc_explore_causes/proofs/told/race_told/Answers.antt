@@ -3,7 +3,7 @@ use Rattle.std.specs.Prelude.{None, Option, Some, Vec, option_map}
 use Rattle.std.specs.declared.alloc.Global.{Global}
 use Rattle.std.proofs.lemmas.Option.{same_Some}
 use Rattle.lrc_trace.specs.declared.act.Act.{Act}
-use Rattle.lrc_consistency_laws.specs.Follows.{nodes_of_acts}
+use Rattle.lrc_exec.specs.Follows.{nodes_of_acts}
 use Rattle.lrc_explore_causes.specs.Told.{TellsRace}
 use Rattle.lrc_explore_causes.proofs.Choosing.{first_within, second_within, tells_found}
 use Rattle.lrc_explore_causes.proofs.told.race_told.Goals as goal

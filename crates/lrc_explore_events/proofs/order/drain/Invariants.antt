@@ -1,6 +1,6 @@
 -- One message more was delivered in each turn of the loop.
 use Rattle.std.proofs.Common.{◌≡◌, ◌+◌, ℕ, length}
-use Rattle.lrc_lang.specs.declared.program.Program.{Program}
+use Rattle.lrc_program.specs.declared.Program.{Program}
 use Rattle.lrc_protocol.specs.Node.{OptionsRecord}
 use Rattle.lrc_explore_events.specs.Playing.{IsDraining}
 use Rattle.lrc_explore_events.proofs.order.drain.Given as goal

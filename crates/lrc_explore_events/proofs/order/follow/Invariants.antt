@@ -1,6 +1,6 @@
 -- The events so far lead along the order, one for each turn of the loop.
 use Rattle.std.proofs.Common.{◌≡◌, ℕ, length}
-use Rattle.lrc_lang.specs.declared.program.Program.{Program}
+use Rattle.lrc_program.specs.declared.Program.{Program}
 use Rattle.lrc_lines.specs.Statements.{act_statements}
 use Rattle.lrc_protocol.specs.Node.{OptionsRecord}
 use Rattle.lrc_explore_events.specs.Playing.{IsFollowing}

@@ -1,6 +1,6 @@
 use Rattle.std.proofs.Common.{ℕ, false, true, subst}
 use Rattle.std.specs.Prelude.{◌↔◌, IfErr}
-use Rattle.lrc_lang.specs.declared.program.Program.{Program}
+use Rattle.lrc_program.specs.declared.Program.{Program}
 use Rattle.lrc_orders.specs.Outcome.{HasOutcome, IsOutcome}
 use Rattle.lrc_orders.proofs.Faults.{fault_up}
 use Rattle.lrc_explore.specs.Answers.{IsFaultOf}

@@ -2,7 +2,7 @@ use Rattle.std.proofs.Common.{◌≡◌, ◌∙◌, ℕ, ap}
 use Rattle.std.specs.Prelude.{None, Vec, map}
 use Rattle.std.specs.declared.alloc.Global.{Global}
 use Rattle.std.proofs.lemmas.Result.{IfOk-weaker}
-use Rattle.lrc_lang.specs.declared.program.Program.{Program}
+use Rattle.lrc_program.specs.declared.Program.{Program}
 use Rattle.lrc_explain_waits.specs.Traps.{traps_told, wording_of}
 use Rattle.lrc_explain_waits.specs.Stand.{stands_of}
 use Rattle.lrc_explain_waits.specs.Stuck.{stuck_text}

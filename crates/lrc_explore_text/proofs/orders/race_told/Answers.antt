@@ -5,7 +5,7 @@ use Rattle.lrc_trace.specs.Conflict.{Races}
 use Rattle.lrc_judge.specs.declared.TheConstants.{NODES}
 use Rattle.lrc_explore_causes.specs.Told.{TellsRace}
 use Rattle.lrc_explore_text.proofs.Led.{in_range, race_there}
-use Rattle.lrc_consistency_laws.specs.Follows.{nodes_of_acts}
+use Rattle.lrc_exec.specs.Follows.{nodes_of_acts}
 use Rattle.lrc_explore_text.proofs.orders.race_told.Goals as goal
 
 pub race_told-requires-clause-in_range : goal.race_told-requires-clause-in_range

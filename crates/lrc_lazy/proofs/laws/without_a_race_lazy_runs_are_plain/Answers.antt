@@ -1,4 +1,4 @@
-use Rattle.lrc_consistency_laws.specs.Follows.{nodes_of_acts}
+use Rattle.lrc_exec.specs.Follows.{nodes_of_acts}
 use Rattle.lrc_lazy.proofs.Plainly.{to_plain, from_plain}
 use Rattle.lrc_lazy.proofs.laws.without_a_race_lazy_runs_are_plain.Goals as goal
 

@@ -4,7 +4,7 @@ use Rattle.lrc_lang.specs.declared.token.Token as code_token
 use Rattle.lrc_lang.specs.Counts.{names_of}
 use Rattle.lrc_lang.specs.Parser.Located.{located_of}
 use Rattle.lrc_lang.specs.Parser.View.{token_of}
-use Rattle.lrc_lang.specs.Tree.{program_of}
+use Rattle.lrc_program.specs.Tree.{program_of}
 use Rattle.lrc_labels.specs.declared.cut.Divider.TheVariants.{LineFeed}
 use Rattle.lrc_labels.specs.Cut.{cut, divides}
 use Rattle.lrc_labels.specs.Reading.{idle_of, label_seen, labels_of}

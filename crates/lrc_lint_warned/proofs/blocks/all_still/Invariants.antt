@@ -1,7 +1,7 @@
 -- All are still where those from here on are.
 use Rattle.std.proofs.Common.{◌≡◌, map, drop}
 use Rattle.std.specs.List.{list_all}
-use Rattle.lrc_lang.specs.Statements.{statement_of}
+use Rattle.lrc_program.specs.Statements.{statement_of}
 use Rattle.lrc_lint_warned.specs.Blocks.{is_still_by}
 use Rattle.lrc_lint_warned.proofs.blocks.all_still.Given as goal
 

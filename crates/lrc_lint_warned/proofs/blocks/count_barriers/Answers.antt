@@ -2,8 +2,8 @@ use Rattle.std.proofs.Common.{◌∙◌, rules, tests, Bor}
 use Rattle.std.proofs.lemmas.Iterator.{YieldsList-from_slice}
 use Rattle.std.proofs.lemmas.Iterator.Consumers.{YieldsList-from_filter, count_from_yields_List}
 use Rattle.std.proofs.lemmas.List.Sums.{length-filter}
-use Rattle.lrc_lang.specs.declared.program.Statement.{Statement}
-use Rattle.lrc_lang.specs.Statements.{statement_of}
+use Rattle.lrc_program.specs.declared.Statement.{Statement}
+use Rattle.lrc_program.specs.Statements.{statement_of}
 use Rattle.lrc_lint_warned.specs.Blocks.{is_barrier}
 use Rattle.lrc_lint_warned.proofs.Lists.{count_seen}
 use Rattle.lrc_lint_warned.proofs.blocks.count_barriers.Goals as goal

@@ -1,6 +1,6 @@
 use Rattle.std.proofs.Common.{◌∙◌, ℕ, ap, map, sym, List}
 use Rattle.std.specs.List.{list_any}
-use Rattle.lrc_lang.specs.Statements.{Expression as Part, expression_of, statement_of}
+use Rattle.lrc_program.specs.Statements.{Expression as Part, expression_of, statement_of}
 use Rattle.lrc_lint_warned.specs.Blocks.{some_marked}
 use Rattle.lrc_lint_warned.specs.Names.{is_name}
 use Rattle.lrc_lint_warned.proofs.Learns.{learns_ok}

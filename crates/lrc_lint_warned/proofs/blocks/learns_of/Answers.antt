@@ -1,5 +1,5 @@
 use Rattle.std.proofs.Common.{◌∙◌, ap, map, Bool, List}
-use Rattle.lrc_lang.specs.Statements.{Statement as Tree, expression_of, statement_of}
+use Rattle.lrc_program.specs.Statements.{Statement as Tree, expression_of, statement_of}
 use Rattle.lrc_lint_warned.specs.declared.found.Kind.TheVariants.{LearnsNothing}
 use Rattle.lrc_lint_warned.specs.Blocks.{learns_nothing}
 use Rattle.lrc_lint_warned.specs.Operations.{kind_if}

@@ -1,7 +1,7 @@
 use Rattle.std.proofs.Common.{◌∙◌, ℕ, ap, sym, map, take_all, Option, ◌||◌, get_or, List}
 use Rattle.std.specs.Prelude.{false}
 use Rattle.std.specs.List.{list_any}
-use Rattle.lrc_lang.specs.Statements.{expression_of}
+use Rattle.lrc_program.specs.Statements.{expression_of}
 use Rattle.lrc_lint_warned.specs.Constant.{is_value}
 use Rattle.lrc_lint_warned.specs.Names.{is_name}
 use Rattle.lrc_lint_warned.proofs.Lists.{any_more, unmarked}

@@ -2,7 +2,7 @@
 use Rattle.std.proofs.Common.{◌≡◌, ℕ, map, take, get_or}
 use Rattle.std.specs.Prelude.{false}
 use Rattle.std.specs.List.{list_any}
-use Rattle.lrc_lang.specs.Statements.{statement_of}
+use Rattle.lrc_program.specs.Statements.{statement_of}
 use Rattle.lrc_lint_warned.specs.Names.{sets}
 use Rattle.lrc_lint_warned.proofs.blocks.names_set.Given as goal
 

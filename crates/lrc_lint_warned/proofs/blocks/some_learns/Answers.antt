@@ -1,8 +1,8 @@
 use Rattle.std.proofs.Common.{rules, tests, ◌∙◌, Bor, ◌||◌}
 use Rattle.std.proofs.lemmas.Iterator.{YieldsList-from_slice}
 use Rattle.std.proofs.lemmas.Iterator.Search.{any_from_yields_List}
-use Rattle.lrc_lang.specs.Statements.{Statement as Tree, statement_of}
-use Rattle.lrc_lang.specs.declared.program.Statement.{Statement}
+use Rattle.lrc_program.specs.Statements.{Statement as Tree, statement_of}
+use Rattle.lrc_program.specs.declared.Statement.{Statement}
 use Rattle.lrc_lint_warned.specs.Blocks.{is_acquire, is_barrier}
 use Rattle.lrc_lint_warned.proofs.Lists.{any_seen}
 use Rattle.lrc_lint_warned.proofs.blocks.some_learns.Goals as goal

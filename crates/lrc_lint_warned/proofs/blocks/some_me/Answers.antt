@@ -1,8 +1,8 @@
 use Rattle.std.proofs.Common.{rules, tests, ◌∙◌, Bor}
 use Rattle.std.proofs.lemmas.Iterator.{YieldsList-from_slice}
 use Rattle.std.proofs.lemmas.Iterator.Search.{any_from_yields_List}
-use Rattle.lrc_lang.specs.Statements.{expression_of}
-use Rattle.lrc_lang.specs.declared.program.Expression.{Expression}
+use Rattle.lrc_program.specs.Statements.{expression_of}
+use Rattle.lrc_program.specs.declared.Expression.{Expression}
 use Rattle.lrc_lint_warned.specs.Blocks.{is_me}
 use Rattle.lrc_lint_warned.proofs.Lists.{any_seen}
 use Rattle.lrc_lint_warned.proofs.blocks.some_me.Goals as goal

@@ -1,5 +1,5 @@
 use Rattle.std.proofs.Common.{rules, ◌≡◌, ◌∙◌, ap, get_or, length, sym, append-nil, take}
-use Rattle.lrc_lang.specs.Statements.{statement_of}
+use Rattle.lrc_program.specs.Statements.{statement_of}
 use Rattle.lrc_lint_warned.specs.Held.{Path, is_under}
 use Rattle.lrc_lint_warned.specs.Undone.{nothing_undone}
 use Rattle.lrc_lint_warned.proofs.Marks.{block_marked, first_marked, if_kept, second_marked, while_kept, while_marked, whole_kept}

@@ -1,6 +1,6 @@
 -- The statements of the block so far were looked at, and what stands behind them is known.
 use Rattle.std.proofs.Common.{◌≡◌, ◌++◌, length, map, take}
-use Rattle.lrc_lang.specs.Statements.{block_of}
+use Rattle.lrc_program.specs.Statements.{block_of}
 use Rattle.lrc_lint_warned.specs.Held.{Path, is_under, paths}
 use Rattle.lrc_lint_warned.specs.Inside.{statements_in}
 use Rattle.lrc_lint_warned.specs.Undone.{AreMarked}

@@ -2,7 +2,7 @@ use Rattle.std.proofs.Common.{◌∙◌, ◌++◌, ◌∷◌, [], ℕ, List, Boo
 use Rattle.std.specs.List.{range_with_len}
 use Rattle.std.proofs.lemmas.List.{map_push}
 use Rattle.std.proofs.lemmas.List.FromFn.{map-range_with_len_more}
-use Rattle.lrc_lang.specs.Statements.{block_of}
+use Rattle.lrc_program.specs.Statements.{block_of}
 use Rattle.lrc_lint_warned.specs.declared.held.Side.TheVariants.{Acquired}
 use Rattle.lrc_lint_warned.specs.Held.{is_under, paths}
 use Rattle.lrc_lint_warned.proofs.held.all_tables.Goals as goal

@@ -1,5 +1,5 @@
 use Rattle.std.proofs.Common.{◌≡◌, ◌∙◌, ◌++◌, [], ap, length, map}
-use Rattle.lrc_lang.specs.Statements.{block_of}
+use Rattle.lrc_program.specs.Statements.{block_of}
 use Rattle.lrc_lint_warned.specs.Held.{is_under, paths}
 use Rattle.lrc_lint_warned.specs.Inside.{statements_in}
 use Rattle.lrc_lint_warned.proofs.Marks.{all_marked}

@@ -1,7 +1,7 @@
 -- What is warned of, by the locks so far, was added.
 use Rattle.std.proofs.Common.{◌≡◌, ◌++◌, [], map}
 use Rattle.std.specs.List.{flat_map, range_with_len}
-use Rattle.lrc_lang.specs.Statements.{block_of}
+use Rattle.lrc_program.specs.Statements.{block_of}
 use Rattle.lrc_lint_warned.specs.Found.{statement_seen}
 use Rattle.lrc_lint_warned.specs.Held.{held_already_at, paths, with_path}
 use Rattle.lrc_lint_warned.proofs.held.held_already.Given as goal

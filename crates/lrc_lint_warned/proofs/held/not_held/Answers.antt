@@ -1,5 +1,5 @@
 use Rattle.std.proofs.Common.{[], ℕ, map}
-use Rattle.lrc_lang.specs.Statements.{block_of}
+use Rattle.lrc_program.specs.Statements.{block_of}
 use Rattle.lrc_lint_warned.specs.Found.{statement_seen}
 use Rattle.lrc_lint_warned.specs.Held.{not_held_at, paths, with_path}
 use Rattle.lrc_lint_warned.proofs.Lists.{count_more}

@@ -1,5 +1,5 @@
 use Rattle.std.proofs.Common.{◌∙◌, [], map}
-use Rattle.lrc_lang.specs.Statements.{block_of}
+use Rattle.lrc_program.specs.Statements.{block_of}
 use Rattle.lrc_lint_warned.specs.Found.{statement_seen}
 use Rattle.lrc_lint_warned.specs.Held.{paths}
 use Rattle.lrc_lint_warned.proofs.Under.{releases_by, ok_same}

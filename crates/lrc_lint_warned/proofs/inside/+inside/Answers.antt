@@ -1,6 +1,6 @@
 use Rattle.std.proofs.Common.{◌∙◌, ap, map}
 use Rattle.std.proofs.lemmas.List.{map_push}
-use Rattle.lrc_lang.specs.Statements.{statement_of}
+use Rattle.lrc_program.specs.Statements.{statement_of}
 use Rattle.lrc_lint_warned.proofs.Trees.{adds_if, adds_straight, adds_while, block_all, block_more, block_none}
 use Rattle.lrc_lint_warned.proofs.inside.+inside.Goals as goal
 

@@ -1,6 +1,6 @@
 -- The statements of the block so far were added.
 use Rattle.std.proofs.Common.{◌≡◌, ◌++◌, map, take}
-use Rattle.lrc_lang.specs.Statements.{block_of, statement_of}
+use Rattle.lrc_program.specs.Statements.{block_of, statement_of}
 use Rattle.lrc_lint_warned.specs.Inside.{statements_in}
 use Rattle.lrc_lint_warned.proofs.inside.+inside.Given as goal
 

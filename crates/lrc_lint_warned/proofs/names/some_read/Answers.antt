@@ -1,7 +1,7 @@
 use Rattle.std.proofs.Common.{rules, tests, ◌∙◌}
 use Rattle.std.proofs.lemmas.Iterator.{YieldsList-from_slice}
 use Rattle.std.proofs.lemmas.Iterator.Search.{any_from_yields_List}
-use Rattle.lrc_lang.specs.Statements.{expression_of}
+use Rattle.lrc_program.specs.Statements.{expression_of}
 use Rattle.lrc_lint_warned.specs.declared.found.NodeAt as code_node
 use Rattle.lrc_lint_warned.specs.Found.{NodeAt, node_seen}
 use Rattle.lrc_lint_warned.specs.Names.{is_name}

@@ -1,7 +1,7 @@
 use Rattle.std.proofs.Common.{rules, tests, ◌∙◌}
 use Rattle.std.proofs.lemmas.Iterator.{YieldsList-from_slice}
 use Rattle.std.proofs.lemmas.Iterator.Search.{any_from_yields_List}
-use Rattle.lrc_lang.specs.Statements.{statement_of}
+use Rattle.lrc_program.specs.Statements.{statement_of}
 use Rattle.lrc_lint_warned.specs.declared.found.StatementAt as code_statement
 use Rattle.lrc_lint_warned.specs.Found.{StatementAt, statement_seen}
 use Rattle.lrc_lint_warned.specs.Names.{sets}

@@ -1,5 +1,5 @@
 use Rattle.std.proofs.Common.{[]}
-use Rattle.lrc_lang.specs.Statements.{statement_of}
+use Rattle.lrc_program.specs.Statements.{statement_of}
 use Rattle.lrc_lint_warned.specs.Inside.{nodes_of}
 use Rattle.lrc_lint_warned.proofs.Lists.{flat_all, flat_more}
 use Rattle.lrc_lint_warned.proofs.places.nodes_of_all.Goals as goal

@@ -1,7 +1,7 @@
 -- The parts of the statements so far were added.
 use Rattle.std.proofs.Common.{◌≡◌, map, take}
 use Rattle.std.specs.List.{flat_map}
-use Rattle.lrc_lang.specs.Statements.{expression_of, statement_of}
+use Rattle.lrc_program.specs.Statements.{expression_of, statement_of}
 use Rattle.lrc_lint_warned.specs.Inside.{nodes_of}
 use Rattle.lrc_lint_warned.proofs.places.nodes_of_all.Given as goal
 

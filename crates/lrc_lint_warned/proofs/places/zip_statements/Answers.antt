@@ -1,6 +1,6 @@
 use Rattle.std.proofs.Common.{◌∙◌, ◌++◌, ◌∷◌, [], ap, map, length, arith, get_or}
 use Rattle.std.proofs.lemmas.List.{map_push}
-use Rattle.lrc_lang.specs.Statements.{statement_of}
+use Rattle.lrc_program.specs.Statements.{statement_of}
 use Rattle.lrc_lint_warned.specs.Found.{statement_seen}
 use Rattle.lrc_lint_warned.specs.Places.{statement_at}
 use Rattle.lrc_lint_warned.proofs.Standing.{past_either, zip_all, zip_more}

@@ -1,7 +1,7 @@
 -- What was joined so far, and then what is joined of the rest.
 use Rattle.std.proofs.Common.{◌≡◌, ◌++◌, map, drop}
 use Rattle.std.specs.List.{zip}
-use Rattle.lrc_lang.specs.Statements.{statement_of}
+use Rattle.lrc_program.specs.Statements.{statement_of}
 use Rattle.lrc_lint_warned.specs.Found.{statement_seen}
 use Rattle.lrc_lint_warned.specs.Places.{statement_at}
 use Rattle.lrc_lint_warned.proofs.places.zip_statements.Given as goal

@@ -1,6 +1,6 @@
 -- The marks of the statements of the block so far were made, and it is known whether one of these undoes something.
 use Rattle.std.proofs.Common.{◌≡◌, ◌++◌, take}
-use Rattle.lrc_lang.specs.Statements.{block_of}
+use Rattle.lrc_program.specs.Statements.{block_of}
 use Rattle.lrc_lint_warned.specs.Inside.{statements_in}
 use Rattle.lrc_lint_warned.proofs.Marks.{marks_of, some_in}
 use Rattle.lrc_lint_warned.proofs.undone.+undone.Given as goal

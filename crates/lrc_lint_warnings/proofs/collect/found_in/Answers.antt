@@ -1,7 +1,7 @@
 use Rattle.std.proofs.Common.{◌∙◌, ap, map, List}
-use Rattle.lrc_lang.specs.declared.program.Statement.{Statement}
+use Rattle.lrc_program.specs.declared.Statement.{Statement}
 use Rattle.lrc_lang.specs.Parser.View.{token_of}
-use Rattle.lrc_lang.specs.Statements.{block_of}
+use Rattle.lrc_program.specs.Statements.{block_of}
 use Rattle.lrc_lint_warned.specs.Found.{node_seen, statement_seen}
 use Rattle.lrc_lint_warned.specs.Places.{nodes_at, statements_at}
 use Rattle.lrc_lint_warnings.proofs.Grown.{all_same}

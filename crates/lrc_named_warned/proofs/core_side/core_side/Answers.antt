@@ -1,11 +1,11 @@
 use Rattle.std.proofs.Common.{◌∙◌, ℕ, List, [], ap, ap₂, map, refl}
 use Rattle.lrc_lang.specs.declared.positions.Located as code_located
-use Rattle.lrc_lang.specs.declared.program.Statement.{Statement}
+use Rattle.lrc_program.specs.declared.Statement.{Statement}
 use Rattle.lrc_lang.specs.declared.token.Token as code_token
 use Rattle.lrc_lang.specs.Parser.Located.{located_of}
 use Rattle.lrc_lang.specs.Parser.View.{token_of}
-use Rattle.lrc_lang.specs.Statements.{block_of}
-use Rattle.lrc_lang.specs.Tree.{program_of}
+use Rattle.lrc_program.specs.Statements.{block_of}
+use Rattle.lrc_program.specs.Tree.{program_of}
 use Rattle.lrc_labels.specs.declared.cut.Divider.TheVariants.{LineFeed}
 use Rattle.lrc_labels.specs.Cut.{cut, divides}
 use Rattle.lrc_labels.specs.Reading.{labels_of}

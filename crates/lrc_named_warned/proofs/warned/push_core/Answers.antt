@@ -1,6 +1,6 @@
 use Rattle.std.proofs.Common.{map}
 use Rattle.std.proofs.lemmas.Result.{on_ok_weaker}
-use Rattle.lrc_lang.specs.Tree.{program_of as core_program_of}
+use Rattle.lrc_program.specs.Tree.{program_of as core_program_of}
 use Rattle.lrc_named_core.specs.View.{origin_of}
 use Rattle.lrc_named_tokens.specs.View.{located_of}
 use Rattle.lrc_named_tree.specs.View.{program_of}

@@ -3,7 +3,7 @@ use Rattle.std.proofs.Common.{◌≡◌, true, sym, ap, ◌∙◌, subst}
 use Rattle.lrc_exec.specs.Ask.{ask_of, deed_asked}
 use Rattle.lrc_exec.specs.Meaning.{next_of}
 use Rattle.lrc_exec.specs.Spots.{thread_at, spot_thread}
-use Rattle.lrc_consistency_laws.specs.Follows.{Goes}
+use Rattle.lrc_exec.specs.Follows.{Goes}
 use Rattle.lrc_orders_settling.specs.Settling.{is_free_ask, is_last_ask, is_barrier_ask}
 use Rattle.lrc_orders_settling.proofs.Freely.{frees, stops_for_good, goes_on}
 use Rattle.lrc_orders_settling.proofs.settling.make_free_act.Goals.{then-is_last, else-is_last}

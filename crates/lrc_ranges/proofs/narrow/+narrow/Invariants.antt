@@ -1,8 +1,8 @@
 -- How far a condition still has to be gone into: three times its operators, and the sides of one by two more, or one more once
 -- it is known what they are to one another.
 use Rattle.std.proofs.Common.{◌+◌, ◌*◌}
-use Rattle.lrc_lang.specs.Sizes.{operators_in}
-use Rattle.lrc_lang.specs.Statements.{expression_of}
+use Rattle.lrc_program.specs.Sizes.{operators_in}
+use Rattle.lrc_program.specs.Statements.{expression_of}
 use Rattle.lrc_ranges.proofs.narrow.+narrow.Given as goal
 
 abbrev pub decreases-narrow : goal.decreases-narrow

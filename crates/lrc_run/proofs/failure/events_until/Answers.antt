@@ -2,7 +2,7 @@ use Rattle.std.proofs.Common.{◌≡◌, ◌∙◌, ◌<◌, ◌≤◌, Some, ap
 use Rattle.std.specs.Prelude.{IfOk, slice_get}
 use Rattle.std.proofs.lemmas.Bool.{ltb-true}
 use Rattle.std.proofs.lemmas.Option.{slice_get-get_or, slice_get_past}
-use Rattle.lrc_node.specs.Logged.{seen_input}
+use Rattle.lrc_log.specs.Input.{seen_input}
 use Rattle.lrc_run.specs.Halts.{AreEventsOf, AreUnmatched}
 use Rattle.lrc_run.specs.Unfinished.{input_of, next_taken}
 use Rattle.lrc_run.proofs.Behind.{no_log, no_mailbox, one_behind}

@@ -4,7 +4,7 @@ use Rattle.lrc_lang.specs.FirstFault.{placed}
 use Rattle.lrc_lang.specs.Positions.{Located}
 use Rattle.lrc_lang.specs.Symbol.{Names}
 use Rattle.lrc_lang.specs.Token.{Placed}
-use Rattle.lrc_lang.specs.Tree.{ProgramTree, program_of}
+use Rattle.lrc_program.specs.Tree.{ProgramTree, program_of}
 use Rattle.lrc_lang.proofs.LexemesUnique.{unique}
 use Rattle.lrc_lang.proofs.Located.{lexed_located}
 use Rattle.lrc_lang.proofs.OneAnswer.{of_program}

@@ -1,7 +1,7 @@
 use Rattle.std.proofs.Common.{◌≡◌, ◌∙◌, ◌∷◌, ◌++◌, ◌<◌, ◌≤◌, [], ℕ, length, Some, Vec, Global, ap, ap₂, sym, subst, rules, map}
 use Rattle.std.specs.Prelude.{Err, List}
 use Rattle.lrc_labels.specs.Reading.{label_seen}
-use Rattle.lrc_lang.specs.declared.program.Program.{Program}
+use Rattle.lrc_program.specs.declared.Program.{Program}
 use Rattle.lrc_protocol.specs.Run.{fresh_world, played}
 use Rattle.lrc_states.specs.declared.fault.StatesFault.{StatesFault}
 use Rattle.lrc_states.specs.declared.fault.StatesFault.TheVariants.{TooLong}

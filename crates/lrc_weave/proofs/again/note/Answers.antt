@@ -1,6 +1,6 @@
 use Rattle.std.proofs.Common.{rules, ap, sym, ◌∙◌}
 use Rattle.std.specs.Prelude.{◌||◌}
-use Rattle.lrc_node.specs.Logged.{seen_input}
+use Rattle.lrc_log.specs.Input.{seen_input}
 use Rattle.lrc_weave.specs.Again.{has_key}
 use Rattle.lrc_weave.specs.Woven.{takes_same}
 use Rattle.lrc_weave.proofs.Repeated.{noted_one}

@@ -1,5 +1,5 @@
 use Rattle.std.proofs.Common.{map, rules}
-use Rattle.lrc_node.specs.Logged.{seen_input}
+use Rattle.lrc_log.specs.Input.{seen_input}
 use Rattle.lrc_weave.proofs.Further.{woven_with, woven_without}
 use Rattle.lrc_weave.proofs.woven.events_with.Goals as goal
 

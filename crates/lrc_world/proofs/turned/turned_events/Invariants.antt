@@ -1,5 +1,5 @@
 use Rattle.std.proofs.Common.{◌≡◌, ℕ, length, map}
-use Rattle.lrc_lang.specs.declared.program.Program.{Program}
+use Rattle.lrc_program.specs.declared.Program.{Program}
 use Rattle.lrc_protocol.specs.Node.{OptionsRecord}
 use Rattle.lrc_world.proofs.Walked.{Walks}
 use Rattle.lrc_world.proofs.turned.turned_events.Given as goal

@@ -1,8 +1,8 @@
 -- Each answer leads to the place after the statement, or to where its condition leads.
 use Rattle.std.proofs.Common.{◌≡◌, ◌≤◌, ◌-◌, ℕ, length, get_or, refl, sym, subst, arith}
-use Rattle.lrc_lang.specs.declared.program.Statement.{Statement}
-use Rattle.lrc_lang.specs.Sizes.{names_in_statement}
-use Rattle.lrc_lang.specs.Statements.{statement_of}
+use Rattle.lrc_program.specs.declared.Statement.{Statement}
+use Rattle.lrc_program.specs.Sizes.{names_in_statement}
+use Rattle.lrc_program.specs.Statements.{statement_of}
 use Rattle.lrc_exec.specs.declared.code.Instruction.{Instruction}
 use Rattle.lrc_exec.specs.declared.spot.Flat.{Flat}
 use Rattle.lrc_exec.specs.declared.spot.Spot.{Spot}

@@ -1,6 +1,6 @@
 -- What is asked for is the act of the statement at the node's place.
 use Rattle.std.proofs.Common.{◌≡◌, ◌∙◌, List, get_or, refl, sym, ap, subst, arith}
-use Rattle.lrc_lang.specs.declared.program.Statement.{Statement}
+use Rattle.lrc_program.specs.declared.Statement.{Statement}
 use Rattle.lrc_exec.specs.declared.spot.Wish.{Wish}
 use Rattle.lrc_exec.specs.Ask.{ask_of, TakesAnswer}
 use Rattle.lrc_exec.specs.Flat.{rest_at}

@@ -1,5 +1,5 @@
 use Rattle.std.proofs.Common.{◌∙◌, ap, subst, sym}
-use Rattle.lrc_consistency_laws.specs.Follows.{nodes_of_acts}
+use Rattle.lrc_exec.specs.Follows.{nodes_of_acts}
 use Rattle.lrc_orders_ends.specs.Ends.{CannotEnd}
 use Rattle.lrc_explore_ends.specs.Lost.{IsFirstLost}
 use Rattle.lrc_explore_ends.proofs.Standing.{every_order_ends, this_cannot_end}

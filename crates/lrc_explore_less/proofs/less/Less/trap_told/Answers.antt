@@ -1,6 +1,6 @@
 use Rattle.std.proofs.Common.{◌∙◌, sym, ap, subst}
 use Rattle.std.specs.Prelude.{is_none}
-use Rattle.lrc_consistency_laws.specs.Follows.{nodes_of_acts}
+use Rattle.lrc_exec.specs.Follows.{nodes_of_acts}
 use Rattle.lrc_explore_less.specs.Passing.{IsTrap}
 use Rattle.lrc_explore_less.proofs.Enough.{never_trapping}
 use Rattle.lrc_explore_less.proofs.Steps.{trap_order}

@@ -6,9 +6,9 @@ use Rattle.std.proofs.lemmas.List.{length-reverse, nil_from_length}
 use Rattle.lrc_lang.specs.declared.body.Around as code_around
 use Rattle.lrc_lang.specs.declared.body.Place as code_place
 use Rattle.lrc_lang.specs.declared.body.Place.TheVariants as code_places
-use Rattle.lrc_lang.specs.declared.program.Expression.{Expression}
-use Rattle.lrc_lang.specs.declared.program.Statement.{Statement}
-use Rattle.lrc_lang.specs.Tree.{Block, if_else, empty, expression_of, block_of}
+use Rattle.lrc_program.specs.declared.Expression.{Expression}
+use Rattle.lrc_program.specs.declared.Statement.{Statement}
+use Rattle.lrc_program.specs.Tree.{Block, if_else, empty, expression_of, block_of}
 use Rattle.lrc_lang.specs.Parser.Partial.{Partial}
 use Rattle.lrc_lang.specs.Parser.Body.{Around, Place, holding, whole_in, done}
 use Rattle.lrc_lang.specs.Parser.Seen.{partial_seen, GivesNew}

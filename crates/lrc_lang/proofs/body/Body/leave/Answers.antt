@@ -1,5 +1,5 @@
 use Rattle.std.proofs.Common.{rules}
-use Rattle.lrc_lang.proofs.Trees.{row_of_hidden}
+use Rattle.lrc_program.proofs.Trees.{row_of_hidden}
 use Rattle.lrc_lang.proofs.body.Body.leave.Goals as goal
 
 pub returns-in-Else : goal.returns-in-Else

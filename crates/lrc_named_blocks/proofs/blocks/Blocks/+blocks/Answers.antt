@@ -1,6 +1,6 @@
 -- Each statement has its rule.
 use Rattle.std.proofs.Common.{◌≡◌, ◌+◌, ◌-◌, ◌*◌, ◌<◌, ◌≤◌, true, false, length, take, drop, ap, sym, subst, arith, ◌∙◌}
-use Rattle.lrc_lang.specs.declared.program.Operator.TheVariants.{Add, Less}
+use Rattle.lrc_program.specs.declared.Operator.TheVariants.{Add, Less}
 use Rattle.lrc_named_tree.specs.Tree as tree
 use Rattle.lrc_named_tree.specs.View as trees
 use Rattle.lrc_named_tree.specs.View.{named_of, place_of}

@@ -1,7 +1,7 @@
 -- Each form of an expression has a rule.
 use Rattle.std.proofs.Common.{◌≡◌, ◌<◌, ◌+◌, ◌*◌, true, false, Some, map, length, sym, ap, subst, arith, ◌∙◌}
 use Rattle.std.proofs.lemmas.List.{length-map}
-use Rattle.lrc_lang.specs.declared.program.Operator.TheVariants.{Equal}
+use Rattle.lrc_program.specs.declared.Operator.TheVariants.{Equal}
 use Rattle.lrc_named_tree.specs.Tree.{Expressions}
 use Rattle.lrc_named_tree.specs.Tree as tree
 use Rattle.lrc_named_tree.specs.View.{named_of, expressions_of, row_of}

@@ -5,7 +5,7 @@ use Rattle.std.proofs.lemmas.Result.{IfOk-weaker}
 use Rattle.std.proofs.lemmas.List.FromFn.{length-range_with_len}
 use Rattle.lrc_exec.specs.Flat.{statements_in}
 use Rattle.lrc_lang.specs.Faults.{IsText}
-use Rattle.lrc_lang.specs.Tree.{block_of, program_of}
+use Rattle.lrc_program.specs.Tree.{block_of, program_of}
 use Rattle.lrc_lines.specs.Statements.{numbers_of}
 use Rattle.lrc_lines.proofs.Numbering.{lines_counted}
 use Rattle.lrc_source.specs.Telling.{AreLines, AreLinesBy, ReadText, Telling, telling_seen}

@@ -3,7 +3,7 @@ use Rattle.lrc_lang.specs.Faults.{HasFirstFault, IsText}
 use Rattle.std.specs.Prelude.{IsErrAnd}
 use Rattle.lrc_lang.specs.declared.fault.ParseFault.{ParseFault}
 use Rattle.lrc_lang.specs.Parser.SeenParser.{IsOutOfMemory}
-use Rattle.lrc_lang.specs.Tree.{ProgramTree, program_of}
+use Rattle.lrc_program.specs.Tree.{ProgramTree, program_of}
 use Rattle.lrc_source.specs.Sources.{SourceRecord}
 use Rattle.lrc_source.proofs.text.SourceText.read.Goals as goal
 

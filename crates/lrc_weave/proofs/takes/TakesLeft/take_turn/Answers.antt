@@ -1,6 +1,6 @@
 use Rattle.std.proofs.Common.{ap, sym, ◌∙◌, rules}
 use Rattle.lrc_protocol.specs.Run.{EntryRecord, taken}
-use Rattle.lrc_node.specs.Logged.{seen_input}
+use Rattle.lrc_log.specs.Input.{seen_input}
 use Rattle.lrc_weave.proofs.Comparing.{turn_is}
 use Rattle.lrc_weave.proofs.takes.TakesLeft.take_turn.Goals as goal
 

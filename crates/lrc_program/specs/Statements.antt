@@ -1,11 +1,11 @@
 -- Expressions and statements without where they lie in memory.
 use Rattle.std.specs.Prelude.{ℕ, List, [], ◌∷◌}
-use Rattle.lrc_lang.specs.declared.program.Operator.{Operator}
-use Rattle.lrc_lang.specs.declared.program.Expression as code_expression
-use Rattle.lrc_lang.specs.declared.program.Expression.{Number, Private, Me, Nodes, Binary'}
-use Rattle.lrc_lang.specs.declared.program.Statement as code_statement
-use Rattle.lrc_lang.specs.declared.program.Statement.{Assign, Read, Write, Acquire, Release, Barrier, Print, If', While'}
-use Rattle.lrc_lang.specs.declared.program.Statement.{Row_of-Statement, end_of-Statement, more_of-Statement}
+use Rattle.lrc_program.specs.declared.Operator.{Operator}
+use Rattle.lrc_program.specs.declared.Expression as code_expression
+use Rattle.lrc_program.specs.declared.Expression.{Number, Private, Me, Nodes, Binary'}
+use Rattle.lrc_program.specs.declared.Statement as code_statement
+use Rattle.lrc_program.specs.declared.Statement.{Assign, Read, Write, Acquire, Release, Barrier, Print, If', While'}
+use Rattle.lrc_program.specs.declared.Statement.{Row_of-Statement, end_of-Statement, more_of-Statement}
 
 -- an expression; a private name is its number
 pub data Expression : Type 0 where

@@ -1,6 +1,6 @@
 -- Acts that follow the text: each node's deeds are those that its thread makes, a read taking the value that it names.
 use Rattle.std.specs.Prelude.{ℕ, ◌<◌, ◌==◌, Option, Some, None, List, [], ◌∷◌, map, filter, All}
-use Rattle.lrc_lang.specs.declared.program.Program.{Program}
+use Rattle.lrc_program.specs.declared.Program.{Program}
 use Rattle.lrc_trace.specs.declared.act.Act.{Act}
 use Rattle.lrc_trace.specs.declared.act.Deed.{Deed}
 use Rattle.lrc_trace.specs.declared.act.Deed.TheVariants.{Quiet, Print, Read, Write, Acquire, Release, Arrive, Depart, Trap, End}

@@ -1,11 +1,14 @@
-// The trees of a program.
+//! The syntax trees of the programs that run on the shared memory: operators, expressions, statements, and programs
+//! within the limits of the language.
+#![tactic(auto)]
 
 ghost use Rattle.std.specs.Prelude.{◌≡◌, ◌≤◌};
-ghost use Rattle.lrc_lang.specs.declared.TheConstants.{MOST_WORDS};
-ghost use Rattle.lrc_lang.specs.Sizes.{names_in, depth_of, most_operators};
-ghost use Rattle.lrc_lang.specs.Statements.{block_of};
+ghost use Rattle.lrc_program.specs.declared.TheConstants.{MOST_WORDS};
+ghost use Rattle.lrc_program.specs.Sizes.{names_in, depth_of, most_operators};
+ghost use Rattle.lrc_program.specs.Statements.{block_of};
 
-use crate::MOST_WORDS;
+/// The largest number of words of a program's shared memory.
+pub const MOST_WORDS: u32 = 65_536;
 
 /// An operator. Values are u64, and sums, differences and products wrap. A comparison gives 1 or 0.
 #[derive(Clone, Copy, PartialEq, Eq)]

@@ -1,7 +1,7 @@
 -- How large a tree is: the private names that it takes, how deep its blocks lie in one another, and its operators.
 use Rattle.std.specs.Prelude.{ℕ, ◌+◌, max}
-use Rattle.lrc_lang.specs.Statements.{Expression, number, private, me, nodes, binary, Statement, assign, read, write}
-use Rattle.lrc_lang.specs.Statements.{acquire, release, barrier, print, if_else, while_do, Block, empty, next}
+use Rattle.lrc_program.specs.Statements.{Expression, number, private, me, nodes, binary, Statement, assign, read, write}
+use Rattle.lrc_program.specs.Statements.{acquire, release, barrier, print, if_else, while_do, Block, empty, next}
 
 -- how many private names an expression takes, counted up to the largest number of one in it
 abbrev pub names_in_expression : Expression → ℕ
