@@ -9,8 +9,8 @@ use lrc_orders::search::ExploreFault;
 use lrc_orders_settling::step::Step;
 use std::alloc::{AllocError, Global};
 
-// The run has so many steps, which take about a millisecond.
-const STEPS: u32 = 1_000;
+// The run has so many rounds: it takes a few milliseconds at most, where no thread computes for long.
+const ROUNDS: usize = 200;
 
 /// Lets the nodes act in turn, for a while. Returns whether two nodes meet on the way, if `races` is true, the program gets
 /// stuck, or a node traps; not, if a node makes so many free acts that the limit is reached. It fails if memory runs out.
@@ -30,16 +30,12 @@ fn tells_in_turn(alloc: Global, task: &Task<'_>, races: bool) -> Result<bool, Ex
 {
     let mut found = Found::none(alloc, task.flat.nodes as usize);
     let traps = found.begin(alloc, task)?;
-    if traps {
+    if traps || is_told(&found, task, 0, races) {
         return Ok(true);
     }
     let mut place = 0;
-    for turn in 0..STEPS {
-        if is_told(&found, task, place, races) {
-            return Ok(true);
-        }
-        let step = step_in_turn(task, turn);
-        match moved(&mut found, alloc, task, place, step)? {
+    for _round in 0..ROUNDS {
+        match after_round(&mut found, alloc, task, place, races)? {
             Some(next) => place = next,
             None => return Ok(true),
         }
@@ -47,40 +43,40 @@ fn tells_in_turn(alloc: Global, task: &Task<'_>, races: bool) -> Result<bool, Ex
     Ok(false)
 }
 
-// Whether two nodes meet at the state at a place, if that is looked for, or the program is stuck there.
-fn is_told(found: &Found, task: &Task<'_>, place: usize, races: bool) -> bool
-    requires found { AreFound task.now found.now }
-    requires within { place < row_count found.now.table.rows }
+// Lets each node act that can, and then all depart together if they can, from the state at a place: the place of the
+// state to which that leads. None: there is something to tell on the way.
+fn after_round(
+    found: &mut Found,
+    alloc: Global,
+    task: &Task<'_>,
+    place: usize,
+    races: bool,
+) -> Result<Option<usize>, ExploreFault>
+    requires task { IsTask task.now }
+    requires found { AreFound task.now found.old }
+    requires within { place < row_count found.old.table.rows }
+    ensures found { OnOk result (AreFound task.now found.new) }
+    ensures within { IfOk result (λ next. IfSome next (λ there. there < row_count found.new.table.rows)) }
 {
-    let _most = task.most;
-    let row = found.table.rows.row(place);
-    if races && found.table.meeting(&row).is_some() {
-        return true;
+    let mut at = place;
+    for node in 0..task.flat.nodes {
+        match moved(found, alloc, task, at, Step::Alone(node), races)? {
+            Some(next) => at = next,
+            None => return Ok(None),
+        }
     }
-    found.table.is_stuck(&row)
+    moved(found, alloc, task, at, Step::Together, races)
 }
 
-// The step that is next in turn: of each node alone, and then of all together.
-fn step_in_turn(task: &Task<'_>, turn: u32) -> Step
-    ensures { IsStepOf task.now result }
-{
-    let nodes = task.flat.nodes;
-    let node = turn % (u32::from(nodes) + 1);
-    if node < u32::from(nodes) {
-        Step::Alone(node as u8)
-    } else {
-        Step::Together
-    }
-}
-
-// The place of the state that a step leads to from that at a place: the same if it cannot be taken, and none if a node
-// traps in it.
+// The place of the state to which a step leads from that at a place: the same if it cannot be taken. None: there is
+// something to tell of it.
 fn moved(
     found: &mut Found,
     alloc: Global,
     task: &Task<'_>,
     place: usize,
     step: Step,
+    races: bool,
 ) -> Result<Option<usize>, ExploreFault>
     requires task { IsTask task.now }
     requires found { AreFound task.now found.old }
@@ -92,13 +88,26 @@ fn moved(
     let Some(led) = found.row_after(alloc, task, place, step)? else {
         return Ok(Some(place));
     };
-    if led.traps {
-        return Ok(None);
-    }
     let origin = Origin {
         parent: place,
         step,
     };
     let next = found.put(task, led.row, origin)?;
+    if led.traps || is_told(found, task, next, races) {
+        return Ok(None);
+    }
     Ok(Some(next))
+}
+
+// Whether two nodes meet at the state at a place, if that is looked for, or the program is stuck there.
+fn is_told(found: &Found, task: &Task<'_>, place: usize, races: bool) -> bool
+    requires found { AreFound task.now found.now }
+    requires within { place < row_count found.now.table.rows }
+{
+    let _most = task.most;
+    let row = found.table.rows.row(place);
+    if found.table.is_stuck(&row) {
+        return true;
+    }
+    races && found.table.meeting(&row).is_some()
 }

@@ -79,7 +79,6 @@ impl Reaches {
     /// Returns the lowest node whose next act is a read, a write or an acquire that is known to be undisputed, if the
     /// node makes it: the text of each other node, followed up to its next barriers, comes to no act that conflicts. Where
     /// hardly any was found lately, most states are not looked at. It fails if memory runs out.
-    #[tactic(auto, using(crate::proofs::Pairs::reaches_counted))]
     pub fn undisputed_node(
         &mut self,
         alloc: Global,
@@ -102,9 +101,7 @@ impl Reaches {
             return Ok(None);
         }
         let found = self.known_node(alloc, means, table, row)?;
-        if found.is_some() {
-            self.vain = self.vain.min(MOST_VAIN).saturating_sub(WORTH);
-        }
+        self.vain = vain_then(self.vain, found.is_some());
         Ok(found)
     }
 
@@ -322,9 +319,18 @@ impl Reaches {
     }
 }
 
-// Whether the state is left out behind which so many were met in vain.
+// Whether a state is left out, where so many lately had no known undisputed act, this one counted.
 fn is_left_out(vain: u64) -> bool {
     vain > MOST_VAIN && vain % SELDOM != 0
+}
+
+// How many lately had none, once this one was looked at.
+fn vain_then(vain: u64, found: bool) -> u64 {
+    if found {
+        vain.min(MOST_VAIN).saturating_sub(WORTH)
+    } else {
+        vain
+    }
 }
 
 // The thread of a number.

@@ -4,5 +4,8 @@ use Rattle.lrc_orders_table.specs.Rows.{row_count}
 use Rattle.lrc_explore.specs.Reached.{AreFound}
 use Rattle.lrc_explore_less.proofs.soon.tells_in_turn.Given as goal
 
-abbrev pub invariant-loop-turn : goal.invariant-loop-turn
-invariant-loop-turn l = AreFound l.task l.found × (l.place < row_count l.found.table.rows)
+abbrev pub invariant-loop-round : goal.invariant-loop-round
+invariant-loop-round l = record {
+  found : AreFound l.task l.found;
+  within : l.place < row_count l.found.table.rows;
+}
