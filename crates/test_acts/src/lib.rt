@@ -1,4 +1,4 @@
-//! Tests of reading texts of acts. The crate `test_examples` tests what `judge` prints for them.
+//! Tests of reading texts of acts. `tests/rows` tests what `judge` prints for them.
 #![tactic(auto)]
 
 #[cfg(test)]

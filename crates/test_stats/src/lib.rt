@@ -1,4 +1,4 @@
-//! Tests of the times of a run's acts. The crate `test_examples` tests its counts.
+//! Tests of the times of a run's acts. `tests/rows` tests its counts.
 #![tactic(auto)]
 
 #[cfg(test)]
