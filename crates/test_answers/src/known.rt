@@ -1,7 +1,7 @@
 // What is known of nodes in runs, and where nodes first know.
 
 use crate::checks::passes;
-use crate::runs::{
+use crate::reason_runs::{
     CROSSED_TWICE, DISAGREEING, EARLY_DEPART, LATE_WRITE, NO_ARRIVE, THIRD_AFTER_TWO, TWO_BARRIERS,
 };
 use lrc_judge::are_in_range;

@@ -1,7 +1,7 @@
 // The reasons of acts.
 
 use crate::checks::passes;
-use crate::runs::LATE_WRITE;
+use crate::reason_runs::LATE_WRITE;
 use lrc_judge::order::happens_before;
 use lrc_judge::{are_in_range, intervals_of};
 use lrc_trace::act::Act;

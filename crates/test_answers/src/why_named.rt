@@ -2,7 +2,7 @@
 // the translation's own hold, and with what the text says of traps.
 
 use crate::checks::passes;
-use crate::runs::{answer_to, is_text};
+use crate::why_runs::{answer_to, is_text};
 use lrc_named_core::tree::Trap;
 use lrc_named_held::Held;
 use lrc_page::Size;

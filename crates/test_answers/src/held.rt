@@ -1,7 +1,7 @@
 // The locks held in runs, and how often nodes have departed.
 
 use crate::checks::passes;
-use crate::runs::{LATE_WRITE, NO_ARRIVE, OTHER_LOCKS, TWO_BARRIERS};
+use crate::reason_runs::{LATE_WRITE, NO_ARRIVE, OTHER_LOCKS, TWO_BARRIERS};
 use lrc_trace::act::Act;
 use lrc_why_chains::held::{departs_at, held_at};
 use std::alloc::Global;

@@ -3,7 +3,7 @@
 ghost use Rattle.lrc_judge.specs.Order.{IsOrderOf};
 
 use crate::checks::passes;
-use crate::runs::{
+use crate::reason_runs::{
     CROSSED_TWICE, DISAGREEING, LATE_WRITE, MANY_VALUES, OLDER_VALUE, ONE_NODE, THIRD_AFTER_TWO,
     UNFOLLOWED_BOTH,
 };
