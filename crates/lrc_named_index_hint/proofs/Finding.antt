@@ -79,3 +79,8 @@ no_value_over scope e size none = λ v s k. none v k.1.is
 pub faulty_over : (scope : Scope) (e : Expression) (size : ℕ) (fault : Fault) → IsInExpression scope e fault
     → IsFound (λ v own. (own ≡ size) × IsIndexOver scope e v own) None
 faulty_over scope e size fault has = λ v s k. k.1.clean fault has
+
+-- where the first is so of nothing, what the second is so of
+pub either_found : (A B : ℕ → ℕ → Type 0) (found : Option Beyond) → IsFound A None → IsFound B found → IsFound (λ v s. A v s ⊎ B v s) found
+either_found A B None not h = λ v s e. elim e [ inl a ↦ not v s a | inr b ↦ h v s b ]
+either_found A B (Some x) not h = inr h

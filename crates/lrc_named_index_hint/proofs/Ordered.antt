@@ -75,12 +75,12 @@ mutual
 
   pub indices_stand : {indices : Expressions} {at last : ℕ} {all rest : List Numbered} (n : ℕ) → AreIndices indices at last all rest → IsFrom n all → Stand n indices rest
   indices_stand n grammar.no_index h = (tt, tt, h)
-  indices_stand n (grammar.one_index {opens = opens} {closes = closes} {others = others} {rest = rest} inside more) h =
+  indices_stand n (grammar.one_index {opens = opens} {closes = closes} {others = others} {rest = rest} inside next) h =
       let le = h.0 in
       let i = stands (opens + 1) inside h.1 in
       let first = i.0 in
       let behind = i.2.0 in
-      let o = indices_stand (closes + 1) more i.2.1 in
+      let o = indices_stand (closes + 1) next i.2.1 in
       ((omega arith, begin_less n (closes + 1) others (omega arith) o.0), (i.1, o.1), from_less n (closes + 1) rest (omega arith) o.2)
 
   arguments_stand : {arguments : Expressions} {closes : ℕ} {all rest : List Numbered} (n : ℕ) → AreArguments arguments closes all rest → IsFrom n all

@@ -40,7 +40,7 @@ back : (scope : Scope) (xs ys : List Spot) → Some_over scope ys → Some_over 
 back scope xs ys h = (h.0, h.1, one_back scope xs ys h.0 h.1 h.2)
 
 -- faults of names are others
-element_other : (k : Bool) (sense : Sense) (named : Named) (indices : Expressions) (f : Fault) → f.kind ≡ IndexOutOfRange
+pub element_other : (k : Bool) (sense : Sense) (named : Named) (indices : Expressions) (f : Fault) → f.kind ≡ IndexOutOfRange
     → IsInElement k sense named indices f → ⊥
 element_other k unknown named indices f is h = let e = of_kind is h in absurd (cc)
 element_other k parameter named indices f is h = let e = of_kind is h.1 in absurd (cc)
@@ -51,7 +51,7 @@ element_other k (declared (function own body)) named indices f is h = let e = of
 element_other k (declared (shared item)) named indices f is h =
     elim h [ inl a ↦ (let e = of_kind is a.1 in absurd (cc)) | inr b ↦ (let e = of_kind is b.2 in absurd (cc)) ]
 
-call_other : (scope : Scope) (sense : Sense) (named : Named) (arguments : Expressions) (close : ℕ) (f : Fault) → f.kind ≡ IndexOutOfRange
+pub call_other : (scope : Scope) (sense : Sense) (named : Named) (arguments : Expressions) (close : ℕ) (f : Fault) → f.kind ≡ IndexOutOfRange
     → IsInCall scope sense named arguments close f → ⊥
 call_other scope unknown named arguments close f is h = let e = of_kind is h in absurd (cc)
 call_other scope parameter named arguments close f is h = let e = of_kind is h in absurd (cc)
@@ -117,11 +117,14 @@ first_dropped [] (suc i) = refl
 first_dropped (size ∷ sizes) zero = refl
 first_dropped (size ∷ sizes) (suc i) = first_dropped sizes i
 
+dropped_next : (sizes : List ℕ) (i : ℕ) → drop 1 (drop i sizes) ≡ drop (suc i) sizes
+dropped_next [] zero = refl
+dropped_next [] (suc i) = refl
+dropped_next (size ∷ sizes) zero = refl
+dropped_next (size ∷ sizes) (suc i) = dropped_next sizes i
+
 one_dropped : (sizes : List ℕ) (i : ℕ) → drop 1 (drop i sizes) ≡ drop (i + 1) sizes
-one_dropped [] zero = refl
-one_dropped [] (suc i) = refl
-one_dropped (size ∷ sizes) zero = refl
-one_dropped (size ∷ sizes) (suc i) = one_dropped sizes i
+one_dropped sizes i = dropped_next sizes i ∙ ap (λ n. drop n sizes) (omega arith)
 
 -- an index that is beyond its size is over it
 chosen : (b : Bool) (spot : Spot) → b ≡ true → (if b then spot ∷ [] else []) ≡ spot ∷ []
@@ -130,23 +133,32 @@ chosen b spot e = ap (λ c. if c then spot ∷ [] else []) e
 same_token : (m n : ℕ) → m ≡ n → (m == n) ≡ true
 same_token m n e = grind (arith, nat_tests)
 
-spot_over : (scope : Scope) (at : ℕ) (named : Named) (number size : ℕ) (e : Expression) (f : Fault) → f.at ≡ at
-    → slice_get (sizes_of (sense_of scope named.bytes)) number ≡ Some size
-    → IsBeyond (λ g. IsInExpression scope e g) scope e size f → Some_over scope (spot_at at (record { name = named; number = number; index = e }))
-spot_over scope at named number size e f here sized h =
-    let spot : Spot = record { name = named; number = number; index = e } in
+spot_over : (scope : Scope) (at : ℕ) (named : Named) (place size : ℕ) (e : Expression) (f : Fault) → f.at ≡ at
+    → slice_get (sizes_of (sense_of scope named.bytes)) place ≡ Some size
+    → IsBeyond (λ g. IsInExpression scope e g) scope e size f → Some_over scope (spot_at at (record { name = named; number = place; index = e }))
+spot_over scope at named place size e f here sized h =
+    let spot : Spot = record { name = named; number = place; index = e } in
     let token : first_of e ≡ at = sym (ap (λ (g : Fault). g.at) h.1) ∙ here in
     let one : spot_at at spot ≡ spot ∷ [] = chosen (first_of e == at) spot (same_token (first_of e) at token) in
     (h.0.1.0, size, subst (λ l. IsOneOver scope l h.0.1.0 size) (sym one) (inl (sized, record { clean = h.0.0; is = h.0.1.1; over = h.0.1.2 })))
 
 -- an index: it is over its size, or one inside it is
-index_over : (scope : Scope) (at : ℕ) (named : Named) (number : ℕ) (found : Option ℕ) (e : Expression) (f : Fault) → f.at ≡ at
-    → ((s : ℕ) → found ≡ Some s → slice_get (sizes_of (sense_of scope named.bytes)) number ≡ Some s)
+index_over : (scope : Scope) (at : ℕ) (named : Named) (place : ℕ) (found : Option ℕ) (e : Expression) (f : Fault) → f.at ≡ at
+    → ((s : ℕ) → found ≡ Some s → slice_get (sizes_of (sense_of scope named.bytes)) place ≡ Some s)
     → IsInIndex (λ g. IsInExpression scope e g) scope e found f
-    → Some_over scope (spot_at at (record { name = named; number = number; index = e })) ⊎ IsInExpression scope e f
-index_over scope at named number None e f here sized h = inr h
-index_over scope at named number (Some size) e f here sized h =
-    elim h [ inl inside ↦ inr inside | inr beyond ↦ inl (spot_over scope at named number size e f here (sized size refl) beyond) ]
+    → Some_over scope (spot_at at (record { name = named; number = place; index = e })) ⊎ IsInExpression scope e f
+index_over scope at named place None e f here sized h = inr h
+index_over scope at named place (Some size) e f here sized h =
+    elim h [ inl inside ↦ inr inside | inr beyond ↦ inl (spot_over scope at named place size e f here (sized size refl) beyond) ]
+
+-- among the indices of a name, or inside them
+in_both : (scope : Scope) (at : ℕ) (named : Named) (es : Expressions) → Some_over scope (spots_among at named 0 es) ⊎ Some_over scope (spots_in_all at es)
+    → Some_over scope (spots_among at named 0 es ++ spots_in_all at es)
+in_both scope at named es h =
+    elim h [
+      | inl over ↦ front scope (spots_among at named 0 es) (spots_in_all at es) over
+      | inr inside ↦ back scope (spots_among at named 0 es) (spots_in_all at es) inside
+    ]
 
 mutual
   pub in_expression : (scope : Scope) (at : ℕ) (e : Expression) (f : Fault) → f.kind ≡ IndexOutOfRange → f.at ≡ at → IsInExpression scope e f
@@ -157,8 +169,8 @@ mutual
   in_expression scope at (element named indices last) f is here h =
       elim h [
         | inl own ↦ absurd (element_other scope.constant (sense_of scope named.bytes) named indices f is own)
-        | inr inside ↦ in_both scope at named (shared_sizes (sense_of scope named.bytes)) indices f is here
-            (shared_are (sense_of scope named.bytes)) inside
+        | inr inside ↦ in_both scope at named indices
+            (in_indices scope at named (shared_sizes (sense_of scope named.bytes)) 0 indices f is here (shared_are (sense_of scope named.bytes)) inside)
       ]
   in_expression scope at (call named arguments close) f is here h =
       elim h [
@@ -211,16 +223,6 @@ mutual
             ]
       ]
 
-  -- among the indices of a name, or inside them
-  in_both : (scope : Scope) (at : ℕ) (named : Named) (sizes : List ℕ) (es : Expressions) (f : Fault) → f.kind ≡ IndexOutOfRange → f.at ≡ at
-      → ((n s : ℕ) → slice_get sizes n ≡ Some s → slice_get (sizes_of (sense_of scope named.bytes)) n ≡ Some s) → IsInIndices scope es sizes f
-      → Some_over scope (spots_among at named 0 es ++ spots_in_all at es)
-  in_both scope at named sizes es f is here sized h =
-      elim (in_indices scope at named sizes 0 es f is here sized h) [
-        | inl over ↦ front scope (spots_among at named 0 es) (spots_in_all at es) over
-        | inr inside ↦ back scope (spots_among at named 0 es) (spots_in_all at es) inside
-      ]
-
 in_part : (scope : Scope) (at : ℕ) (part : Part) (f : Fault) → f.kind ≡ IndexOutOfRange → f.at ≡ at → IsInPart scope part f
     → Some_over scope (spots_in_part at part)
 in_part scope at (target p) f is here h =
@@ -229,12 +231,14 @@ in_part scope at (target p) f is here h =
         | inl reserved ↦ absurd (reserved_other p.indices p.name f is reserved)
         | inr wrong ↦ absurd (target_other (sense_of scope p.name.bytes) p.name p.indices f is wrong)
       ]
-      | inr inside ↦ in_both scope at p.name (shared_sizes (sense_of scope p.name.bytes)) p.indices f is here (shared_are (sense_of scope p.name.bytes)) inside
+      | inr inside ↦ in_both scope at p.name p.indices
+          (in_indices scope at p.name (shared_sizes (sense_of scope p.name.bytes)) 0 p.indices f is here (shared_are (sense_of scope p.name.bytes)) inside)
     ]
 in_part scope at (lock_place p) f is here h =
     elim h [
       | inl own ↦ absurd (lock_other (sense_of scope p.name.bytes) p.name p.indices f is own)
-      | inr inside ↦ in_both scope at p.name (lock_sizes (sense_of scope p.name.bytes)) p.indices f is here (locks_are (sense_of scope p.name.bytes)) inside
+      | inr inside ↦ in_both scope at p.name p.indices
+          (in_indices scope at p.name (lock_sizes (sense_of scope p.name.bytes)) 0 p.indices f is here (locks_are (sense_of scope p.name.bytes)) inside)
     ]
 in_part scope at (counter named) f is here h =
     elim h [

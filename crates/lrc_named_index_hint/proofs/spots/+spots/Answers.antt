@@ -39,12 +39,12 @@ push_in-returns-in_ok-push_among-in-Element t c =
     let new = map spot_seen c.push_all.new.spots.items in
     let named = named_of c.in-Element.name in
     let own = spots_among at named 0 (expressions_of c.deref.result.now) in
-    let inside = spots_in_all at (expressions_of c.deref-2.result.now) in
+    let inside = spots_in_all at (expressions_of c.deref-in-Element.result.now) in
     let is : spots_in at (expression_of c.args.expression.now) ≡ own ++ inside =
     ap (λ x. spots_in at (expression_of x)) c.in-Element.is
     ∙ ap (λ l. spots_among at named 0 l ++ spots_in_all at l) (row_of_hidden c.in-Element.indices)
     ∙ ap (λ l. spots_among at named 0 (expressions_of l) ++ spots_in_all at (expressions_of c.in-Element.indices.items)) (sym c.deref.ensures.value)
-    ∙ ap (λ l. own ++ spots_in_all at (expressions_of l)) (sym c.deref-2.ensures.value) in
+    ∙ ap (λ l. own ++ spots_in_all at (expressions_of l)) (sym c.deref-in-Element.ensures.value) in
     well (new ≡ one ++ inside) (new ≡ old ++ spots_in at (expression_of c.args.expression.now)) c.push_all.result
     (λ h. two_pieces old one new own inside c.in_ok-push_among-in-Element.ensures h ∙ ap (λ l. old ++ l) (sym is)) c.push_all.ensures
 

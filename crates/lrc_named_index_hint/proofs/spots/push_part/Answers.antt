@@ -14,11 +14,11 @@ returns-in_ok-push_among-in-Target c =
     let new = map spot_seen c.push_all.new.spots.items in
     let p = c.in-Target.place.now in
     let own = spots_among at (named_of p.name) 0 (expressions_of c.deref.result.now) in
-    let inside = spots_in_all at (expressions_of c.deref-2.result.now) in
+    let inside = spots_in_all at (expressions_of c.deref-in-Target.result.now) in
     let is : spots_in_part at (part_seen c.args.part) ≡ own ++ inside =
     ap (λ x. spots_in_part at (part_seen x)) c.in-Target.is
     ∙ ap (λ l. spots_among at (named_of p.name) 0 (expressions_of l) ++ spots_in_all at (expressions_of p.indices.items)) (sym c.deref.ensures.value)
-    ∙ ap (λ l. own ++ spots_in_all at (expressions_of l)) (sym c.deref-2.ensures.value) in
+    ∙ ap (λ l. own ++ spots_in_all at (expressions_of l)) (sym c.deref-in-Target.ensures.value) in
     well (new ≡ one ++ inside) (new ≡ old ++ spots_in_part at (part_seen c.args.part)) c.push_all.result
     (λ h. two_pieces old one new own inside c.in_ok-push_among-in-Target.ensures h ∙ ap (λ l. old ++ l) (sym is)) c.push_all.ensures
 
