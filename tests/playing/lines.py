@@ -1,7 +1,7 @@
 #!/usr/bin/env python3
 """lines.py PROGRAM SCRIPT [CASES]: the script of play/ in node writes what the program writes, byte for byte: standard output, error and status.
 
-All command lines of examples/ and of crates/test_examples, which have to give what their files show, and those of CASES where it is given: a folder
+All command lines of examples/ and of tests/examples, which have to give what their files show, and those of CASES where it is given: a folder
 with a script `run-cases` that unpacks cases (`--unpack`), or one that has been unpacked, NAME.sh for each. They are played in one process; of each
 file of command lines the first one is played by `node SCRIPT` too, with pipes as standard streams. `run` and `--threads` start no thread there: they
 say that memory ran out, or what the program says where it starts none either."""
@@ -17,19 +17,19 @@ from pathlib import Path
 
 HERE = Path(__file__).resolve().parent
 TOP = HERE.parent.parent
-TEST = TOP / "crates/test_examples"
+ROWS = TOP / "tests/examples"
 THREADED = {"run", "--threads"}
 REFUSED = {"status": 1, "out": b"", "err": b"treadmarks: out of memory\n"}
 
 
 def shown_lines():
-    """In the folder that they are shown in, without the words `examples/`, as test_examples plays them; each with what is shown behind it."""
-    for root in (TOP / "examples", TEST / "data"):
+    """In the folder that they are shown in, without the words `examples/`, as tests/rows plays them; each with what is shown behind it."""
+    for root in (TOP / "examples", ROWS):
         for file in sorted(root.rglob("*.expected")):
             parts = re.split(r"^\$ \./run(.*)\n", file.read_text(encoding="utf-8"), flags=re.M)[1:]
             for k, (line, told) in enumerate(zip(parts[::2], parts[1::2])):
                 words = [it.removeprefix("examples/") for it in line.split()]
-                stdin = b"" if words else (TEST / "stdin").read_bytes()
+                stdin = b"" if words else (ROWS / "stdin").read_bytes()
                 yield {"folder": root, "words": words, "stdin": stdin, "told": told.encode(), "is_first": k == 0, "name": f"{file.relative_to(TOP)}: {line.strip()}"}
 
 

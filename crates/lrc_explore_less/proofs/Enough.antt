@@ -1,5 +1,5 @@
 -- What some order shows, an open state shows.
-use Rattle.std.proofs.Common.{◌≡◌, List, true, false, length, sym, ◌∙◌, subst}
+use Rattle.std.proofs.Common.{◌≡◌, List, true, length, sym, ◌∙◌, subst}
 use Rattle.std.specs.Prelude.{◌↔◌, is_none}
 use Rattle.std.proofs.lemmas.Bool.{true≢false}
 use Rattle.std.proofs.lemmas.Option.{slice_get_within}

@@ -12,6 +12,7 @@ ghost use Rattle.lrc_explore.specs.Traps.{LeadIntoTrap, StartTraps};
 
 use crate::ended::all_ended;
 use crate::less::Less;
+use crate::soon::tells_soon;
 use indexmap::IndexSet;
 use lrc_exec::code::Code;
 use lrc_explore::answers::{
@@ -44,8 +45,16 @@ pub fn explore(
 {
     let count = count_of(nodes)?;
     let code = Code::new(alloc, program)?;
+    let soon = is_told_soon(alloc, &code, count, most, true)?;
+    if soon {
+        match explore_all(alloc, program, nodes, most) {
+            Ok(told) => return Ok(told),
+            Err(ExploreFault::TooMany) => {}
+            Err(fault) => return Err(fault),
+        }
+    }
     let verdict = explore_code(alloc, &code, count, most)?;
-    if is_plain(&verdict) {
+    if soon || is_plain(&verdict) {
         return Ok(verdict);
     }
     match explore_all(alloc, program, nodes, most) {
@@ -53,6 +62,19 @@ pub fn explore(
         Err(ExploreFault::TooMany) => Ok(verdict),
         Err(fault) => Err(fault),
     }
+}
+
+// Whether there is something to tell of a short run of a program's flat code, so that the search for what is told comes
+// first.
+fn is_told_soon(
+    alloc: Global,
+    code: &Code<'_>,
+    nodes: u8,
+    most: usize,
+    races: bool,
+) -> Result<bool, AllocError> {
+    let task = task_of(alloc, code, nodes, most, false)?;
+    tells_soon(alloc, &task, races)
 }
 
 // The same of a program's flat code, with an order of the search that makes undisputed acts.
@@ -85,8 +107,16 @@ pub fn findings(
 {
     let count = count_of(nodes)?;
     let code = Code::new(alloc, program)?;
+    let soon = is_told_soon(alloc, &code, count, most, false)?;
+    if soon {
+        match findings_of_all(alloc, program, nodes, most) {
+            Ok(told) => return Ok(told),
+            Err(ExploreFault::TooMany) => {}
+            Err(fault) => return Err(fault),
+        }
+    }
     let findings = findings_of(alloc, &code, count, most)?;
-    if findings.stuck.is_none() && findings.trap.is_none() {
+    if soon || findings.stuck.is_none() && findings.trap.is_none() {
         return Ok(findings);
     }
     match findings_of_all(alloc, program, nodes, most) {

@@ -7,3 +7,4 @@ pub mod answers;
 pub mod ended;
 pub mod less;
 pub mod seek;
+pub mod soon;

@@ -100,6 +100,11 @@ pairs_kept flat threads old new are same texts = record {
   texts = texts;
 }
 
+-- what is known stays so where states are counted
+pub reaches_counted : (flat : Flat) (threads : List Spot) (old : Reaches) (vain : ℕ) → AreReaches flat threads old
+    → AreReaches flat threads (record old { vain = vain })
+reaches_counted flat threads old vain are = record { pairs = are.pairs; texts = are.texts }
+
 -- a text more
 pub texts_more : (flat : Flat) (threads : List Spot) (old new : List (Text × Option (Vec Standing Global))) (text : Text)
     (found : Option (Vec Standing Global)) → AreTexts flat threads old → new ≡ old ++ (text, found) ∷ [] → IsText flat threads text found

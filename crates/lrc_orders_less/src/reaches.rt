@@ -32,13 +32,24 @@ pub struct Text {
     pub blocked: [bool; 64],
 }
 
+// After so many states without a known undisputed act, hardly any is looked at: to follow texts would cost more than it
+// saves. (Peterson's algorithm: 40,000 instructions for each of its first states, where a state itself takes 2,000.)
+const MOST_VAIN: u64 = 500;
+
+// A known undisputed act makes up for so many states without one.
+const WORTH: u64 = 16;
+
+// One state in so many is looked at even then, since behind a barrier others may have undisputed acts.
+const SELDOM: u64 = 256;
+
 /// Of which pairs of threads it was asked whether the other one comes to an act that conflicts with the next one of the
-/// first, and of which it is known that it does not; and to what the texts of threads were followed (none: one was given
-/// up).
+/// first, and of which it is known that it does not; to what the texts of threads were followed (none: one was given
+/// up); and how many states had no known undisputed act lately: an act that was found makes up for some of them.
 #[derive(Drop)]
 pub struct Reaches {
     pub pairs: IndexMap<Pair, bool>,
     pub texts: IndexMap<Text, Option<Vec<Standing>>>,
+    pub vain: u64,
 }
 
 impl Reaches {
@@ -61,13 +72,41 @@ impl Reaches {
         Reaches {
             pairs: IndexMap::new(alloc),
             texts: IndexMap::new(alloc),
+            vain: 0,
         }
     }
 
     /// Returns the lowest node whose next act is a read, a write or an acquire that is known to be undisputed, if the
-    /// node makes it: the text of each other node, followed up to its next barriers, comes to no act that conflicts. It
-    /// fails if memory runs out.
+    /// node makes it: the text of each other node, followed up to its next barriers, comes to no act that conflicts. Where
+    /// hardly any was found lately, most states are not looked at. It fails if memory runs out.
     pub fn undisputed_node(
+        &mut self,
+        alloc: Global,
+        means: &Means<'_>,
+        table: &Table,
+        row: &Row,
+    ) -> Result<Option<usize>, AllocError>
+        requires means { AreMeans means.now }
+        requires table { IsTable means.now table.now }
+        requires row { IsKnown table.now row.now }
+        requires reaches { AreReaches means.now.flat table.now.rows.threads.keys self.old }
+        ensures reaches { OnOk result (AreReaches means.now.flat table.now.rows.threads.keys self.new) }
+        ensures within { IfOk result (λ found. IfSome found (λ node. node < table.now.rows.nodes)) }
+        ensures undisputed { IfOk result (λ found. IfSome found (λ node. (key : Key)
+            → IsRowOf means.now table.now row.now key
+            → IsAlwaysUndisputed means.now.flat key.state node)) }
+    {
+        self.vain = self.vain.saturating_add(1);
+        if is_left_out(self.vain) {
+            return Ok(None);
+        }
+        let found = self.known_node(alloc, means, table, row)?;
+        self.vain = vain_then(self.vain, found.is_some());
+        Ok(found)
+    }
+
+    // The same, where the state is looked at.
+    fn known_node(
         &mut self,
         alloc: Global,
         means: &Means<'_>,
@@ -277,6 +316,20 @@ impl Reaches {
             Some(all) => !may_conflict(&follower, all, deed),
             None => false,
         }
+    }
+}
+
+// Whether a state is left out, where so many lately had no known undisputed act, this one counted.
+fn is_left_out(vain: u64) -> bool {
+    vain > MOST_VAIN && vain % SELDOM != 0
+}
+
+// How many lately had none, once this one was looked at.
+fn vain_then(vain: u64, found: bool) -> u64 {
+    if found {
+        vain.min(MOST_VAIN).saturating_sub(WORTH)
+    } else {
+        vain
     }
 }
 

@@ -4,8 +4,8 @@ ghost use Rattle.std.specs.Prelude.{◌≡◌, ◌++◌, ◌∷◌, [], List, If
 ghost use Rattle.lrc_envelope.specs.declared.limits.TheConstants.{MOST_NODES};
 
 use lrc_envelope::{Envelope, MOST_NODES};
-use lrc_mail::Numbers;
 use lrc_log::{Entry, Input};
+use lrc_mail::Numbers;
 use std::alloc::{AllocError, Global};
 
 /// The messages that a node has taken: for each sender, their numbers.

@@ -4,8 +4,8 @@ ghost use Rattle.std.specs.Prelude.{◌≡◌, ◌++◌, OnOk};
 ghost use Rattle.lrc_log.specs.Input.{seen_input};
 ghost use Rattle.lrc_turns_text.specs.TurnsText.{input_text, turn_act_text, turn_text};
 
-use lrc_messages::{push_all_sent, push_taken};
 use lrc_log::{Entry, Input};
+use lrc_messages::{push_all_sent, push_taken};
 use lrc_text::push_act_line;
 use lrc_trace::act::Act;
 use std::alloc::{AllocError, Global};

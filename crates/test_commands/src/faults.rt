@@ -1,4 +1,4 @@
-// The line of each fault of acts, events and a run. Those of a text are played by `test_examples`.
+// The line of each fault of acts, events and a run. Those of a text are played by `tests/rows`.
 
 use crate::checks::passes;
 use lrc_cli::tell;

@@ -1,5 +1,5 @@
 //! Tests of the command line and its outputs: the choices that words make, writers that refuse, and faults. They also
-//! cover what no file of `test_examples` can show: texts too large for a file, and runs on threads that are replayed.
+//! cover what no file of `tests/rows` can show: texts too large for a file, and runs on threads that are replayed.
 #![tactic(auto)]
 
 #[cfg(test)]

@@ -1,5 +1,4 @@
-//! Tests of what the search through every order finds for programs. The crate `test_examples` tests what is printed
-//! about it.
+//! Tests of what the search through every order finds for programs. `tests/rows` tests what is printed about it.
 #![tactic(auto)]
 
 #[cfg(test)]

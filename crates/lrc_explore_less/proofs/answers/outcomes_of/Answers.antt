@@ -1,5 +1,5 @@
 use Rattle.std.proofs.Common.{ℕ, false, true, subst}
-use Rattle.std.specs.Prelude.{◌↔◌, IfErr}
+use Rattle.std.specs.Prelude.{◌↔◌}
 use Rattle.lrc_program.specs.declared.Program.{Program}
 use Rattle.lrc_orders.specs.Outcome.{HasOutcome, IsOutcome}
 use Rattle.lrc_orders.proofs.Faults.{fault_up}
