@@ -15,7 +15,6 @@ use Rattle.lrc_named_expression_faults.proofs.Counting.{count_is_wanted}
 use Rattle.lrc_named_expression_faults.proofs.Places.{kept}
 use Rattle.lrc_named_faults.specs.Bodies.{AreBodiesClean}
 use Rattle.lrc_named_faults.specs.Declarations.{body_scope, varying}
-use Rattle.lrc_named_faults.proofs.Declaring.{varying_names}
 
 -- a name that is no parameter and not declared is one of these names; and a call has as many arguments as its function has parameters
 abbrev mutual
@@ -110,10 +109,14 @@ all_known_here scope es sizes clean =
     subst (λ l. AreKnown l scope.assigned (names_of scope.known) es) (append-nil scope.declared)
     (all_known_there scope [] scope.assigned (λ n h. h) es sizes clean)
 
+names_of-varying : (own : List Named) → names_of (varying own) ≡ bytes_of own
+names_of-varying [] = refl
+names_of-varying (p ∷ own) = ap (λ l. p.bytes ∷ l) (names_of-varying own)
+
 -- in the body of a function nothing is set
 pub body_known : (declared : List Declared) (names : List (List ℕ)) (place : ℕ) (own : List Named) (body : Expression) → AreBodiesClean declared
     → meaning_at declared place ≡ Some (function own body) → IsKnown declared names (bytes_of own) body
 body_known declared names place own body clean is =
     subst (λ l. IsKnown l names (bytes_of own) body) (take-append-drop place declared)
-    (subst (λ l. IsKnown (take place declared ++ drop place declared) names l body) (varying_names own)
+    (subst (λ l. IsKnown (take place declared ++ drop place declared) names l body) (names_of-varying own)
     (known_there (body_scope (take place declared) own) (drop place declared) names (λ n h. absurd (cc)) body (clean place own body is)))

@@ -103,8 +103,8 @@ one_less n (m ∷ ms) =
     omega (arith, step, cut)
 
 apart_by : (b : Bool) (n m : List ℕ) (ns : List (List ℕ)) → b ≡ bytes_eq n m → is_among ns n ≡ true → is_among ns m ≡ false → b ≡ false
-apart_by true n m ns is there none = let e = ap (is_among ns) (same_bytes n m (sym is)) in absurd (cc)
-apart_by false n m ns is there none = refl
+apart_by true n m ns is there nothing = let e = ap (is_among ns) (same_bytes n m (sym is)) in absurd (cc)
+apart_by false n m ns is there nothing = refl
 
 abbrev AreAmong : (ns ms : List (List ℕ)) → Type 0
 AreAmong ns ms = (n : List ℕ) → is_among ns n ≡ true → is_among ms n ≡ true
@@ -315,7 +315,7 @@ is_allowed declared b clean (named bytes) is room =
 is_allowed declared b clean (own k first last) is room =
     let set = bytes_of (set_names (parts_of_block b)) in
     let fits : k ≤ 32 - privates declared b = elim (cases_lt 32 (k + privates declared b)) [
-      | inl more ↦ absurd (room (is, more))
+      | inl beyond ↦ absurd (room (is, beyond))
       | inr few ↦ omega (arith, few)
     ] in (
       omega (arith, fits),

@@ -106,13 +106,13 @@ shorter {front = front} {rest = rest} span =
 
 -- a token does not stand on a line beyond those that the text may have
 lines_below : {p : Place} {text : List ℕ} {all : List Located} → Lexes p text all → AreBelow (p.line + length text) all
-lines_below {p} {all = all} (passes_blank {rest = rest} h inside) =
-    below_more (p.line + length rest) (p.line + (1 + length rest)) all (omega arith) (lines_below inside)
-lines_below {p} {all = all} (passes_line_feed {rest = rest} h inside) =
-    below_more (p.line + 1 + length rest) (p.line + (1 + length rest)) all (omega arith) (lines_below inside)
-lines_below {p} {all = all} (passes_comment {text = behind} {rest = rest} h span inside) =
+lines_below {p} {all = all} (passes_blank {byte = byte} {rest = rest} h inside) =
+    below_more (p.line + length rest) (p.line + length (byte ∷ rest)) all (omega arith) (lines_below inside)
+lines_below {p} {all = all} (passes_line_feed {byte = byte} {rest = rest} h inside) =
+    below_more (p.line + 1 + length rest) (p.line + length (byte ∷ rest)) all (omega arith) (lines_below inside)
+lines_below {p} {all = all} (passes_comment {byte = byte} {text = behind} {rest = rest} h span inside) =
     let less = shorter span in
-    below_more (p.line + length rest) (p.line + (1 + length behind)) all (omega (arith, less)) (lines_below inside)
+    below_more (p.line + length rest) (p.line + length (byte ∷ behind)) all (omega (arith, less)) (lines_below inside)
 lines_below {p} {text} (takes_number {rest = rest} {more = more} h is inside) =
     let less = shorter h.span in
     (omega arith, below_more (p.line + length rest) (p.line + length text) more (omega (arith, less)) (lines_below inside))
