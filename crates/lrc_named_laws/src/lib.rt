@@ -1,4 +1,4 @@
-//! Laws of named programs: the text that `core` prints of one is a program of the language, and is just its core.
+//! Laws of what `core` prints of a named program: it is a program of the language, and is read as just its core.
 #![tactic(auto)]
 
 pub mod laws;
