@@ -7,6 +7,7 @@ pub mod Expressions
 pub mod Lexed
 pub mod Limits
 pub mod Parsed
+pub mod Places
 pub mod Printed
 pub mod Statements
 pub mod Tables

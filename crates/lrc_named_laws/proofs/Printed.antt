@@ -1,11 +1,11 @@
 -- The text that is printed of a named text is just its core.
-use Rattle.std.proofs.Common.{◌≡◌, ◌≤◌, ℕ, List, [], length, sym, subst, arith, inl}
-use Rattle.std.specs.Prelude.{Option, max}
+use Rattle.std.proofs.Common.{◌≡◌, ◌≤◌, ◌<◌, ◌+◌, ℕ, List, [], length, sym, subst, arith, inl}
+use Rattle.std.specs.Prelude.{Option, Some, max}
 use Rattle.std.specs.List.{AllByRecursion}
 use Rattle.lrc_lang.specs.Faults.{IsText}
 use Rattle.lrc_program.specs.Tree.{ProgramTree}
 use Rattle.lrc_named_tree.specs.Tree.{Block}
-use Rattle.lrc_named_names.specs.Names.{Declared}
+use Rattle.lrc_named_names.specs.Names.{Declared, Item, lock, meaning_of, shared}
 use Rattle.lrc_named_constants.specs.Well.{bytes_of}
 use Rattle.lrc_named_core.specs.Tree.{Private, named, own}
 use Rattle.lrc_named_expression_faults.specs.Fault.{IsNone}
@@ -14,6 +14,7 @@ use Rattle.lrc_named_statement_faults.specs.Statements.{IsInStatements, set_name
 use Rattle.lrc_named_written.specs.Privates.{privates}
 use Rattle.lrc_named.specs.Lines.{lines_of}
 use Rattle.lrc_named.specs.Named.{IsCoreText}
+use Rattle.lrc_named_address_laws.specs.Elements.{AreWithin, element_at}
 use Rattle.lrc_named_acts_laws.specs.Coded.{number_of}
 use Rattle.lrc_named_text_laws.specs.Named.{with_statements}
 use Rattle.lrc_named_text_laws.specs.Spelled.{AreLabelled, AreSpelled, Fits}
@@ -28,6 +29,7 @@ use Rattle.lrc_named_laws.proofs.Expressions.{IsOfCore}
 use Rattle.lrc_named_laws.proofs.Lexed.{lines_fit, tokens_good}
 use Rattle.lrc_named_laws.proofs.Limits.{all_told}
 use Rattle.lrc_named_laws.proofs.Parsed.{program}
+use Rattle.lrc_named_laws.proofs.Places.{AreInOrder, lock_below, lock_item, one_lock, one_word, shared_item, word_below}
 use Rattle.lrc_named_laws.proofs.Statements.{cores_fit}
 use Rattle.lrc_named_laws.proofs.Tables.{program_laid}
 
@@ -50,6 +52,8 @@ pub record IsPrintable (text core : List ℕ) (nodes : Option ℕ) (printed : Is
   pub labelled : AreLabelled printed.declared
   pub lines : AllByRecursion Fits (lines_of printed.tokens)
   pub apart : AreFit IsApart printed.core_is.statements
+  pub words_in_order : AreInOrder shared_item 0 printed.declared
+  pub locks_in_order : AreInOrder lock_item 0 printed.declared
   pub spelled : AreSpelled printed.core_is.statements
   pub few : length (with_statements [] printed.core_is.statements) ≤ 32
 
@@ -76,6 +80,8 @@ printable text core nodes printed =
       labelled = laid.0.labelled;
       lines = lines_fit text printed.tokens parsed.fits parsed.lexed;
       apart = fit_more (IsFound declared tree.statements) IsApart (λ name is. is_apart declared tree.statements laid.1 name is) c.statements found;
+      words_in_order = laid.0.words_in_order;
+      locks_in_order = laid.0.locks_in_order;
       spelled = all_spelled (IsFound declared tree.statements) (λ name is. is.1.0) c.statements found;
       few = few_names (allowed declared tree.statements) (IsFound declared tree.statements) (λ name is. is.1.1) c.statements found
           (few_allowed declared tree.statements laid.1);
@@ -103,3 +109,31 @@ pub are_apart : (text core : List ℕ) (nodes : Option ℕ) (printed : IsCoreTex
     (λ y. number_of (numbers_in printed.core_is.statements) x ≡ number_of (numbers_in printed.core_is.statements) y → AreOne x y)
     printed.core_is.statements) printed.core_is.statements
 are_apart text core nodes printed = told_apart printed.core_is.statements (printable text core nodes printed).apart
+
+-- ---- elements
+
+pub are_words : (text core : List ℕ) (nodes : Option ℕ) (printed : IsCoreText text nodes core) (name other : List ℕ) (item another : Item) (vs ws : List ℕ)
+    → meaning_of printed.declared name ≡ Some (shared item) → meaning_of printed.declared other ≡ Some (shared another) → AreWithin item.sizes vs
+    → AreWithin another.sizes ws → item.first + element_at item.sizes vs ≡ another.first + element_at another.sizes ws → (name ≡ other) × (vs ≡ ws)
+are_words text core nodes printed name other item another vs ws means there within within_other same =
+    one_word printed.declared name other item another vs ws (printable text core nodes printed).words_in_order means there within within_other same
+
+pub are_locks : (text core : List ℕ) (nodes : Option ℕ) (printed : IsCoreText text nodes core) (name other : List ℕ) (item another : Item) (vs ws : List ℕ)
+    → meaning_of printed.declared name ≡ Some (lock item) → meaning_of printed.declared other ≡ Some (lock another) → AreWithin item.sizes vs
+    → AreWithin another.sizes ws → item.first + element_at item.sizes vs ≡ another.first + element_at another.sizes ws → (name ≡ other) × (vs ≡ ws)
+are_locks text core nodes printed name other item another vs ws means there within within_other same =
+    one_lock printed.declared name other item another vs ws (printable text core nodes printed).locks_in_order means there within within_other same
+
+pub are_below_words : (text core : List ℕ) (nodes : Option ℕ) (printed : IsCoreText text nodes core) (name : List ℕ) (item : Item) (vs : List ℕ)
+    → meaning_of printed.declared name ≡ Some (shared item) → AreWithin item.sizes vs → item.first + element_at item.sizes vs < printed.core_is.words
+are_below_words text core nodes printed name item vs means within =
+    let below = word_below printed.declared name item vs (printable text core nodes printed).words_in_order means within in
+    let all = printed.core_is.translated.words_are in
+    omega (arith, below, all)
+
+pub are_below_locks : (text core : List ℕ) (nodes : Option ℕ) (printed : IsCoreText text nodes core) (name : List ℕ) (item : Item) (vs : List ℕ)
+    → meaning_of printed.declared name ≡ Some (lock item) → AreWithin item.sizes vs → item.first + element_at item.sizes vs < printed.core_is.locks
+are_below_locks text core nodes printed name item vs means within =
+    let below = lock_below printed.declared name item vs (printable text core nodes printed).locks_in_order means within in
+    let all = printed.core_is.translated.locks_are in
+    omega (arith, below, all)

@@ -24,6 +24,7 @@ use Rattle.lrc_named_faults.proofs.Tables.{at_append, bodies_more, locks_in-appe
 use Rattle.lrc_named_text_laws.specs.Spelled.{AreLabelled, Fits, IsLabelled, IsLabelledAs}
 use Rattle.lrc_named_laws.proofs.Addresses.{row_smaller, rows_fewer, some_rest}
 use Rattle.lrc_named_laws.proofs.Parsed.{AreLegibleDeclarations, AreLegiblePlaces, IsLegibleDeclaration}
+use Rattle.lrc_named_laws.proofs.Places.{AreInOrder, BeginsAt, lock_item, locks_are, order_next, shared_item, words_are}
 use Rattle.lrc_named_laws.proofs.Values.{IsPlaced, IsSoundMeaning, IsSoundTable, constancy_fits}
 
 pub record IsLaid (declared : List Declared) : Type 0 where
@@ -32,6 +33,8 @@ pub record IsLaid (declared : List Declared) : Type 0 where
   pub labelled : AreLabelled declared
   pub few_words : words_in declared ≤ 65536
   pub few_locks : locks_in declared ≤ 64
+  pub words_in_order : AreInOrder shared_item 0 declared
+  pub locks_in_order : AreInOrder lock_item 0 declared
 
 -- ---- one more
 
@@ -48,10 +51,10 @@ labelled_more [] named m labelled last = (last, tt)
 labelled_more (d ∷ table) named m labelled last = (labelled.0, labelled_more table named m labelled.1 last)
 
 laid_more : (table : List Declared) (named : Named) (m : Meaning) → IsLaid table → IsSoundMeaning m → IsLabelledAs named.bytes m
-    → words_in table + words_of m ≤ 65536 → locks_in table + locks_of m ≤ 64
-    → ((own : List Named) (body : Expression) → m ≡ function own body → IsClean (body_scope table own) body)
+    → words_in table + words_of m ≤ 65536 → locks_in table + locks_of m ≤ 64 → BeginsAt (words_in table) (shared_item m)
+    → BeginsAt (locks_in table) (lock_item m) → ((own : List Named) (body : Expression) → m ≡ function own body → IsClean (body_scope table own) body)
     → IsLaid (table ++ as_meaning named m ∷ [])
-laid_more table named m laid sound labelled few less body =
+laid_more table named m laid sound labelled few less word key body =
     let w = words_in-append table (as_meaning named m) in
     let l = locks_in-append table (as_meaning named m) in
     record {
@@ -60,6 +63,8 @@ laid_more table named m laid sound labelled few less body =
       labelled = labelled_more table named m laid.labelled labelled;
       few_words = omega (arith, w, few);
       few_locks = omega (arith, l, less);
+      words_in_order = order_next shared_item table (as_meaning named m) laid.words_in_order (subst (λ n. BeginsAt n (shared_item m)) (words_are table) word);
+      locks_in_order = order_next lock_item table (as_meaning named m) laid.locks_in_order (subst (λ n. BeginsAt n (lock_item m)) (locks_are table) key);
     }
 
 -- ---- sizes
@@ -130,7 +135,7 @@ items_laid {old = old} (layout.one_more_shared {p = p} {sizes = sizes} have rest
     let less = laid.few_locks in
     items_laid rest (λ f h. none f (inr (own, (sizes, have, h)))) legible.1
     (laid_more old p.name (shared item) laid (record { some = some; few = few })
-    (item_labelled p.name.bytes (words_in old) sizes legible.0.0.each some few) few (omega (arith, less)) (λ own body e. no_function item own body e))
+    (item_labelled p.name.bytes (words_in old) sizes legible.0.0.each some few) few (omega (arith, less)) refl tt (λ own body e. no_function item own body e))
 
 locks_laid : {old new : List Declared} {items : List Place} → DeclareLocks old items new → IsNone (λ f. IsInItems locks old items f) → AreLegiblePlaces items
     → IsLaid old → IsLaid new
@@ -144,7 +149,7 @@ locks_laid {old = old} (layout.one_more_lock {p = p} {sizes = sizes} have rest) 
     let fit : locks_in old + elements sizes ≤ 65536 = omega (arith, few) in
     locks_laid rest (λ f h. none f (inr (own, (sizes, have, h)))) legible.1
     (laid_more old p.name (lock item) laid (record { some = some; few = fit })
-    (item_labelled p.name.bytes (locks_in old) sizes legible.0.0.each some fit) (omega (arith, less)) few (λ own body e. no_function_lock item own body e))
+    (item_labelled p.name.bytes (locks_in old) sizes legible.0.0.each some fit) (omega (arith, less)) few tt refl (λ own body e. no_function_lock item own body e))
 
 -- ---- declarations
 
@@ -160,7 +165,7 @@ declares_laid counted layout.a_node_count none legible laid = laid
 declares_laid {old = old} counted (layout.a_constant {v = v} {named = named} is) none legible laid =
     let few = laid.few_words in
     let less = laid.few_locks in
-    laid_more old named (constant v) laid (constancy_fits old laid.sound is tt legible.1) tt (omega (arith, few)) (omega (arith, less))
+    laid_more old named (constant v) laid (constancy_fits old laid.sound is tt legible.1) tt (omega (arith, few)) (omega (arith, less)) tt tt
     (λ own body e. no_function_constant v own body e)
 declares_laid counted (layout.shared_items are) none legible laid = items_laid are none legible laid
 declares_laid counted (layout.locks are) none legible laid = locks_laid are none legible laid
@@ -168,7 +173,7 @@ declares_laid {old = old} counted (layout.a_function {named = named} {parameters
     let few = laid.few_words in
     let less = laid.few_locks in
     let clean : IsClean (body_scope old parameters) body = λ f h. none f (inr (inl h)) in
-    laid_more old named (function parameters body) laid legible.1 tt (omega (arith, few)) (omega (arith, less))
+    laid_more old named (function parameters body) laid legible.1 tt (omega (arith, few)) (omega (arith, less)) tt tt
     (λ own other e.
     subst (λ q. IsClean (body_scope old q) other) (same_own parameters own body other e)
     (subst (λ y. IsClean (body_scope old parameters) y) (same_body parameters own body other e) clean))
@@ -180,6 +185,8 @@ nothing_laid = record {
   labelled = tt;
   few_words = omega arith;
   few_locks = omega arith;
+  words_in_order = tt;
+  locks_in_order = tt;
 }
 
 declarations_laid : {old new : List Declared} (counted : Option ℕ) (declarations : List Declaration) (b : Block) → AreDeclared old declarations new

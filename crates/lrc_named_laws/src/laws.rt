@@ -1,8 +1,10 @@
 // Laws of named programs. The functions do nothing: their contracts state the laws.
 
-ghost use Rattle.std.specs.Prelude.{◌≡◌, ℕ, List, Option};
+ghost use Rattle.std.specs.Prelude.{◌≡◌, ◌+◌, ◌<◌, ℕ, List, Option, Some};
 ghost use Rattle.lrc_lang.specs.Faults.{IsText};
 ghost use Rattle.lrc_program.specs.Tree.{ProgramTree};
+ghost use Rattle.lrc_named_names.specs.Names.{Item, lock, meaning_of, shared};
+ghost use Rattle.lrc_named_address_laws.specs.Elements.{AreWithin, element_at};
 ghost use Rattle.lrc_named.specs.Named.{IsCoreText};
 ghost use Rattle.lrc_named_acts_laws.specs.Coded.{number_of};
 ghost use Rattle.lrc_named_laws.specs.Names.{AllNames, AreOne};
@@ -23,4 +25,23 @@ pub fn private_names_of_a_core_are_told_apart()
         → AllNames (λ x. AllNames
         (λ y. number_of (numbers_in printed.core_is.statements) x ≡ number_of (numbers_in printed.core_is.statements) y → AreOne x y)
         printed.core_is.statements) printed.core_is.statements }
+{}
+
+/// Two elements of shared items of such a program are one word only where they are one element of one item, and each is below `words`; so are
+/// locks.
+pub fn different_elements_are_different_words_and_locks()
+    ensures words { (text core : List ℕ) (nodes : Option ℕ) (printed : IsCoreText text nodes core) (name other : List ℕ) (item own : Item) (vs ws : List ℕ)
+        → meaning_of printed.declared name ≡ Some (shared item) → meaning_of printed.declared other ≡ Some (shared own)
+        → AreWithin item.sizes vs → AreWithin own.sizes ws
+        → item.first + element_at item.sizes vs ≡ own.first + element_at own.sizes ws → (name ≡ other) × (vs ≡ ws) }
+    ensures locks { (text core : List ℕ) (nodes : Option ℕ) (printed : IsCoreText text nodes core) (name other : List ℕ) (item own : Item) (vs ws : List ℕ)
+        → meaning_of printed.declared name ≡ Some (lock item) → meaning_of printed.declared other ≡ Some (lock own)
+        → AreWithin item.sizes vs → AreWithin own.sizes ws
+        → item.first + element_at item.sizes vs ≡ own.first + element_at own.sizes ws → (name ≡ other) × (vs ≡ ws) }
+    ensures below_words { (text core : List ℕ) (nodes : Option ℕ) (printed : IsCoreText text nodes core) (name : List ℕ) (item : Item) (vs : List ℕ)
+        → meaning_of printed.declared name ≡ Some (shared item) → AreWithin item.sizes vs
+        → item.first + element_at item.sizes vs < printed.core_is.words }
+    ensures below_locks { (text core : List ℕ) (nodes : Option ℕ) (printed : IsCoreText text nodes core) (name : List ℕ) (item : Item) (vs : List ℕ)
+        → meaning_of printed.declared name ≡ Some (lock item) → AreWithin item.sizes vs
+        → item.first + element_at item.sizes vs < printed.core_is.locks }
 {}
