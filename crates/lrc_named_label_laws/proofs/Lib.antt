@@ -1,0 +1,6 @@
+pub mod Collecting
+pub mod Cutting
+pub mod Items
+pub mod Lines
+pub mod Quiet
+pub mod Whole
