@@ -1,13 +1,13 @@
 -- What the lines of a text say one behind the other.
-use Rattle.std.proofs.Common.{◌≡◌, ◌∙◌, ℕ, zero, suc, ◌+◌, Bool, true, false, cond, List, [], ◌∷◌, ◌++◌, length, take, refl, sym, ap, subst, arith, append_assoc, append-nil, length-append, fold}
-use Rattle.std.specs.Prelude.{Err, None, Ok, Option, Result, Some}
+use Rattle.std.proofs.Common.{◌≡◌, ◌∙◌, ℕ, ◌+◌, false, cond, List, [], ◌∷◌, ◌++◌, length, take, refl, sym, ap, subst, append_assoc, append-nil, length-append, fold}
+use Rattle.std.specs.Prelude.{Err, Ok, Option, Result}
 use Rattle.std.specs.List.{AllByRecursion, enumerate_from, flat_map, list_any}
 use Rattle.std.specs.Str.{bytes_eq}
 use Rattle.lrc_labels.specs.declared.label.IdleLabel.{IdleLabel}
 use Rattle.lrc_labels.specs.declared.label.Reason.{Reason}
 use Rattle.lrc_labels.specs.declared.label.Reason.TheVariants.{NameTaken}
 use Rattle.lrc_labels.specs.Line.{LabelLine, label_line_in}
-use Rattle.lrc_labels.specs.Reading.{Label, idle_at, idle_by, idle_in, idle_of, labels_by, labels_in, labels_of, labels_with, meets, said_of, taken, unless_taken}
+use Rattle.lrc_labels.specs.Reading.{Label, idle_at, idle_by, idle_in, idle_of, labels_by, labels_in, labels_of, labels_with, meets, taken, unless_taken}
 use Rattle.std.proofs.lemmas.List.Sums.{fold-append}
 use Rattle.lrc_named_label_laws.proofs.Items.{Says}
 use Rattle.lrc_named_label_laws.proofs.Lines.{IsSilent}

@@ -1,10 +1,10 @@
 -- Texts cut at a divider that is known.
-use Rattle.std.proofs.Common.{◌≡◌, ◌∙◌, ℕ, zero, suc, ◌+◌, ◌<◌, ◌≤◌, Bool, true, false, cond, not, ◌&&◌, List, [], ◌∷◌, ◌++◌, length, drop, refl, sym, ap, subst, arith}
+use Rattle.std.proofs.Common.{◌≡◌, ◌∙◌, ℕ, suc, ◌+◌, ◌<◌, Bool, true, false, cond, not, List, [], ◌∷◌, ◌++◌, length, drop, refl, ap, arith}
 use Rattle.std.proofs.Common.{length-append, lt-ltb, ltb-true}
-use Rattle.std.specs.Prelude.{codes, nat_lt, filter, Option, Some, None}
-use Rattle.std.specs.List.{list_all, AllByRecursion, position, position_or_len}
+use Rattle.std.specs.Prelude.{nat_lt, filter, Some, None}
+use Rattle.std.specs.List.{list_all, AllByRecursion, position_or_len}
 use Rattle.std.proofs.lemmas.Bool.{and_parts, not-true}
-use Rattle.lrc_labels.specs.declared.cut.Divider.TheVariants.{Blank, Hash, LineFeed}
+use Rattle.lrc_labels.specs.declared.cut.Divider.TheVariants.{Blank, Hash}
 use Rattle.lrc_labels.specs.Cut.{cut, divides, in_front}
 use Rattle.lrc_labels.specs.Line.{fields_of, has_bytes, label_line_at, label_line_behind, label_line_in}
 

@@ -1,7 +1,7 @@
 -- What the label line of an item says.
-use Rattle.std.proofs.Common.{◌≡◌, ◌∙◌, ◌⊎◌, inl, inr, ℕ, zero, suc, ◌+◌, ◌-◌, ◌*◌, ◌%◌, ◌<◌, ◌≤◌, ◌^◌, Bool, true, false, cond, not, ◌&&◌, ◌||◌, ◌==◌, List, [], ◌∷◌, ◌++◌, length, map, refl, sym, ap, subst, arith}
-use Rattle.std.proofs.Common.{append_assoc, append-nil, le-leb, lt-ltb, leb-true, eq-eqb, mul-le-mul_left}
-use Rattle.std.specs.Prelude.{codes, decimal, nat_le, nat_lt, Ok, Err, Some, Result}
+use Rattle.std.proofs.Common.{◌≡◌, ◌∙◌, ℕ, zero, suc, ◌+◌, ◌-◌, ◌*◌, ◌%◌, ◌<◌, ◌≤◌, ◌^◌, Bool, true, false, cond, not, ◌||◌, ◌==◌, List, [], ◌∷◌, ◌++◌, length, map, refl, sym, ap, arith}
+use Rattle.std.proofs.Common.{append_assoc, append-nil, le-leb, lt-ltb, leb-true, eq-eqb}
+use Rattle.std.specs.Prelude.{codes, decimal, Ok, Err, Some, Result}
 use Rattle.std.specs.List.{AllByRecursion, list_all}
 use Rattle.std.specs.Cmp.Derive.{both_true}
 use Rattle.std.specs.Str.Parse.{digits_value}
@@ -15,8 +15,8 @@ use Rattle.lrc_labels.specs.declared.label.Reason.{Reason}
 use Rattle.lrc_labels.specs.declared.label.Target.TheVariants.{Word, Words, Lock, Locks}
 use Rattle.lrc_labels.specs.Cut.{cut, divides}
 use Rattle.lrc_labels.specs.Line.{LabelLine, has_bytes, fields_of, label_line_in}
-use Rattle.lrc_labels.specs.Name.{is_letter, is_name, is_numeral, is_word_byte}
-use Rattle.lrc_labels.specs.Reading.{Label, lock_label, locks_label, reading_of, several_label, single_label, word_label, words_label}
+use Rattle.lrc_labels.specs.Name.{is_name, is_numeral}
+use Rattle.lrc_labels.specs.Reading.{Label, reading_of, several_label, single_label}
 use Rattle.lrc_labels.specs.Sizes.{fills, is_size, product, sizes_of}
 use Rattle.lrc_labels.proofs.Names.{numeral_is}
 use Rattle.lrc_labels.proofs.Words.{name_is}

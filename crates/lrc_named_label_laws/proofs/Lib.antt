@@ -1,5 +1,6 @@
 pub mod Collecting
 pub mod Cutting
+pub mod Elements
 pub mod Items
 pub mod Lines
 pub mod Quiet

@@ -1,5 +1,5 @@
 -- Texts without a line feed and without a `#`.
-use Rattle.std.proofs.Common.{◌≡◌, ◌∙◌, ◌⊎◌, inl, inr, ℕ, zero, suc, ◌+◌, ◌/◌, ◌%◌, ◌≤◌, Bool, true, false, cond, not, ◌&&◌, ◌==◌, List, [], ◌∷◌, ◌++◌, refl, sym, ap, subst, arith}
+use Rattle.std.proofs.Common.{◌≡◌, ◌∙◌, inl, inr, ℕ, zero, suc, ◌+◌, ◌/◌, ◌%◌, ◌≤◌, Bool, true, false, cond, not, ◌&&◌, ◌==◌, List, [], ◌∷◌, ◌++◌, refl, arith}
 use Rattle.std.proofs.Common.{ne_eqb, le-leb, leb-true}
 use Rattle.std.specs.Prelude.{codes, decimal, nat_le, nat_lt}
 use Rattle.std.specs.Fmt.{digit_glyph, digits, digits_onto}

@@ -1,9 +1,9 @@
 -- The labels of the text of a core.
-use Rattle.std.proofs.Common.{◌≡◌, ◌≢◌, ◌∙◌, ◌⊎◌, inl, inr, ℕ, zero, suc, ◌+◌, ◌-◌, ◌<◌, ◌≤◌, ◌^◌, Bool, true, false, ◌||◌, ◌&&◌, List, [], ◌∷◌, ◌++◌, refl, sym, ap, subst, arith, append_assoc, append-nil, ltb-true, leb-true}
+use Rattle.std.proofs.Common.{◌≡◌, ◌≢◌, ◌∙◌, ℕ, ◌+◌, ◌-◌, ◌<◌, ◌≤◌, ◌^◌, Bool, true, false, List, [], ◌∷◌, ◌++◌, refl, sym, ap, subst, arith, append_assoc, append-nil, leb-true}
 use Rattle.std.specs.Prelude.{codes, decimal, nat_le}
 use Rattle.std.specs.List.{AllByRecursion, flat_map, list_any}
 use Rattle.std.specs.Str.{bytes_eq}
-use Rattle.std.proofs.lemmas.Bool.{false_from_ne_true, and_left, and_right, or_from}
+use Rattle.std.proofs.lemmas.Bool.{false_from_ne_true, and_right, or_from}
 use Rattle.std.proofs.lemmas.Slice.Eq.{bytes_eq-Decides}
 use Rattle.lrc_labels.specs.declared.cut.Divider.TheVariants.{LineFeed}
 use Rattle.lrc_labels.specs.declared.label.Target.{Target}
@@ -13,7 +13,7 @@ use Rattle.lrc_labels.specs.Name.{is_name}
 use Rattle.lrc_labels.specs.Reading.{Label, idle_of, labels_of, meets}
 use Rattle.lrc_named_core.specs.Tree.{Block}
 use Rattle.lrc_named_names.specs.Elements.{elements}
-use Rattle.lrc_named_names.specs.Names.{Declared, Item, Meaning, constant, function, lock, shared}
+use Rattle.lrc_named_names.specs.Names.{Declared, Meaning, constant, function, lock, shared}
 use Rattle.lrc_named_text.specs.Labels.{label_text, labels_text}
 use Rattle.lrc_named_text.specs.Statements.{block_text, core_text}
 use Rattle.lrc_named_label_laws.specs.Labels.{label_of_locks, label_of_words, labels_as, labels_declared}
@@ -125,7 +125,7 @@ lines_cut (d ∷ declared) rest named =
     ∙ sym (append_assoc (line_of d.name d.meaning) (lines_of declared) (cut (divides LineFeed) rest))
 
 -- items come to an end within the words and the locks
-rising : (word key : ℕ) (m : Meaning) → BeginsAt word key m → (word ≤ word_behind word m) × (key ≤ lock_behind key m)
+pub rising : (word key : ℕ) (m : Meaning) → BeginsAt word key m → (word ≤ word_behind word m) × (key ≤ lock_behind key m)
 rising word key (constant n) h = (omega arith, omega arith)
 rising word key (shared item) h = (omega (arith, h.0), omega arith)
 rising word key (lock item) h = (omega arith, omega (arith, h.0))
