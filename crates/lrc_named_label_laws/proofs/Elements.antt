@@ -76,10 +76,10 @@ element_of (size ∷ sizes) place lt =
 same_bytes : (bytes : List ℕ) → bytes_eq bytes bytes ≡ true
 same_bytes bytes = (bytes_eq-Decides bytes bytes).1 refl
 
-meaning_first : (d : Declared) (declared : List Declared) (name : List ℕ) → bytes_eq d.name name ≡ true → meaning_of (d ∷ declared) name ≡ Some d.meaning
+pub meaning_first : (d : Declared) (declared : List Declared) (name : List ℕ) → bytes_eq d.name name ≡ true → meaning_of (d ∷ declared) name ≡ Some d.meaning
 meaning_first d declared name same = ap (λ b. meaning_at (d ∷ declared) (cond (not b) (1 + place_of declared name) 0)) same
 
-meaning_later : (d : Declared) (declared : List Declared) (name : List ℕ) → bytes_eq d.name name ≡ false
+pub meaning_later : (d : Declared) (declared : List Declared) (name : List ℕ) → bytes_eq d.name name ≡ false
     → meaning_of (d ∷ declared) name ≡ meaning_of declared name
 meaning_later d declared name differs =
     let next : 1 + place_of declared name ≡ suc (place_of declared name) = omega arith in

@@ -3,6 +3,7 @@ use Rattle.std.specs.Prelude.{◌≡◌, ◌≢◌, ◌≤◌, ◌+◌, ℕ, tru
 use Rattle.std.specs.List.{All, AllByRecursion}
 use Rattle.lrc_lang.specs.Lexemes.{IsLetterOrDigit}
 use Rattle.lrc_labels.specs.Name.{is_name}
+use Rattle.lrc_named_tree.specs.Tree.{Declaration, Place}
 use Rattle.lrc_named_names.specs.Elements.{elements}
 use Rattle.lrc_named_names.specs.Names.{Declared, Meaning, constant, function, lock, shared}
 use Rattle.lrc_named_core.specs.Tree.{Private, named, own, Expression, number, private, me, nodes, binary, Statement, Block, empty, next}
@@ -51,6 +52,14 @@ pub record AreLaidOut (words locks : ℕ) (declared : List Declared) : Type 0 wh
   pub names : AllByRecursion (λ (d : Declared). is_name d.name ≡ true) declared
   pub different : AreDifferent declared
   pub lie : LieBelow words locks 0 0 declared
+
+-- what a declaration declares has a name of the core
+abbrev pub HaveNames : Declaration → Type 0
+HaveNames (Declaration.node_count at n) = Unit {0}
+HaveNames (Declaration.constant at name value) = is_name name.bytes ≡ true
+HaveNames (Declaration.shared at items) = AllByRecursion (λ (p : Place). is_name p.name.bytes ≡ true) items
+HaveNames (Declaration.lock at items) = AllByRecursion (λ (p : Place). is_name p.name.bytes ≡ true) items
+HaveNames (Declaration.function at name parameters body) = is_name name.bytes ≡ true
 
 -- ---- statements
 

@@ -1,17 +1,21 @@
 // Laws of the labels of a core. The functions do nothing: their contracts state the laws.
 
-ghost use Rattle.std.specs.Prelude.{◌≡◌, ◌≢◌, ◌+◌, ◌++◌, ◌<◌, ◌^◌, ℕ, List, [], None, Some, option_map};
-ghost use Rattle.std.specs.List.{flat_map};
+ghost use Rattle.std.specs.Prelude.{◌≡◌, ◌≢◌, ◌+◌, ◌++◌, ◌<◌, ◌≤◌, ◌^◌, ℕ, List, [], None, Some, option_map};
+ghost use Rattle.std.specs.List.{AllByRecursion, flat_map};
 ghost use Rattle.lrc_labels.specs.declared.cut.Divider.TheVariants.{LineFeed};
 ghost use Rattle.lrc_labels.specs.Cut.{cut, divides};
 ghost use Rattle.lrc_labels.specs.Reading.{idle_of, labels_of};
 ghost use Rattle.lrc_labels.specs.Show.{index_text, label_of_lock, label_of_word, name_of};
+ghost use Rattle.lrc_named_tree.specs.Tree.{NamedTree};
 ghost use Rattle.lrc_named_core.specs.Tree.{Block};
 ghost use Rattle.lrc_named_names.specs.Names.{Declared, Item, lock, meaning_of, shared};
 ghost use Rattle.lrc_named_text.specs.Statements.{core_text};
+ghost use Rattle.lrc_named_constants.specs.Layout.{AreDeclared, core_words, locks_in};
+ghost use Rattle.lrc_named_expression_faults.specs.Fault.{IsNone};
+ghost use Rattle.lrc_named_faults.specs.Program.{IsFaultOf};
 ghost use Rattle.lrc_named_address_laws.specs.Elements.{AreWithin, element_at};
 ghost use Rattle.lrc_named_label_laws.specs.Labels.{labels_declared};
-ghost use Rattle.lrc_named_label_laws.specs.Shape.{AreLaidOut, ArePlain};
+ghost use Rattle.lrc_named_label_laws.specs.Shape.{AreLaidOut, ArePlain, HaveNames};
 
 /// From the text of a core just the labels of its items are read, each as it is declared, and no label line is without effect.
 pub fn the_labels_of_a_core_are_read_back()
@@ -44,4 +48,15 @@ pub fn nothing_else_has_a_name()
         → ((name : List ℕ) (item : Item) (vs : List ℕ) → meaning_of declared name ≡ Some (lock item) → AreWithin item.sizes vs
         → key ≢ item.first + element_at item.sizes vs)
         → label_of_lock (labels_declared declared) key ≡ None }
+{}
+
+/// What a named program declares, where it has no fault and its names are words, is laid out as the laws above ask, among just the words
+/// and the locks of its core, of which there are at most 65,536 and 64.
+pub fn what_a_faultless_program_declares_is_laid_out()
+    ensures laid_out { (p : NamedTree) (declared : List Declared) → IsNone (λ fault. IsFaultOf p fault)
+        → AreDeclared [] p.declarations declared → AllByRecursion HaveNames p.declarations
+        → AreLaidOut (core_words declared) (locks_in declared) declared }
+    ensures few { (p : NamedTree) (declared : List Declared) → IsNone (λ fault. IsFaultOf p fault)
+        → AreDeclared [] p.declarations declared → AllByRecursion HaveNames p.declarations
+        → (core_words declared ≤ 65536) × (locks_in declared ≤ 64) }
 {}
