@@ -3,6 +3,9 @@ pub mod Cutting
 pub mod Elements
 pub mod Items
 pub mod Laid
+pub mod Lexed
 pub mod Lines
+pub mod Parsed
 pub mod Quiet
+pub mod Translated
 pub mod Whole
