@@ -16,7 +16,7 @@ use Rattle.lrc_named_names.specs.Names.{Declared, Item, Meaning, constant, funct
 use Rattle.lrc_named_address_laws.specs.Elements.{AreWithin, element_at}
 use Rattle.lrc_named_address_laws.proofs.Places.{element_within}
 use Rattle.lrc_named_label_laws.specs.Labels.{label_of_locks, label_of_words, labels_as, labels_declared}
-use Rattle.lrc_named_label_laws.specs.Shape.{AreDifferent, AreSizes, BeginsAt, LieBelow, lock_behind, word_behind}
+use Rattle.lrc_named_label_laws.proofs.Shape.{AreDifferent, AreSizes, BeginsAt, LieBelow, lock_behind, word_behind}
 use Rattle.lrc_named_label_laws.proofs.Items.{elements_some}
 use Rattle.lrc_named_label_laws.proofs.Whole.{rising}
 

@@ -23,7 +23,7 @@ use Rattle.lrc_labels.proofs.Words.{name_is}
 use Rattle.lrc_named_names.specs.Elements.{elements}
 use Rattle.lrc_named_text.specs.Labels.{item_text, sizes_text}
 use Rattle.lrc_named_label_laws.specs.Labels.{label_of_locks, label_of_words}
-use Rattle.lrc_named_label_laws.specs.Shape.{AreSizes}
+use Rattle.lrc_named_label_laws.proofs.Shape.{AreSizes}
 use Rattle.lrc_named_label_laws.proofs.Cutting.{IsField, Whole, commented, cut_piece, fields_joined, joined}
 use Rattle.lrc_named_label_laws.proofs.Quiet.{High, decimal_high, differs, high_such, is_high, word_high}
 

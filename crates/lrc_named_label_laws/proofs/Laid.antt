@@ -1,5 +1,5 @@
 -- What a named program declares, where it has no fault, lies one behind the other.
-use Rattle.std.proofs.Common.{◌≡◌, ◌≢◌, ◌∙◌, ◌⊎◌, inl, inr, ℕ, ◌+◌, ◌<◌, ◌≤◌, max, Bool, true, false, ◌||◌, List, [], ◌∷◌, ◌++◌, refl, sym, ap, subst, arith}
+use Rattle.std.proofs.Common.{◌≡◌, ◌≢◌, ◌∙◌, ◌⊎◌, inl, inr, ℕ, ◌+◌, ◌<◌, ◌≤◌, Bool, true, false, List, [], ◌∷◌, ◌++◌, refl, sym, subst, arith}
 use Rattle.std.specs.Prelude.{Option, Some, None, is_some}
 use Rattle.std.specs.List.{AllByRecursion}
 use Rattle.std.specs.Str.{bytes_eq}
@@ -7,8 +7,7 @@ use Rattle.std.proofs.lemmas.Bool.{cases_lt, false_from_ne_true}
 use Rattle.std.proofs.lemmas.Slice.Eq.{bytes_eq-Decides}
 use Rattle.lrc_labels.specs.Name.{is_name}
 use Rattle.lrc_named_tree.specs.Tree.{Named, Expression, Expressions, Place, Declaration, Block}
-use Rattle.lrc_named_names.specs.Elements.{elements}
-use Rattle.lrc_named_names.specs.Names.{Declared, Item, Meaning, constant, function, lock, meaning_of, shared}
+use Rattle.lrc_named_names.specs.Names.{Declared, Meaning, constant, function, lock, meaning_of, shared}
 use Rattle.lrc_named_constants.specs.declared.constancy.Constancy.TheVariants.{Value}
 use Rattle.lrc_named_constants.specs.Constant.{IsConstancy}
 use Rattle.lrc_named_constants.specs.Layout.{AreDeclared, DeclareLocks, DeclareShared, Declares, HaveSizes, a_constant, a_function, a_node_count, as_meaning, core_words}
@@ -23,7 +22,7 @@ use Rattle.lrc_named_faults.specs.Program.{IsInProgram}
 use Rattle.lrc_named_tree.specs.Ends.{first_of}
 use Rattle.lrc_named_faults.proofs.Placing.{room_left}
 use Rattle.lrc_named_faults.proofs.Tables.{locks_in-append, words_in-append}
-use Rattle.lrc_named_label_laws.specs.Shape.{AreDifferent, AreLaidOut, AreSizes, BeginsAt, HaveNames, LieBelow, lock_behind, word_behind}
+use Rattle.lrc_named_label_laws.proofs.Shape.{AreDifferent, AreLaidOut, AreSizes, BeginsAt, HaveNames, LieBelow, lock_behind, word_behind}
 use Rattle.lrc_named_label_laws.proofs.Elements.{meaning_first, meaning_later}
 
 -- ---- names

@@ -1,6 +1,6 @@
 -- The names of a named text are names of the core too.
-use Rattle.std.proofs.Common.{◌≡◌, ℕ, ◌+◌, true, List, [], ◌∷◌, ◌++◌, inl, refl, sym, subst, append-nil}
-use Rattle.std.specs.List.{All, AllByRecursion}
+use Rattle.std.proofs.Common.{◌≡◌, ℕ, ◌+◌, true, List, [], ◌∷◌, ◌++◌, inl, sym, subst, append-nil}
+use Rattle.std.specs.List.{AllByRecursion}
 use Rattle.lrc_lang.specs.Lexemes.{BeginsWith, IsLetter, IsLetterOrDigit, IsWord}
 use Rattle.lrc_lang.specs.Lexemes as core
 use Rattle.lrc_lang.specs.declared.token.Keyword.{Keyword}

@@ -6,6 +6,8 @@ pub mod Laid
 pub mod Lexed
 pub mod Lines
 pub mod Parsed
+pub mod Printed
 pub mod Quiet
+pub mod Shape
 pub mod Translated
 pub mod Whole

@@ -12,7 +12,7 @@ use Rattle.lrc_named_core.specs.Tree.{Block, empty, next}
 use Rattle.lrc_named_text.specs.declared.expression.Room.TheVariants.{Whole as all_room}
 use Rattle.lrc_named_text.specs.Expressions.{expression_text, private_text}
 use Rattle.lrc_named_text.specs.Statements.{block_text, deeper, else_text, head_text, keyword_text, line_text, read_text, set_text, statement_text, write_text}
-use Rattle.lrc_named_label_laws.specs.Shape.{ArePlain, HasPlain, IsPlain, IsPlainStatement}
+use Rattle.lrc_named_label_laws.proofs.Shape.{ArePlain, HasPlain, IsPlain, IsPlainStatement}
 use Rattle.lrc_named_label_laws.proofs.Cutting.{Whole, commented, cut_piece, uncommented}
 use Rattle.lrc_named_label_laws.proofs.Quiet.{Quiet, decimal_quiet, expression_quiet, is_quiet, private_quiet, quiet_both}
 

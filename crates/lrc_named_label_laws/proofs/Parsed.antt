@@ -1,12 +1,12 @@
 -- The names in the tree of a named text are names of the core.
-use Rattle.std.proofs.Common.{◌≡◌, ℕ, true, List, [], ◌∷◌}
+use Rattle.std.proofs.Common.{◌≡◌, ℕ, true, List}
 use Rattle.std.specs.List.{AllByRecursion}
 use Rattle.lrc_labels.specs.Name.{is_name}
 use Rattle.lrc_named_tree.specs.Tree.{Named, Expression, Expressions, Place, Statement, Block, Arms, Declaration, NamedTree}
 use Rattle.lrc_named_tree.specs.Grammar.{AreArguments, AreBoths, AreDeclarations, AreElses, AreFactors, AreIndices, AreItems, AreNames, AreParameters, AreSeparate, AreStatements}
 use Rattle.lrc_named_tree.specs.Grammar.{AreTerms, AreTests, AreTokensOf, IsBlock, IsBoth, IsDeclaration, IsExpression, IsFactor, IsPlace, IsStatement, IsSum, IsTerm, IsTest, Numbered}
 use Rattle.lrc_named_tree.specs.Grammar as grammar
-use Rattle.lrc_named_label_laws.specs.Shape.{HaveNames}
+use Rattle.lrc_named_label_laws.proofs.Shape.{HaveNames}
 use Rattle.lrc_named_label_laws.proofs.Lexed.{AreGood}
 
 -- ---- trees whose names are names of the core; those of functions aside

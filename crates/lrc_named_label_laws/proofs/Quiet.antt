@@ -15,7 +15,7 @@ use Rattle.lrc_program.specs.declared.Operator.TheVariants.{Add, Subtract, Multi
 use Rattle.lrc_named_core.specs.Tree.{Private, named, own, Expression, number, private, me, nodes, binary}
 use Rattle.lrc_named_text.specs.Expressions.{expression_text, grouped, is_grouped, left_room, operator_text, private_text, right_room}
 use Rattle.lrc_named_text.specs.declared.expression.Room.{Room}
-use Rattle.lrc_named_label_laws.specs.Shape.{HasPlain, IsPlain}
+use Rattle.lrc_named_label_laws.proofs.Shape.{HasPlain, IsPlain}
 
 abbrev pub is_quiet : ℕ → Bool
 is_quiet byte = not (byte == 10) && not (byte == 35)

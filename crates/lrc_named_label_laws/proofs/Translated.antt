@@ -1,6 +1,6 @@
 -- The names in the core of a named program are those of its tree, and the translation's own.
-use Rattle.std.proofs.Common.{◌≡◌, ◌∙◌, ℕ, zero, suc, ◌+◌, ◌==◌, Bool, true, false, cond, List, [], ◌∷◌, ◌++◌, refl, sym, ap, subst, filter}
-use Rattle.std.specs.Prelude.{Option, Some, None, slice_get}
+use Rattle.std.proofs.Common.{◌≡◌, ◌∙◌, ℕ, zero, suc, ◌+◌, ◌==◌, Bool, true, false, cond, List, [], ◌∷◌, ◌++◌, refl, sym, subst, filter}
+use Rattle.std.specs.Prelude.{Some, slice_get}
 use Rattle.std.specs.List.{AllByRecursion}
 use Rattle.std.specs.Str.{bytes_eq}
 use Rattle.lrc_labels.specs.Name.{is_name}
@@ -12,14 +12,13 @@ use Rattle.lrc_named_names.specs.Names.{Declared, Item, Meaning, constant, funct
 use Rattle.lrc_named_constants.specs.Constant.{Known}
 use Rattle.lrc_named_constants.specs.Layout.{AreDeclared, DeclareLocks, DeclareShared, Declares, a_constant, a_function, a_node_count, as_meaning, locks}
 use Rattle.lrc_named_constants.specs.Layout.{locks_in, no_declaration, no_more_lock, no_more_shared, one_declaration, one_more_lock, one_more_shared, shared_items, words_in}
-use Rattle.lrc_named_core.specs.Tree.{Private, named, own, Expression, number, private, me, nodes, binary, Origin, Statement, Block, empty, next, behind, only}
-use Rattle.lrc_named_core.specs.Tree as core
+use Rattle.lrc_named_core.specs.Tree.{named, Expression, number, binary, Origin, Block, empty, next, behind}
 use Rattle.lrc_named_address.specs.Address.{Index, address, address_of, base_of, indices_of, is_open, plus_summands, summand_of, test_of, times_tests}
 use Rattle.lrc_named_translation.specs.Made.{AreMade, IsByRule, IsMade, bare}
 use Rattle.lrc_named_translation.specs.Made as made
 use Rattle.lrc_named_statements.specs.Statements.{AreCores, ArePrinted, IsAddress, IsChoice, IsCore, IsElse, IsHeldFor, IsHeldWith}
 use Rattle.lrc_named_statements.specs.Statements as rules
-use Rattle.lrc_named_label_laws.specs.Shape.{ArePlain, HasPlain, IsPlain, IsPlainStatement}
+use Rattle.lrc_named_label_laws.proofs.Shape.{ArePlain, HasPlain, IsPlain}
 use Rattle.lrc_named_label_laws.proofs.Elements.{meaning_first, meaning_later}
 use Rattle.lrc_named_label_laws.proofs.Parsed.{AllNamed, AreNamedArms, IsNamed, IsNamedBlock, IsNamedBody, IsNamedPlace, IsNamedStatement}
 

@@ -17,7 +17,7 @@ use Rattle.lrc_named_names.specs.Names.{Declared, Meaning, constant, function, l
 use Rattle.lrc_named_text.specs.Labels.{label_text, labels_text}
 use Rattle.lrc_named_text.specs.Statements.{block_text, core_text}
 use Rattle.lrc_named_label_laws.specs.Labels.{label_of_locks, label_of_words, labels_as, labels_declared}
-use Rattle.lrc_named_label_laws.specs.Shape.{AreDifferent, AreLaidOut, ArePlain, AreSizes, BeginsAt, LieBelow, lock_behind, word_behind}
+use Rattle.lrc_named_label_laws.proofs.Shape.{AreDifferent, AreLaidOut, ArePlain, AreSizes, BeginsAt, LieBelow, lock_behind, word_behind}
 use Rattle.lrc_named_label_laws.proofs.Collecting.{Reads, all_read, reads_label, reads_none, reads_silent}
 use Rattle.lrc_named_label_laws.proofs.Items.{elements_some, item_cut, item_line, lock_says, word_says}
 use Rattle.lrc_named_label_laws.proofs.Lines.{Unlabelled, block_lines, quiet_line}

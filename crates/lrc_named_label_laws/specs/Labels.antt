@@ -1,10 +1,14 @@
--- The labels of what a named program declares.
-use Rattle.std.specs.Prelude.{ℕ, ◌+◌, ◌-◌, List, [], ◌∷◌}
+-- The labels of what a named program declares, and those that are read from what `core` prints of it.
+use Rattle.std.specs.Prelude.{ℕ, ◌+◌, ◌-◌, Option, List, [], ◌∷◌}
 use Rattle.std.specs.List.{flat_map}
+use Rattle.lrc_labels.specs.declared.cut.Divider.TheVariants.{LineFeed}
+use Rattle.lrc_labels.specs.declared.label.IdleLabel.{IdleLabel}
 use Rattle.lrc_labels.specs.declared.label.Target.TheVariants.{Word, Words, Lock, Locks}
-use Rattle.lrc_labels.specs.Reading.{Label}
+use Rattle.lrc_labels.specs.Cut.{cut, divides}
+use Rattle.lrc_labels.specs.Reading.{Label, idle_of, labels_of}
 use Rattle.lrc_named_names.specs.Elements.{elements}
 use Rattle.lrc_named_names.specs.Names.{Declared, Meaning, constant, function, lock, shared}
+use Rattle.lrc_named.specs.Named.{IsCoreText}
 
 -- a shared word, or an array from its first word to its last one; a label has the sizes of an array but the first
 abbrev pub label_of_words : (name : List ℕ) → (first : ℕ) → (sizes : List ℕ) → Label
@@ -26,3 +30,10 @@ labels_as name (function parameters body) = []
 -- those of all items, in the order in which they are declared
 abbrev pub labels_declared : List Declared → List Label
 labels_declared declared = flat_map (λ (d : Declared). labels_as d.name d.meaning) declared
+
+-- what is read from the text that `core` prints of a named program: its labels, and the label lines that say nothing
+abbrev pub labels_read : {text core : List ℕ} {nodes : Option ℕ} → IsCoreText text nodes core → List Label
+labels_read {core = core} printed = labels_of printed.core_is.words printed.core_is.locks (cut (divides LineFeed) core)
+
+abbrev pub idle_read : {text core : List ℕ} {nodes : Option ℕ} → IsCoreText text nodes core → List IdleLabel
+idle_read {core = core} printed = idle_of printed.core_is.words printed.core_is.locks (cut (divides LineFeed) core)

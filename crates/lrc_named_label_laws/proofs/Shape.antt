@@ -1,4 +1,4 @@
--- What the text of a core needs so that its labels can be read back. The core of each named program has it.
+-- What the text of a core needs so that its labels can be read back, and its core has where a named program has no fault.
 use Rattle.std.specs.Prelude.{◌≡◌, ◌≢◌, ◌≤◌, ◌+◌, ℕ, true, List, [], ◌∷◌}
 use Rattle.std.specs.List.{All, AllByRecursion}
 use Rattle.lrc_lang.specs.Lexemes.{IsLetterOrDigit}
