@@ -1,4 +1,4 @@
-// Laws of labels. The functions do nothing: their contracts state the laws.
+// Laws of the labels of a core. The functions do nothing: their contracts state the laws.
 
 ghost use Rattle.std.specs.Prelude.{◌≡◌, ◌≢◌, ◌+◌, ◌++◌, ℕ, List, [], None, Option, Some, option_map};
 ghost use Rattle.std.specs.List.{flat_map};
