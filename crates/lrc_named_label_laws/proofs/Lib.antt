@@ -1,0 +1,13 @@
+pub mod Collecting
+pub mod Cutting
+pub mod Elements
+pub mod Items
+pub mod Laid
+pub mod Lexed
+pub mod Lines
+pub mod Parsed
+pub mod Printed
+pub mod Quiet
+pub mod Shape
+pub mod Translated
+pub mod Whole
