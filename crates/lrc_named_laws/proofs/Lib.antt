@@ -1,0 +1,14 @@
+pub mod Addresses
+pub mod Apart
+pub mod Clean
+pub mod Cores
+pub mod Counting
+pub mod Expressions
+pub mod Lexed
+pub mod Limits
+pub mod Parsed
+pub mod Places
+pub mod Printed
+pub mod Statements
+pub mod Tables
+pub mod Values
