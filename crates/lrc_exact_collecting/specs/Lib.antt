@@ -1,0 +1,3 @@
+pub mod Left
+pub mod Kept
+pub mod Laws
