@@ -24,8 +24,8 @@ pub fn index_hint(
     program: NamedProgram<'_>,
     fault: Fault,
 ) -> Result<Vec<u8>, AllocError>
-    requires program { (tokens : List Token) × IsNamedProgram (program_of program.entry) tokens }
-    requires first { IsFirstOf (λ f. IsFaultOf (program_of program.entry) f) (Some fault) }
+    requires program { (tokens : List Token) × IsNamedProgram (program_of program) tokens }
+    requires first { IsFirstOf (λ f. IsFaultOf (program_of program) f) (Some fault) }
     ensures { IfOk result (λ line. IsIndexHint fault.kind (program_of program.entry) fault.at
         line.items) }
 {
@@ -44,7 +44,7 @@ pub fn index_hint(
 }
 
 fn out_line(alloc: Global, program: NamedProgram<'_>, at: u64) -> Result<Vec<u8>, AllocError>
-    requires { (value : ℕ) × (size : ℕ) × IsOutOfRange (program_of program.entry) at value size }
+    requires { (value : ℕ) × (size : ℕ) × IsOutOfRange (program_of program) at value size }
     ensures { IfOk result (λ line. IsOutLine (program_of program.entry) at line.items) }
 {
     let found = out_of_range(alloc, program, at)?;

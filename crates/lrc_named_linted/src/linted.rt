@@ -61,7 +61,7 @@ fn lint_program(
     tokens: &[Located<'_>],
     program: NamedProgram<'_>,
 ) -> Result<Option<Linted>, AllocError>
-    requires { IsNamed text.now (map located_of tokens.now) (program_of program.entry) }
+    requires { IsNamed text.now (map located_of tokens.now) (program_of program) }
     ensures { IfOk result (λ told. MatchOption told (IsSound text.now)
         (λ linted. TellsNamed file.now text.now (whole_text linted.parts.items)
         × (linted.status ≡ 1))) }
@@ -82,8 +82,8 @@ fn lint_names(
     program: NamedProgram<'_>,
     fault: Fault,
 ) -> Result<Option<Linted>, AllocError>
-    requires parsed { IsNamed text.now (map located_of tokens.now) (program_of program.entry) }
-    requires first { IsFirstOf (λ f. IsFaultOf (program_of program.entry) f) (Some fault) }
+    requires parsed { IsNamed text.now (map located_of tokens.now) (program_of program) }
+    requires first { IsFirstOf (λ f. IsFaultOf (program_of program) f) (Some fault) }
     ensures { IfOk result (λ told. MatchOption told (IsSound text.now)
         (λ linted. TellsNamed file.now text.now (whole_text linted.parts.items)
         × (linted.status ≡ 1))) }
