@@ -2,7 +2,7 @@
 #![tactic(auto)]
 
 mod line;
-mod out;
+mod outside;
 mod over;
 mod set;
 mod spots;

@@ -9,7 +9,7 @@ ghost use Rattle.lrc_named_faults.specs.Program.{IsFaultOf};
 ghost use Rattle.lrc_named_index_hint.specs.Line.{IsIndexHint, IsOutLine, line_of, out_line};
 ghost use Rattle.lrc_named_index_hint.specs.Out.{IsOutOfRange};
 
-use crate::out::out_of_range;
+use crate::outside::out_of_range;
 use crate::over::Beyond;
 use lrc_named_expression_faults::fault::{Fault, FaultKind};
 use lrc_named_tree::tree::NamedProgram;
