@@ -1,9 +1,11 @@
 -- Indices behind declarations without a fault.
-use Rattle.std.proofs.Common.{◌≡◌, ◌≤◌, ◌<◌, ◌⊎◌, ℕ, zero, suc, List, [], ◌∷◌, ◌++◌, length, map, take, refl, sym, ap, subst, ◌∙◌, arith, inl, inr}
-use Rattle.std.specs.Prelude.{Option, Some, None, slice_get}
+use Rattle.std.proofs.Common.{◌≡◌, ◌≤◌, ◌<◌, ◌⊎◌, ℕ, true, false, zero, suc, List, [], ◌∷◌, ◌++◌, length, map, take, refl, sym, ap, subst, ◌∙◌, arith, inl, inr}
+use Rattle.std.specs.Prelude.{Option, Some, None, slice_get, is_some}
 use Rattle.lrc_named_tree.specs.declared.tree.Statement as code_statement
 use Rattle.lrc_named_tree.specs.Tree.{Declaration}
-use Rattle.lrc_named_tree.specs.View.{block_of}
+use Rattle.std.proofs.lemmas.List.{map-append}
+use Rattle.lrc_named_tree.specs.declared.tree.Declaration as code_declaration
+use Rattle.lrc_named_tree.specs.View.{block_of, declaration_of}
 use Rattle.lrc_named_names.specs.Names.{Declared}
 use Rattle.lrc_named_constants.specs.Layout.{AreDeclared, no_declaration, one_declaration}
 use Rattle.lrc_named_expression_faults.specs.declared.fault.Fault.{Fault}
@@ -141,3 +143,17 @@ nowhere at v s h = no_place h.0 h.1 h.2
 
 pub none_left : (all rest : List Declaration) (at : ℕ) → rest ≡ [] → AreLeft all rest at → IsFound (λ v s. IsOutInOne all at v s) None
 none_left all rest at e left = λ v s h. nowhere at v s (subst (λ l. IsOutInOne l at v s) e ((left v s).0 h))
+
+-- what was found, and that nothing was
+pub some_found : (A B : ℕ → ℕ → Type 0) (found : Option Beyond) → is_some found ≡ true → ((v s : ℕ) → A v s → B v s) → IsFound A found → IsFound B found
+some_found A B None e f h = absurd (cc)
+some_found A B (Some x) e f h = f x.value x.size h
+
+pub none_found : (A : ℕ → ℕ → Type 0) (found : Option Beyond) → is_some found ≡ false → IsFound A found → IsFound A None
+none_found A None e h = h
+none_found A (Some x) e h = absurd (cc)
+
+-- the last one of these is taken away
+pub last_taken : (all front : List code_declaration.Declaration) (d : code_declaration.Declaration) → all ≡ front ++ d ∷ []
+    → map declaration_of all ≡ map declaration_of front ++ declaration_of d ∷ []
+last_taken all front d e = ap (map declaration_of) e ∙ map-append declaration_of front (d ∷ [])

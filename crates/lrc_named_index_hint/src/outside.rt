@@ -43,8 +43,8 @@ pub(crate) fn out_of_range(
         statements: Vec::new(alloc),
     };
     let found = in_statements(alloc, &front, &statements, at)?;
-    if let Some(beyond) = found {
-        return Ok(Some(beyond));
+    if found.is_some() {
+        return Ok(found);
     }
     in_declarations(alloc, &mut front, at)
 }
@@ -61,8 +61,8 @@ fn in_declarations(
 {
     while let Some(declaration) = front.declarations.pop() {
         let found = in_declaration(alloc, front, &declaration, at)?;
-        if let Some(beyond) = found {
-            return Ok(Some(beyond));
+        if found.is_some() {
+            return Ok(found);
         }
     }
     Ok(None)
@@ -109,7 +109,8 @@ fn in_body<'p>(
     if spots.is_empty() {
         return Ok(None);
     }
-    match check(alloc, front)? {
+    let found = check(alloc, front)?;
+    match found {
         Found::Good(layout) => body_over(alloc, &layout, parameters, &spots),
         Found::Bad(_) => Ok(None),
     }
@@ -170,7 +171,8 @@ fn in_statements<'p>(
     if spots.is_empty() {
         return Ok(None);
     }
-    match check(alloc, front)? {
+    let found = check(alloc, front)?;
+    match found {
         Found::Good(layout) => parts_over(alloc, &layout, &parts, &spots),
         Found::Bad(_) => Ok(None),
     }
