@@ -5,8 +5,8 @@ use Rattle.lrc_named_index_hint.specs.Out.{IsBehind, IsOutIn, IsOutInOne}
 use Rattle.lrc_named_index_hint.proofs.Behind.{all_left, here_left, last_taken, none_found, none_left, one_less, some_found}
 use Rattle.lrc_named_index_hint.proofs.outside.in_declarations.Goals as goal
 
-pub loop-declaration-holds : goal.loop-declaration-holds
-loop-declaration-holds c = (all_left (map declaration_of c.args.front.now.declarations.items) c.args.at, c.requires)
+pub loop-declaration-init : goal.loop-declaration-init
+loop-declaration-init c = (all_left (map declaration_of c.args.front.now.declarations.items) c.args.at, c.requires)
 
 pub in_declaration-requires : goal.in_declaration-requires
 in_declaration-requires c = c.loop-declaration.invariant.1
