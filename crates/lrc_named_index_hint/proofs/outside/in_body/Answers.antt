@@ -1,10 +1,9 @@
 -- By what is declared in front, if that has no fault.
-use Rattle.std.proofs.Common.{◌≡◌, ◌++◌, ℕ, map, eqb-true, sym, ap, subst, ◌∙◌}
+use Rattle.std.proofs.Common.{◌≡◌, ℕ, List, [], map, eqb-true, sym, ap, subst, ◌∙◌}
 use Rattle.std.specs.Prelude.{IfOk}
 use Rattle.lrc_named_tree.specs.View.{declaration_of, expression_of, named_of, program_of}
 use Rattle.lrc_named_names.specs.Names.{Declared}
 use Rattle.lrc_named_names.specs.View.{declared_of}
-use Rattle.std.specs.Prelude.{List}
 use Rattle.lrc_named_expression_faults.proofs.First.{if_ok}
 use Rattle.lrc_named_faults.specs.Checked.{IsChecked}
 use Rattle.lrc_named_faults.specs.Declarations.{body_scope}
@@ -19,7 +18,7 @@ returns-then-is_empty c =
     let front = map declaration_of c.args.front.now.declarations.items in
     let own = map named_of c.args.parameters.now in
     let spots = spots_in c.args.at (expression_of c.args.body.now) in
-    let none : spots ≡ _ = sym c.in_ok-spots.ensures ∙ none_seen c.in_ok-spots.spots.items (eqb-true _ _ (sym c.is_empty.ensures ∙ c.if-is_empty.true)) in
+    let none : spots ≡ [] = sym c.in_ok-spots.ensures ∙ none_seen c.in_ok-spots.spots.items (eqb-true _ _ (sym c.is_empty.ensures ∙ c.if-is_empty.true)) in
     nothing_behind front (λ (t : List Declared) (v s : ℕ). IsOneOver (body_scope t own) spots v s) (λ t v s. none_of_none (body_scope t own) spots v s none)
 
 pub body_over-requires : goal.body_over-requires

@@ -1,10 +1,9 @@
 -- By what is declared in front, if that has no fault.
-use Rattle.std.proofs.Common.{◌≡◌, ◌++◌, ℕ, map, eqb-true, sym, ap, subst, ◌∙◌}
+use Rattle.std.proofs.Common.{◌≡◌, ◌++◌, ℕ, List, [], map, eqb-true, sym, ap, subst, ◌∙◌}
 use Rattle.std.specs.Prelude.{IfOk}
 use Rattle.lrc_named_tree.specs.View.{block_of, declaration_of, program_of}
 use Rattle.lrc_named_names.specs.Names.{Declared}
 use Rattle.lrc_named_names.specs.View.{declared_of}
-use Rattle.std.specs.Prelude.{List}
 use Rattle.lrc_named_expression_faults.proofs.First.{if_ok}
 use Rattle.lrc_named_statement_faults.specs.Parts.{part_seen, parts_of_block}
 use Rattle.lrc_named_statement_faults.specs.Statements.{statement_scope}
@@ -24,7 +23,7 @@ returns-then-is_empty c =
     let seen : map part_seen c.push_parts.new.parts.items ≡ parts = c.in_ok-push_parts.ensures ∙ ap (λ l. map part_seen l ++ parts) c.new-parts.ensures.items in
     let same : map spot_seen c.in_ok-spots.spots.items ≡ spots =
     c.in_ok-spots.ensures ∙ ap (λ l. spots_in_parts c.args.at (map part_seen l)) c.deref.ensures.value ∙ ap (spots_in_parts c.args.at) seen in
-    let none : spots ≡ _ = sym same ∙ none_seen c.in_ok-spots.spots.items (eqb-true _ _ (sym c.is_empty.ensures ∙ c.if-is_empty.true)) in
+    let none : spots ≡ [] = sym same ∙ none_seen c.in_ok-spots.spots.items (eqb-true _ _ (sym c.is_empty.ensures ∙ c.if-is_empty.true)) in
     nothing_behind front (λ (t : List Declared) (v s : ℕ). IsOutAmong t c.args.at block v s) (λ t v s. none_of_none (statement_scope t parts) spots v s none)
 
 pub parts_over-requires : goal.parts_over-requires
