@@ -12,6 +12,7 @@
 
 pub mod accesses;
 pub mod barriers;
+mod chunks;
 pub mod clocks;
 pub mod detector;
 pub mod fault_finder;
