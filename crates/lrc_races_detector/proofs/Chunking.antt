@@ -107,14 +107,15 @@ joined_values before more after all p =
     let at = all (p / 128) (p % 128) in
     omega (arith, was, with_them, now, at)
 
-pub listed : (chunks : Chunks) (list : List ℕ) → IsListed (length chunks) chunks list → (p : ℕ) → slice_index list p ≡ slice_index (values chunks) p
-listed chunks list l p =
-    elim (within p (length chunks)) [
+pub listed : (chunks : Chunks) (count : ℕ) (list : List ℕ) → length chunks ≤ count → IsListed count chunks list
+    → (p : ℕ) → slice_index list p ≡ slice_index (values chunks) p
+listed chunks count list end l p =
+    elim (within p count) [
       | inl lt ↦ l.same p lt ∙ sym (at_values chunks p)
       | inr past ↦
-          let le = past.0 in
+          let (le, over) = past in
           let long = l.long in
-          get_or_past list p 0 (omega (arith, le, long)) ∙ sym (at_values chunks p ∙ entry_past chunks (p / 128) (p % 128) past.1)
+          get_or_past list p 0 (omega (arith, le, long)) ∙ sym (at_values chunks p ∙ entry_past chunks (p / 128) (p % 128) (omega (arith, over, end)))
     ]
 
 listed_one : (chunks : Chunks) (count : ℕ) (before after chunk : List ℕ) → IsListed count chunks before → chunk_of (slice_get chunks count) ≡ chunk
@@ -152,19 +153,21 @@ shared_one more old count pushed s is index lt =
           ap (λ o. chunk_of o) (slice_get-push_old old pushed index (omega (arith, long, lt, other))) ∙ s.same index (omega (arith, lt, other))
     ]
 
-pub shared_next : (more old new : Chunks) (count : ℕ) (pushed : Rc (Vec ℕ Global) Global) → AreSharedBelow count more old → new ≡ old ++ pushed ∷ []
+pub shared_next : (more old new : Chunks) (count : ℕ) (pushed : Rc (Vec ℕ Global) Global) → count < length more → AreSharedBelow count more old → new ≡ old ++ pushed ∷ []
     → chunk_of (slice_get more count) ≡ pushed.value.items → AreSharedBelow (count + 1) more new
-shared_next more old new count pushed s pushes is = subst (λ xs. AreSharedBelow (count + 1) more xs) (sym pushes) (record {
+shared_next more old new count pushed lt s pushes is = subst (λ xs. AreSharedBelow (count + 1) more xs) (sym pushes) (record {
   long = let long = s.long in let more_by_one = length_push old pushed in omega (arith, long, more_by_one);
-  same = λ index lt. shared_one more old count pushed s is index lt;
+  within = omega (arith, lt);
+  same = λ index below. shared_one more old count pushed s is index below;
 })
 
-pub shared_values : (more new : Chunks) → AreSharedBelow (length more) more new → values new ≡ values more
-shared_values more new s =
-    same_values new more s.long (λ index.
+pub shared_values : (more new : Chunks) (count : ℕ) → length more ≤ count → AreSharedBelow count more new → values new ≡ values more
+shared_values more new count end s =
+    let long = s.long in
+    let within_them = s.within in
+    same_values new more (omega (arith, long, within_them, end)) (λ index.
         elim (cases_lt index (length more)) [
-          | inl lt ↦ s.same index lt
+          | inl lt ↦ s.same index (omega (arith, lt, end))
           | inr le ↦
-              let long = s.long in
-              ap (λ o. chunk_of o) (slice_get_past new index (omega (arith, long, le))) ∙ sym (ap (λ o. chunk_of o) (slice_get_past more index le))
+              ap (λ o. chunk_of o) (slice_get_past new index (omega (arith, long, within_them, le))) ∙ sym (ap (λ o. chunk_of o) (slice_get_past more index le))
         ])

@@ -43,6 +43,7 @@ pub record AreJoinedBelow (count : ℕ) (before more after : List (Rc (Vec ℕ G
 -- the first so many chunks are shared
 pub record AreSharedBelow (count : ℕ) (more after : List (Rc (Vec ℕ Global) Global)) : Type 0 where
   pub long : length after ≡ count
+  pub within : count ≤ length more
   pub same : (index : ℕ) → index < count → chunk_of (slice_get after index) ≡ chunk_of (slice_get more index)
 
 -- so many entries of a chunk are behind the list
