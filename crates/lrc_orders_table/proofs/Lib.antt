@@ -17,3 +17,5 @@ pub mod RowNodes
 pub mod Seeing
 pub mod Sharing
 pub mod Together
+pub mod Lists
+pub mod NotesInOrder

@@ -1,3 +1,4 @@
+pub mod Notes
 pub mod RowHash
 pub mod Rows
 pub mod All

@@ -7,6 +7,8 @@ use lib.Pointwise.{pointwise, bytes_decides}
 use Rattle.std.specs.Hash.{u64}
 use Rattle.lrc_orders_table.specs.contracts.rows.RowPartialEq.TheImpl.{eq-value as row_eq}
 use Rattle.lrc_orders_table.specs.declared.rows.Row.{Row}
+use Rattle.lrc_orders_table.specs.contracts.notes.ListsPartialEq.TheImpl.{eq-value as lists_eq}
+use Rattle.lrc_orders_table.specs.declared.notes.Lists.{Lists}
 
 -- a number of 64 bits, with one of 32 mixed in
 abbrev pub mix : (all number : ℕ) → ℕ
@@ -31,3 +33,10 @@ mixed row = mix (mix (fold mix 0 row.threads) row.shared) row.notes
 -- equal rows have the same
 pub respects : (x y : Row) → row_eq.it x y ≡ true → u64 (mixed x) ≡ u64 (mixed y)
 respects x y e = ap (λ row. u64 (mixed row)) (row_is x y e)
+
+-- so it is of the lists of all nodes
+pub lists_are : (a b : Lists) → lists_eq.it a b ≡ true → a ≡ b
+lists_are a b e = ap (λ numbers. record { numbers = numbers }) ((bytes_decides a.numbers b.numbers).0 e)
+
+pub lists_respect : (x y : Lists) → lists_eq.it x y ≡ true → u64 (fold mix 0 x.numbers) ≡ u64 (fold mix 0 y.numbers)
+lists_respect x y e = ap (λ (lists : Lists). u64 (fold mix 0 lists.numbers)) (lists_are x y e)

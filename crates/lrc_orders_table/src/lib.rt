@@ -2,10 +2,11 @@
 //! step that was taken before costs look-ups alone.
 #![tactic(auto)]
 
+mod hash;
 pub mod known;
 pub mod laws;
 pub mod next;
-mod noted;
+pub mod notes;
 pub mod parts;
 pub mod rows;
 pub mod seen;

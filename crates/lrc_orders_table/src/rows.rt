@@ -4,9 +4,11 @@
 // noted is kept once for all the rows that have it.
 
 ghost use Rattle.std.specs.Prelude.{◌≡◌};
-ghost use Rattle.lrc_orders_table.specs.RowHash.{mix, mixed};
+ghost use Rattle.lrc_orders_table.specs.RowHash.{mixed};
 
-use crate::parts::{Notes, Shared, counted, notes_number, shared_number, threads_at, threads_of};
+use crate::hash::{mix, mix_all};
+use crate::notes::Notes;
+use crate::parts::{Shared, counted, shared_number, threads_at, threads_of};
 use indexmap::IndexSet;
 use lrc_exec::spot::Spot;
 use lrc_exec::state::State;
@@ -38,22 +40,10 @@ impl Hash for Row {
 }
 
 // The numbers of a row, mixed to one of 64 bits.
-#[tactic(auto, using(std::proofs::lemmas::List::Sums::fold_more))]
 fn mixed(row: &Row) -> u64
     ensures { result ≡ mixed row.now }
 {
-    let mut all = 0;
-    for number in &row.threads {
-        all = mix(all, *number);
-    }
-    mix(mix(all, row.shared), row.notes)
-}
-
-// A number with another mixed in.
-fn mix(all: u64, number: u32) -> u64
-    ensures { result ≡ mix all number }
-{
-    (all ^ u64::from(number)).wrapping_mul(0x9e37_79b9_7f4a_7c15)
+    mix(mix(mix_all(&row.threads), row.shared), row.notes)
 }
 
 /// Rows of so many nodes, each once, in the order in which they were added, and the distinct parts of them.
@@ -62,7 +52,7 @@ pub struct Rows {
     pub nodes: usize,
     pub threads: IndexSet<Spot>,
     pub shared: IndexSet<Shared>,
-    pub notes: IndexSet<Notes>,
+    pub notes: Notes,
     pub rows: IndexSet<Row>,
 }
 
@@ -71,6 +61,7 @@ impl Rows {
     ghost use Rattle.lrc_orders.specs.declared.noted.Noted.{Noted as Key};
     ghost use Rattle.lrc_orders.specs.Kept.{IsAddedAt};
     ghost use Rattle.lrc_orders_settling.specs.Taking.{IsCounted};
+    ghost use Rattle.lrc_orders_table.specs.Notes.{AreInOrder};
     ghost use Rattle.lrc_orders_table.specs.Rows.{AddsThreads, AreRowsDistinct, IsRowAt, IsRowPlace, StandsFor, WidensRows, row_count};
 
     /// No rows.
@@ -79,14 +70,14 @@ impl Rows {
         ensures nodes { result.nodes ≡ nodes }
         ensures threads { result.threads.keys ≡ [] }
         ensures shared { result.shared.keys ≡ [] }
-        ensures notes { result.notes.keys ≡ [] }
+        ensures notes { result.notes.lists.keys ≡ [] }
         ensures distinct { AreRowsDistinct result }
     {
         Rows {
             nodes,
             threads: IndexSet::new(alloc),
             shared: IndexSet::new(alloc),
-            notes: IndexSet::new(alloc),
+            notes: Notes::new(alloc),
             rows: IndexSet::new(alloc),
         }
     }
@@ -114,7 +105,6 @@ impl Rows {
     {
         let row = self.row(place);
         let shared = &self.shared.as_slice()[row.shared as usize];
-        let notes = &self.notes.as_slice()[row.notes as usize];
         let spots = threads_at(alloc, &self.threads, &row.threads, self.nodes)?;
         Ok(Noted {
             state: State {
@@ -123,15 +113,17 @@ impl Rows {
                 arrivals: counted(alloc, &spots)?,
                 spots,
             },
-            notes: Vec::from_slice(alloc, &notes.acts)?,
+            notes: self.notes.acts(alloc, row.notes)?,
         })
     }
 
-    /// Adds the row of a state with its notes, if it is new: its place, and whether it is new.
+    /// Adds the row of a state with its notes, if it is new: its place, and whether it is new. The notes stand node by
+    /// node.
     pub fn add(&mut self, noted: Noted) -> Result<(usize, bool), AllocError>
         requires distinct { AreRowsDistinct self.old }
         requires nodes { length noted.state.spots.items ≡ self.old.nodes }
         requires counted { IsCounted noted.state }
+        requires order { AreInOrder noted.notes.items }
         ensures widens { OnOk result (WidensRows self.old self.new) }
         ensures distinct { OnOk result (AreRowsDistinct self.new) }
         ensures there { IfOk result (λ added. IsRowAt self.new added.0 noted) }
@@ -150,7 +142,7 @@ impl Rows {
                 holders: state.holders,
             },
         )?;
-        let notes = notes_number(&mut self.notes, Notes { acts })?;
+        let notes = self.notes.number(&acts)?;
         let (place, added) = self.put(Row {
             threads,
             shared,

@@ -6,6 +6,7 @@ use Rattle.lrc_orders_live.specs.Live.{forgot}
 use Rattle.lrc_orders_table.specs.Rows.{AreRowsDistinct, WidensRows}
 use Rattle.lrc_orders_table.specs.Nexts.{next_in}
 use Rattle.lrc_orders_table.specs.declared.table.Table.{Table}
+use Rattle.lrc_orders_table.proofs.Lists.{grows_notes_not}
 use Rattle.lrc_orders_table.proofs.Keeping.{IsPlaced, table_on, threads_more, threads_one}
 use Rattle.lrc_orders_table.proofs.table.Table.number.Goals as goal
 
@@ -31,7 +32,7 @@ returns-clause-table c =
       nodes = refl;
       threads = c.in_ok-number.ensures.grows;
       shared = grows_not old.rows.shared.keys old.rows.shared.keys refl;
-      notes = grows_not old.rows.notes.keys old.rows.notes.keys refl;
+      notes = grows_notes_not old.rows.notes old.rows.notes refl;
       rows = grows_not old.rows.rows.keys old.rows.rows.keys refl;
     } in
     let distinct : AreRowsDistinct new.rows = record {
