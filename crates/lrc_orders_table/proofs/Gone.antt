@@ -1,7 +1,8 @@
 -- What a state becomes once a node has made its next act and has settled.
-use Rattle.std.proofs.Common.{◌≡◌, ℕ, zero, suc, ◌<◌, ◌≤◌, Bool, true, false, List, [], ◌∷◌, inl, inr, length, get_or, refl, sym, ◌∙◌, ap, subst, arith}
+use Rattle.std.proofs.Common.{◌≡◌, ℕ, zero, suc, ◌<◌, ◌≤◌, ◌^◌, Bool, true, false, List, [], ◌∷◌, inl, inr, length, get_or, refl, sym, ◌∙◌, ap, subst, arith}
 use Rattle.std.specs.Prelude.{Option, Some, None, if◌then◌else◌, slice_get, slice_index, slice_set}
 use Rattle.std.specs.Vec.{with_item}
+use Rattle.std.specs.declared.vec.Vec.{Vec}
 use Rattle.std.proofs.lemmas.Bool.{cases_eq}
 use Rattle.std.proofs.lemmas.List.{get_or-set_other, get_or-set_same, length-set, map-set}
 use Rattle.std.proofs.lemmas.Option.{get_or_from_slice_get, slice_get_within}
@@ -33,6 +34,7 @@ use Rattle.lrc_orders_table.specs.declared.known.Means.{Means}
 use Rattle.lrc_orders_table.specs.declared.table.Table.{Table}
 use Rattle.lrc_orders_table.specs.Shared.{holders_then, words_then}
 use Rattle.lrc_orders_table.specs.Tables.{IsRowOf}
+use Rattle.lrc_orders_table.proofs.NotesInOrder.{notes_few}
 
 -- ---- lists of which one item changes
 
@@ -124,6 +126,18 @@ threads_set keys nodes numbers spots node number spot lt few t there =
       ];
       past = λ k le. get_or-set_other numbers node k number 0 (λ e. omega (arith, lt, le, e)) ∙ t.past k le;
     }
+
+-- a vector with these items
+abbrev with_acts : {Z : Type 0} → Vec Act Z → (acts : List Act) → length acts < 2 ^ 63 → Vec Act Z
+with_acts v acts few = record {
+  ptr = v.ptr;
+  len = length acts;
+  cap = length acts;
+  alloc = v.alloc;
+  items = acts;
+  ok = (refl, omega arith);
+  small = few;
+}
 
 module _ (means : Means) (table : Table) (row : Row) (key : Noted) (node value number shared notes : ℕ) (spot : Spot) (settled : Settled)
     (of : IsRowOf means table row key) (here : slice_get key.state.spots.items node ≡ Some spot) (so : SettlesSo means.flat spot value settled)

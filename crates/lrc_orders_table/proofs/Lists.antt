@@ -1,6 +1,6 @@
 -- Lists of notes by numbers: which notes a number has, and what one note more does.
 use Rattle.std.proofs.Common.{◌≡◌, ◌≢◌, ℕ, zero, suc, ◌+◌, ◌<◌, ◌≤◌, ◌^◌, List, [], ◌∷◌, ◌++◌, Bool, true, false, inl, inr, length, refl, sym, subst, ◌∙◌, ap, arith}
-use Rattle.std.specs.Prelude.{◌&&◌, cond, replicate}
+use Rattle.std.specs.Prelude.{◌-◌, ◌&&◌, cond, replicate}
 use Rattle.std.specs.Prelude.{Some, filter, get_or, nat_eq, reverse, slice_get, slice_index, slice_set}
 use Rattle.std.specs.List.{IsDistinct}
 use Rattle.std.proofs.lemmas.Bool.{and_parts, cases_eq, cases_lt, eqb-true, ne_eqb}
@@ -131,6 +131,12 @@ pub last_of : (links : List Link) (number : ℕ) (notes : List Act) → IsListOf
 last_of links number [] s not = absurd (not s)
 last_of links number (x ∷ xs) s not = record { link = s.0; is = s.1; before = xs; of = s.3; all = ap (λ n. n ∷ xs) (sym s.2) }
 
+-- it stands before the number
+pub last_there : (links : List Link) (number : ℕ) (notes : List Act) → (last : IsLast links number notes) → slice_get links (number - 1) ≡ Some last.link
+last_there links number notes last =
+    let place : number - 1 ≡ last.is.place = let e = last.is.number_is in omega (arith, e) in
+    ap (slice_get links) place ∙ last.is.there
+
 -- ---- the lists of all nodes
 
 pub lists_grown : {old new : List Link} {numbers : List ℕ} {acts : List Act} → Grows old new → AreListsOf old numbers acts → AreListsOf new numbers acts
@@ -227,3 +233,7 @@ grows_notes_not old new e = record {
   links = grows_not old.links.keys new.links.keys (ap (λ (n : Notes). n.links.keys) e);
   lists = grows_not old.lists.keys new.lists.keys (ap (λ (n : Notes). n.lists.keys) e);
 }
+
+pub none_left : (links : List Link) (number : ℕ) (notes : List Act) → IsListOf links number notes → number ≡ 0 → notes ≡ []
+none_left links number [] s e = refl
+none_left links number (x ∷ xs) s e = absurd (let is = s.1.number_is in omega (arith, is, e))

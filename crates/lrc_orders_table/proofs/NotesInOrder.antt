@@ -1,8 +1,8 @@
 -- Notes that stand node by node.
-use Rattle.std.proofs.Common.{◌≡◌, ◌≢◌, ℕ, zero, suc, ◌+◌, ◌*◌, ◌<◌, ◌≤◌, ◌^◌, List, [], ◌∷◌, ◌++◌, Bool, true, false, inl, inr, length, refl, sym, subst, ◌∙◌, ap, arith, append_assoc}
+use Rattle.std.proofs.Common.{◌≡◌, ◌≢◌, ℕ, zero, suc, ◌+◌, ◌*◌, ◌<◌, ◌≤◌, ◌^◌, List, [], ◌∷◌, ◌++◌, Bool, true, false, inl, inr, length, refl, sym, subst, ◌∙◌, ap, arith, add-one, append_assoc, take}
 use Rattle.std.specs.Prelude.{◌&&◌, ◌-◌, All, Some, cond, filter, get_or, nat_eq, reverse, slice_get, slice_index}
 use Rattle.std.proofs.lemmas.Bool.{and_parts, cases_eq, eqb-true, ne_eqb}
-use Rattle.std.proofs.lemmas.List.{ext_get_or, length-append, length-reverse, reverse-reverse}
+use Rattle.std.proofs.lemmas.List.{ext_get_or, length-append, length-reverse, map_push, reverse-append, reverse-reverse, take_more}
 use Rattle.std.proofs.lemmas.List.Elements.{All-append, filter-append, filter_passes}
 use Rattle.lrc_trace.specs.declared.act.Act.{Act}
 use Rattle.lrc_trace.specs.declared.act.Deed.{Deed}
@@ -23,7 +23,7 @@ use Rattle.lrc_orders_table.proofs.Lists.{length_list, lists_grown, one_list, on
 
 -- ---- the notes of one node among notes
 
-abbrev its : ℕ → List Act → List Act
+abbrev pub its : ℕ → List Act → List Act
 its node acts = filter (is_note_of node) acts
 
 again_cases : (node : ℕ) (x : Act) (xs : List Act) (b : Bool) → is_note_of node x ≡ b → its node xs ≡ xs → its node (cond b (x ∷ xs) xs) ≡ cond b (x ∷ xs) xs
@@ -187,3 +187,37 @@ notes_apart all sound a b acts s t =
     one_number all.links.keys sound.links (slice_index xs k) (slice_index ys k) (reverse (its k acts)) (s.are.each k less) (t.are.each k less)) in
     one_place lists_eq.it all.lists.keys sound.lists a b s.lists t.lists s.there t.there (equal_items nat_eq nat_itself xs ys numbers)
     (equal_items nat_eq nat_itself ys xs (sym numbers))
+
+-- with what a node's deeds add
+pub noted_at : (all : Notes) (number node : ℕ) (deeds : List Deed) (lists : Lists) (acts : List Act) → node < 16 → AreInOrder acts
+    → slice_get all.lists.keys number ≡ Some lists → AreListsOf all.links.keys lists.numbers (acts ++ acts_by node deeds)
+    → AreNotesAt all number (notes_on acts (acts_by node deeds))
+noted_at all number node deeds lists acts lt order there are =
+    let more = acts_by node deeds in
+    subst (AreNotesAt all number) (sym (ap (λ l. notes_on l more) (sym order) ∙ order_on node deeds acts lt)) (record {
+      lists = lists;
+      there = there;
+      are = lists_in_order all.links.keys lists.numbers (acts ++ more) are;
+      order = order_of 16 (acts ++ more) (omega arith);
+    })
+
+-- ---- notes one by one
+
+pub one_deed_more : (node : ℕ) (deeds : List Deed) (at : ℕ) (d : Deed) (acts : List Act) → at < length deeds
+    → (acts ++ acts_by node (take at deeds)) ++ act_of node (get_or deeds at d) ∷ [] ≡ acts ++ acts_by node (take (at + 1) deeds)
+one_deed_more node deeds at d acts lt =
+    append_assoc acts (acts_by node (take at deeds)) (act_of node (get_or deeds at d) ∷ [])
+    ∙ ap (λ l. acts ++ l) (sym (map_push (act_of node) (take at deeds) (get_or deeds at d)))
+    ∙ ap (λ l. acts ++ acts_by node l) (sym (take_more deeds at d lt))
+
+-- from the last node on, each one's from its end
+pub one_node_before : (behind : ℕ) (acts : List Act) → behind < 16
+    → reverse (notes_from (16 - behind) behind acts) ++ reverse (its (15 - behind) acts) ≡ reverse (notes_from (16 - (behind + 1)) (behind + 1) acts)
+one_node_before behind acts lt =
+    let first : ℕ = 15 - behind in
+    let next : 16 - behind ≡ suc first = omega (arith, lt) in
+    let same : first ≡ 16 - (behind + 1) = omega (arith, lt) in
+    ap (λ n. reverse (notes_from n behind acts) ++ reverse (its first acts)) next
+    ∙ sym (reverse-append (its first acts) (notes_from (suc first) behind acts))
+    ∙ ap (λ n. reverse (notes_from first n acts)) (sym (add-one behind))
+    ∙ ap (λ n. reverse (notes_from n (behind + 1) acts)) same

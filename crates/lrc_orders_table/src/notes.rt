@@ -87,7 +87,8 @@ impl Notes {
         for act in acts {
             self.note(&mut lists, *act)?;
         }
-        self.lists_number(lists)
+        let number = self.lists_number(lists)?;
+        Ok(number)
     }
 
     /// The number of the notes that a node's deeds make of the notes with this number. It fails if memory runs out.
@@ -103,9 +104,10 @@ impl Notes {
         if deeds.is_empty() {
             return Ok(notes);
         }
-        let mut lists = self.lists.as_slice()[notes as usize];
+        let mut lists = self.lists[notes as usize];
         self.note_deeds(&mut lists, node, deeds)?;
-        self.lists_number(lists)
+        let number = self.lists_number(lists)?;
+        Ok(number)
     }
 
     // Notes a node's deeds behind the list of its notes.
@@ -178,7 +180,7 @@ impl Notes {
         requires { HaveNotes self.now number }
         ensures { IfOk result (λ acts. AreNotesAt self.now number acts.items) }
     {
-        let lists = &self.lists.as_slice()[number as usize];
+        let lists = self.lists[number as usize];
         let mut acts = Vec::new(alloc);
         for behind in 0..16 {
             self.push_list(&mut acts, lists.numbers[15 - behind])?;
@@ -195,7 +197,7 @@ impl Notes {
     {
         let mut at = number as usize;
         while at != 0 {
-            let link = self.links.as_slice()[at - 1];
+            let link = self.links[at - 1];
             acts.push(link.note)?;
             at = link.before as usize;
         }
