@@ -36,7 +36,9 @@ use Rattle.lrc_orders_live.specs.Like.{AreLike, TakesLike}
 use Rattle.lrc_orders_live.specs.Live.{forgot}
 use Rattle.lrc_orders_live.proofs.Alike.{takes_once}
 use Rattle.lrc_orders_live.proofs.Like.{like_alike, like_back, like_is, like_on, like_same}
+use Rattle.lrc_orders_table.specs.Notes.{AreInOrder}
 use Rattle.lrc_orders_table.proofs.Forgotten.{all_forgot}
+use Rattle.lrc_orders_table.proofs.NotesInOrder.{order_of}
 use Rattle.lrc_explore.proofs.MeansOf.{table_distinct}
 use Rattle.lrc_explore.proofs.Reaching.{Further, further, notes_onward}
 
@@ -89,6 +91,14 @@ from_grown task old new origin key w f = record {
 first_copy : (task : Task) (copy key : Noted) → IsNotedCopy copy key → IsFirstKey task key → IsFirstKey task copy
 first_copy task copy key c f =
     (f.0, f.1, f.2, like_is f.3 (sym (copy_same task.flat copy.state key.state c.state)), λ e. c.notes ∙ f.4 e)
+
+-- its notes stand node by node
+pub key_order : (task : Task) (key : Noted) → IsReached task key → task.flat.nodes ≤ 16 → AreInOrder key.notes.items
+key_order task key r few = by_noting task.noting refl
+  where
+    by_noting : (noting : Bool) → task.noting ≡ noting → AreInOrder key.notes.items
+    by_noting true e = subst AreInOrder (r.noted e) (order_of task.flat.nodes r.acts few)
+    by_noting false e = subst AreInOrder (sym (r.bare e)) refl
 
 -- ---- what was found
 

@@ -43,7 +43,7 @@ impl Table {
         requires counted { IsCounted noted.state }
         requires bare { All (λ spot. forgot means.now.live.now spot ≡ spot)
             noted.state.spots.items }
-        requires order { AreInOrder noted.notes.items }
+        requires order { length noted.state.spots.items ≤ 16 → AreInOrder noted.notes.items }
         ensures table { OnOk result (IsTable means.now self.new) }
         ensures widens { OnOk result (WidensRows self.old.rows self.new.rows) }
         ensures there { IfOk result (λ added. IsRowAt self.new.rows added.0 noted) }

@@ -123,7 +123,7 @@ impl Rows {
         requires distinct { AreRowsDistinct self.old }
         requires nodes { length noted.state.spots.items ≡ self.old.nodes }
         requires counted { IsCounted noted.state }
-        requires order { AreInOrder noted.notes.items }
+        requires order { length noted.state.spots.items ≤ 16 → AreInOrder noted.notes.items }
         ensures widens { OnOk result (WidensRows self.old self.new) }
         ensures distinct { OnOk result (AreRowsDistinct self.new) }
         ensures there { IfOk result (λ added. IsRowAt self.new added.0 noted) }

@@ -5,7 +5,7 @@ use Rattle.lrc_orders_live.specs.Live.{forgot}
 use Rattle.lrc_orders_settling.specs.declared.step.Step.TheVariants.{Together}
 use Rattle.lrc_explore.specs.declared.task.Found.{Found}
 use Rattle.lrc_explore.specs.declared.task.Origin.{Origin}
-use Rattle.lrc_explore.proofs.Keys.{found_put}
+use Rattle.lrc_explore.proofs.Keys.{found_put, key_order}
 use Rattle.lrc_explore.proofs.MeansOf.{table_of}
 use Rattle.lrc_explore.proofs.task.Found.add.Goals as goal
 
@@ -15,6 +15,12 @@ add-requires-clause-table c = c.requires.found.table c.means.result c.means.ensu
 pub add-requires-clause-bare : goal.add-requires-clause-bare
 add-requires-clause-bare c =
     subst (λ l. All (λ (spot : Spot). forgot l spot ≡ spot) c.args.key.state.spots.items) (sym c.means.ensures.live) c.requires.bare
+
+pub add-requires-clause-order : goal.add-requires-clause-order
+add-requires-clause-order c = λ few.
+    let r = c.requires.reached in
+    let count = r.valid.spots in
+    key_order c.args.task.now c.args.key r (omega (arith, few, count))
 
 pub returns-in_ok-push-clause-found : goal.returns-in_ok-push-clause-found
 returns-in_ok-push-clause-found c =

@@ -56,4 +56,5 @@ returns-clause-only c = λ k x at.
     subst (λ l. AddsThreads old mid l) c.deref.ensures.value c.in_ok-threads.ensures.only k x (ap (λ l. slice_get l k) (sym same) ∙ at)
 
 pub number-requires-clause-order : goal.number-requires-clause-order
-number-requires-clause-order c = subst AreInOrder (sym c.deref-2.ensures.value) c.requires.order
+number-requires-clause-order c =
+    subst AreInOrder (sym c.deref-2.ensures.value) (c.requires.order (subst (λ l. length l ≤ 16) c.deref.ensures.value c.in_ok-threads.ensures.few))
