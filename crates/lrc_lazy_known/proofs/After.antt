@@ -18,7 +18,7 @@ same_none : IsSame [] []
 same_none = record { lasts = λ k. refl; values = λ k v. (λ c. c, λ c. c); above = λ k z. refl }
 
 -- of a word past all nothing is kept, before and after
-none_after : (effect : Effect) (count word : ℕ) → IsWithin effect count → count ≤ word → IsAfter effect word [] []
+pub none_after : (effect : Effect) (count word : ℕ) → IsWithin effect count → count ≤ word → IsAfter effect word [] []
 none_after Passes count word within le = same_none
 none_after (Writes writer written value) count word within le = inr (λ same. omega (arith, same, within, le), same_none)
 none_after (Learns learner teacher) count word within le = inr (refl, same_none)

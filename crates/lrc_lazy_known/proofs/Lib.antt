@@ -11,3 +11,5 @@ pub mod Dropping
 pub mod Cutting
 pub mod Tidy
 pub mod Keeping
+pub mod Teaching
+pub mod Others

@@ -60,7 +60,7 @@ or_and_false_middle true b c e f = cc
 or_and_false_middle false true c e f = cc
 or_and_false_middle false false c e f = refl
 
-and_false : (a b : Bool) → a ≡ false → (a && b) ≡ false
+pub and_false : (a b : Bool) → a ≡ false → (a && b) ≡ false
 and_false true b e = cc
 and_false false b e = refl
 
@@ -130,7 +130,7 @@ module _ (word after : List Known) (is : ℕ → Known → Type 0) (count : ℕ)
         | inr le ↦ past le (slice_get_past after k (omega arith)) (slice_get_past word k (omega arith))
       ]
 
-no_value : (v : ℕ) (xs : List ℕ) → xs ≡ [] → Contains xs v → ⊥
+pub no_value : (v : ℕ) (xs : List ℕ) → xs ≡ [] → Contains xs v → ⊥
 no_value v xs e c = let none : Contains [] v = subst (λ l. Contains l v) e c in omega (arith, none.1)
 
 module _ (word after : List Known) (l t : ℕ) (count : ℕ) (all : AreEach (IsLearnedBy word l t) after count) (long : length word ≤ count) (wide : l < count) where

@@ -1,5 +1,5 @@
 -- How what is kept of a word is made anew, for one after another of those who know.
-use Rattle.std.specs.Prelude.{◌≡◌, ℕ, ◌⊎◌, ◌↔◌, ◌==◌, Some, List, [], if◌then◌else◌, length, slice_get, slice_index_or, false, Contains}
+use Rattle.std.specs.Prelude.{◌≡◌, ℕ, ◌⊎◌, ◌↔◌, ◌==◌, Bool, Some, List, [], if◌then◌else◌, length, slice_get, slice_index_or, false, Contains}
 use Rattle.lrc_lazy_known.specs.declared.known.Last.{Last}
 use Rattle.lrc_lazy_known.specs.declared.known.Last.TheVariants.{Nothing}
 use Rattle.lrc_lazy_known.specs.declared.known.Known.{Known}
@@ -22,6 +22,10 @@ pub record IsLearnedBy (word : List Known) (learner teacher k : ℕ) (known : Kn
   pub last : known.last ≡ last_learned word learner teacher k
   pub values : (v : ℕ) → Contains known.values.items v ↔ (Contains (values_of word k) v ⊎ Contains (values_taught word learner teacher k) v)
   pub above : (z : ℕ) → slice_index_or known.above.items z false ≡ above_learned word learner teacher k z
+
+-- the row with another item at one place, where nothing stands behind its end
+abbrev pub IsPutInRow : (place : ℕ) → Bool → (old new : List Bool) → Type 0
+IsPutInRow place is old new = (z : ℕ) → slice_index_or new z false ≡ (if z == place then is else slice_index_or old z false)
 
 -- what the writer writes, and the others do not
 abbrev pub last_written : List Known → (writer value k : ℕ) → Last

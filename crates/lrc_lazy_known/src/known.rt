@@ -1,12 +1,13 @@
 // What is known of the writes of each word.
 
-ghost use Rattle.std.specs.Prelude.{◌≡◌, ◌≤◌, ◌+◌, ℕ, Some, [], length, slice_get};
+ghost use Rattle.std.specs.Prelude.{◌≡◌, ◌≤◌, ◌<◌, ◌^◌, ◌-◌, ◌+◌, ℕ, OnOk, Some, [], length, slice_get};
 ghost use Rattle.lrc_lazy_known.specs.declared.known.KnownWord.{KnownWord as KnownWordType};
-ghost use Rattle.lrc_lazy_known.specs.Effect.{knowers_in, IsSmall, IsWithin};
-ghost use Rattle.lrc_lazy_known.specs.Tidy.{AreCut, IsWordOfSome};
+ghost use Rattle.lrc_lazy_known.specs.declared.word.Effect.TheVariants.{Learns};
+ghost use Rattle.lrc_lazy_known.specs.Effect.{knowers_in, IsAfter, IsSmall, IsWithin};
+ghost use Rattle.lrc_lazy_known.specs.Tidy.{AreCut, IsTidyWord, IsWordOfSome};
 
 use crate::word::{
-    Effect, copied, last_of, past, values_of, values_with, word_after, word_without,
+    Effect, copied, last_of, learned, past, values_of, values_with, word_after, word_without,
 };
 use std::alloc::{AllocError, Global};
 
@@ -46,7 +47,8 @@ pub struct Knowledge {
 }
 
 impl Knowledge {
-    ghost use Rattle.std.specs.Prelude.{◌≡◌, ◌↔◌, ◌<◌, ◌^◌, ℕ, IfOk, Contains, []};
+    ghost use Rattle.std.specs.Prelude.{◌≡◌, ◌↔◌, ◌<◌, ◌^◌, ◌-◌, ℕ, IfOk, OnOk, Contains, []};
+    ghost use Rattle.lrc_lazy_known.specs.declared.word.Effect.TheVariants.{Learns};
     ghost use Rattle.lrc_lazy_known.specs.Word.{Gives};
     ghost use Rattle.lrc_lazy_known.specs.Effect.{IsAfter, IsKnowledgeAfter, IsKnowledgeWithout, IsSmall, word_of};
     ghost use Rattle.lrc_lazy_known.specs.Tidy.{IsRising, IsTidy};
@@ -92,13 +94,28 @@ impl Knowledge {
         ensures tidy { IfOk result (λ after. IsTidy self.now → IsTidy after) }
     {
         let count = count_after(self.words.len(), effect);
-        let mut words = Vec::new(alloc);
+        let mut words = Vec::with_capacity(alloc, count)?;
         for word in 0..count {
             let knowers = word_after(alloc, self.word(word), effect, word)?;
             words.push(KnownWord { knowers })?;
         }
         cut_words(&mut words);
         Ok(Knowledge { words })
+    }
+
+    /// Changes what is known where the first of two learns what the second knows. Words that it learns nothing of stay as
+    /// they are. It fails if memory runs out.
+    pub fn teach(&mut self, alloc: Global, learner: usize, teacher: usize) -> Result<(), AllocError>
+        requires { learner < 2 ^ 64 - 1 }
+        ensures after { OnOk result (IsKnowledgeAfter
+            (Learns learner teacher) self.old self.new) }
+        ensures tidy { OnOk result (IsTidy self.old → IsTidy self.new) }
+    {
+        for word in 0..self.words.len() {
+            teach_word(alloc, &mut self.words[word], learner, teacher)?;
+        }
+        cut_words(&mut self.words);
+        Ok(())
     }
 
     /// Returns what those know who are left, where those of so many numbers from the first on are dropped. It fails if
@@ -112,13 +129,36 @@ impl Knowledge {
         ensures left { IfOk result (IsKnowledgeWithout first dropped self.now) }
         ensures tidy { IfOk result (λ left. IsTidy self.now → IsTidy left) }
     {
-        let mut words = Vec::new(alloc);
+        let mut words = Vec::with_capacity(alloc, self.words.len())?;
         for word in 0..self.words.len() {
             let knowers = word_without(alloc, self.word(word), first, dropped)?;
             words.push(KnownWord { knowers })?;
         }
         cut_words(&mut words);
         Ok(Knowledge { words })
+    }
+}
+
+// The same of one word.
+#[tactic(auto, using(crate::proofs::Teaching::taught_nothing))]
+fn teach_word(
+    alloc: Global,
+    word: &mut KnownWord,
+    learner: usize,
+    teacher: usize,
+) -> Result<(), AllocError>
+    requires { learner < 2 ^ 64 - 1 }
+    ensures after { OnOk result ((number : ℕ) → IsAfter (Learns learner teacher) number
+        word.old.knowers.items word.new.knowers.items) }
+    ensures tidy { OnOk result (IsTidyWord word.old.knowers.items
+        → IsTidyWord word.new.knowers.items) }
+{
+    match last_of(&word.knowers, teacher) {
+        Last::Nothing => Ok(()),
+        _ => {
+            word.knowers = learned(alloc, &word.knowers, learner, teacher)?;
+            Ok(())
+        }
     }
 }
 

@@ -2,7 +2,7 @@
 
 ghost use Rattle.std.specs.Prelude.{◌≡◌, ◌≢◌, ◌≤◌, ◌<◌, ◌⊎◌, ◌↔◌, ◌^◌, ◌+◌, ◌-◌, ℕ, IfOk, OnOk, Contains, Some, [], length, max, slice_get, slice_index_or, false, true};
 ghost use Rattle.lrc_lazy_known.specs.Word.{above_by, above_learned, above_then, above_written, is_above, is_ordered, last_by, last_of, last_then, number_before, row_of, source_by, source_of, values_of, IsLearned, IsSame, IsWithout, IsWritten};
-ghost use Rattle.lrc_lazy_known.specs.Made.{last_learned, last_written, values_taught, IsCopyOf, IsKnownWithout, IsLearnedBy, IsNothing, IsWrittenBy, KnowsNothing};
+ghost use Rattle.lrc_lazy_known.specs.Made.{last_learned, last_written, values_taught, IsCopyOf, IsKnownWithout, IsLearnedBy, IsNothing, IsPutInRow, IsWrittenBy, KnowsNothing};
 ghost use Rattle.lrc_lazy_known.specs.declared.known.Known.{Known as KnownType};
 ghost use Rattle.lrc_lazy_known.specs.declared.word.Effect.TheVariants.{Writes};
 ghost use Rattle.lrc_lazy_known.specs.Effect.{IsAfter, IsSmall};
@@ -186,7 +186,7 @@ fn row_learned(
     let own = row_of(word, knower);
     let taught = row_of(word, teacher);
     let width = past(wider(own.len(), taught.len()), learner);
-    let mut row = Vec::new(alloc);
+    let mut row = Vec::with_capacity(alloc, width)?;
     for other in 0..width {
         row.push(is_above_learned(word, learner, teacher, knower, other))?;
     }
@@ -194,8 +194,60 @@ fn row_learned(
     Ok(row)
 }
 
-// What one then knows.
+// What one then knows. Of those who do not learn only one thing changes: whether they know the learner's last write.
 fn learned_by(
+    alloc: Global,
+    word: &[Known],
+    learner: usize,
+    teacher: usize,
+    knower: usize,
+) -> Result<Known, AllocError>
+    requires { learner < 2 ^ 64 - 1 }
+    ensures learned { IfOk result (IsLearnedBy word.now learner teacher knower) }
+    ensures tidy { IfOk result (λ known. IsTidyWord word.now → IsTidyKnown known) }
+{
+    if knower == learner {
+        learned_anew(alloc, word, learner, teacher, knower)
+    } else {
+        learned_by_another(alloc, word, learner, teacher, knower)
+    }
+}
+
+// What one knows who does not learn.
+fn learned_by_another(
+    alloc: Global,
+    word: &[Known],
+    learner: usize,
+    teacher: usize,
+    knower: usize,
+) -> Result<Known, AllocError>
+    requires learner { learner < 2 ^ 64 - 1 }
+    requires another { knower ≢ learner }
+    ensures learned { IfOk result (IsLearnedBy word.now learner teacher knower) }
+    ensures tidy { IfOk result (λ known. IsTidyWord word.now → IsTidyKnown known) }
+{
+    let is = is_above_learned(word, learner, teacher, knower, learner);
+    let mut known = copy_of(alloc, word, knower)?;
+    put_in_row(&mut known.above, learner, is)?;
+    Ok(known)
+}
+
+// Whether one knows the last write at a place of its row.
+fn put_in_row(row: &mut Vec<bool>, place: usize, is: bool) -> Result<(), AllocError>
+    requires { place < 2 ^ 64 - 1 }
+    ensures put { OnOk result (IsPutInRow place is row.old.items row.new.items) }
+    ensures ends { OnOk result (EndsIn (λ b. b ≡ true) row.new.items) }
+{
+    while row.len() <= place {
+        row.push(false)?;
+    }
+    row[place] = is;
+    cut_row(row);
+    Ok(())
+}
+
+// What the learner then knows, or another.
+fn learned_anew(
     alloc: Global,
     word: &[Known],
     learner: usize,
@@ -218,8 +270,8 @@ fn learned_by(
     })
 }
 
-// What is known after one learns what another knows.
-fn learned(
+/// Returns what is known of a word after one learns what another knows. It fails if memory runs out.
+pub fn learned(
     alloc: Global,
     word: &[Known],
     learner: usize,
@@ -230,7 +282,7 @@ fn learned(
     ensures tidy { IfOk result (λ after. IsTidyWord word.now → IsTidyWord after.items) }
 {
     let count = past(word.len(), learner);
-    let mut after = Vec::new(alloc);
+    let mut after = Vec::with_capacity(alloc, count)?;
     for knower in 0..count {
         after.push(learned_by(alloc, word, learner, teacher, knower)?)?;
     }
@@ -315,7 +367,7 @@ fn row_written(
 {
     let own = row_of(word, knower);
     let width = past(own.len(), writer);
-    let mut row = Vec::new(alloc);
+    let mut row = Vec::with_capacity(alloc, width)?;
     for other in 0..width {
         row.push(is_above_written(word, writer, knower, other))?;
     }
@@ -323,8 +375,46 @@ fn row_written(
     Ok(row)
 }
 
-// What one then knows.
+// What one then knows. Of those who do not write only one thing changes: none knows the writer's last write.
 fn written_by(
+    alloc: Global,
+    word: &[Known],
+    writer: usize,
+    value: u64,
+    knower: usize,
+) -> Result<Known, AllocError>
+    requires { writer < 2 ^ 64 - 1 }
+    ensures written { IfOk result (IsWrittenBy word.now writer value knower) }
+    ensures tidy { IfOk result (λ known. IsTidyWord word.now → IsTidyKnown known) }
+{
+    if knower == writer {
+        written_anew(alloc, word, writer, value, knower)
+    } else {
+        written_by_another(alloc, word, writer, value, knower)
+    }
+}
+
+// What one knows who does not write.
+fn written_by_another(
+    alloc: Global,
+    word: &[Known],
+    writer: usize,
+    value: u64,
+    knower: usize,
+) -> Result<Known, AllocError>
+    requires writer { writer < 2 ^ 64 - 1 }
+    requires another { knower ≢ writer }
+    ensures written { IfOk result (IsWrittenBy word.now writer value knower) }
+    ensures tidy { IfOk result (λ known. IsTidyWord word.now → IsTidyKnown known) }
+{
+    let _value = value;
+    let mut known = copy_of(alloc, word, knower)?;
+    put_in_row(&mut known.above, writer, false)?;
+    Ok(known)
+}
+
+// What the writer then knows, or another.
+fn written_anew(
     alloc: Global,
     word: &[Known],
     writer: usize,
@@ -357,7 +447,7 @@ fn written(
     ensures tidy { IfOk result (λ after. IsTidyWord word.now → IsTidyWord after.items) }
 {
     let count = past(word.len(), writer);
-    let mut after = Vec::new(alloc);
+    let mut after = Vec::with_capacity(alloc, count)?;
     for knower in 0..count {
         after.push(written_by(alloc, word, writer, value, knower)?)?;
     }
@@ -382,7 +472,7 @@ fn same(alloc: Global, word: &[Known]) -> Result<Vec<Known>, AllocError>
     ensures same { IfOk result (λ after. IsSame word.now after.items) }
     ensures tidy { IfOk result (λ after. IsTidyWord word.now → IsTidyWord after.items) }
 {
-    let mut after = Vec::new(alloc);
+    let mut after = Vec::with_capacity(alloc, word.len())?;
     for knower in 0..word.len() {
         after.push(copy_of(alloc, word, knower)?)?;
     }
@@ -519,7 +609,7 @@ fn row_without(
     ensures ends { IfOk result (λ left. EndsIn (λ b. b ≡ true) left.items) }
 {
     let width = count_without(row.len(), first, dropped);
-    let mut left = Vec::new(alloc);
+    let mut left = Vec::with_capacity(alloc, width)?;
     for other in 0..width {
         left.push(row[number_before(first, dropped, other)])?;
     }
@@ -559,7 +649,7 @@ pub fn word_without(
     ensures tidy { IfOk result (λ after. IsTidyWord word.now → IsTidyWord after.items) }
 {
     let count = count_without(word.len(), first, dropped);
-    let mut left = Vec::new(alloc);
+    let mut left = Vec::with_capacity(alloc, count)?;
     for knower in 0..count {
         left.push(known_without(alloc, word, first, dropped, knower)?)?;
     }

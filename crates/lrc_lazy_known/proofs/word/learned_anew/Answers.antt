@@ -3,7 +3,7 @@ use Rattle.std.specs.Prelude.{◌↔◌, Contains}
 use Rattle.lrc_lazy_known.specs.Word.{values_of}
 use Rattle.lrc_lazy_known.specs.Tidy.{IsRising}
 use Rattle.lrc_lazy_known.proofs.Keeping.{values_rise}
-use Rattle.lrc_lazy_known.proofs.word.learned_by.Goals as goal
+use Rattle.lrc_lazy_known.proofs.word.learned_anew.Goals as goal
 
 pub returns-clause-learned : goal.returns-clause-learned
 returns-clause-learned c = record {

@@ -1,5 +1,5 @@
 use Rattle.lrc_lazy_known.proofs.Keeping.{values_rise}
-use Rattle.lrc_lazy_known.proofs.word.written_by.Goals as goal
+use Rattle.lrc_lazy_known.proofs.word.written_anew.Goals as goal
 
 pub returns-clause-tidy : goal.returns-clause-tidy
 returns-clause-tidy c = λ tidy. record {
