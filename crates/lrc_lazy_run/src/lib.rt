@@ -6,9 +6,11 @@
 //! seed whose run has it.
 #![tactic(auto)]
 
+mod partings;
 pub mod run;
 pub mod seed;
 pub mod seeds;
 mod sought;
 mod walk;
+mod way;
 mod ways;

@@ -6,6 +6,7 @@ ghost use Rattle.lrc_lazy_search.specs.Searching.{MeetsMore};
 ghost use Rattle.lrc_lazy_run.specs.Ended.{IsLazyRunFor};
 ghost use Rattle.lrc_lazy_run.specs.Ways.{IsSought};
 
+use crate::partings::run_by_steps;
 use crate::sought::{Sought, sought_in};
 use crate::ways::Ways;
 use lrc_exec::code::Code;
@@ -69,6 +70,9 @@ fn run_of(
     ensures too_many { IfErr result (λ fault. fault ≡ ExploreFault.TooMany
         → MeetsMore sought.now.program.now sought.now.flat.nodes sought.now.most) }
 {
+    if let Some(acts) = run_by_steps(alloc, sought, notes)? {
+        return Ok(Some(acts));
+    }
     let mut ways = Ways::begin(alloc, sought)?;
     match ways.find(alloc, sought, notes)? {
         Some(place) => Ok(Some(ways.acts_to(alloc, sought, place)?)),

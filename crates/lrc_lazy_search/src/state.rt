@@ -37,7 +37,7 @@ pub struct LazyState {
 
 /// Where a state was: without its words, which are 0, and without what was noted.
 #[derive(Drop)]
-pub(crate) struct Seen {
+pub struct Seen {
     holders: Vec<Option<usize>>,
     arrivals: Vec<u64>,
     spots: Vec<Spot>,
@@ -282,8 +282,8 @@ impl LazyState {
         Ok(())
     }
 
-    // Makes what a node can do.
-    fn make(
+    /// Makes what a node can do. It fails if memory runs out.
+    pub fn make(
         &mut self,
         alloc: Global,
         flat: &Flat,
@@ -419,8 +419,8 @@ impl LazyState {
         Ok(false)
     }
 
-    // Where the state is.
-    fn seen(&self, alloc: Global) -> Result<Seen, AllocError>
+    /// Returns where the state is. It fails if memory runs out.
+    pub fn seen(&self, alloc: Global) -> Result<Seen, AllocError>
         ensures { IfOk result (IsSeen self.now) }
     {
         Ok(Seen {
@@ -431,8 +431,8 @@ impl LazyState {
         })
     }
 
-    // Whether the state is where one was.
-    fn is_again(&self, earlier: &Seen) -> bool
+    /// Returns whether the state is where one was.
+    pub fn is_again(&self, earlier: &Seen) -> bool
         ensures { result ≡ true → IsSeen self.now earlier.now }
     {
         if self.state.spots != earlier.spots {
