@@ -277,7 +277,7 @@ impl LazyState {
             Effect::Writes(writer, word, value) => {
                 learn_write(alloc, &mut self.knowledge, writer, word, value)?
             }
-            Effect::Learns(_, _) => self.knowledge = self.knowledge.after(alloc, effect)?,
+            Effect::Learns(learner, teacher) => self.knowledge.teach(alloc, learner, teacher)?,
         }
         Ok(())
     }
