@@ -1,3 +1,4 @@
 pub mod Calm
+pub mod Layout
 pub mod Listed
 pub mod One

@@ -2,5 +2,6 @@
 #![tactic(auto)]
 
 mod calm;
+mod layout;
 pub mod listed;
 pub mod one;
