@@ -1,7 +1,7 @@
 -- How a player goes along an order.
-use Rattle.std.proofs.Common.{◌≡◌, ◌∙◌, ◌≤◌, ◌+◌, ◌++◌, ℕ, List, [], ◌∷◌, Option, Some, None, inl, inr, refl, sym, ap, ap₂, subst, length, get_or, take, arith}
+use Rattle.std.proofs.Common.{◌≡◌, ◌∙◌, ◌≤◌, ◌+◌, ◌++◌, ℕ, List, [], ◌∷◌, Option, Some, None, inl, inr, refl, sym, ap, ap₂, subst, length, get_or, take}
 use Rattle.std.proofs.Common.{append-nil}
-use Rattle.std.specs.Prelude.{◌⊎◌, slice_get}
+use Rattle.std.specs.Prelude.{◌⊎◌}
 use Rattle.std.specs.Option.{option_to_list}
 use Rattle.std.proofs.lemmas.List.{length_push, take_more}
 use Rattle.std.proofs.lemmas.Option.{same_Some, slice_get-get_or, slice_get_within}
@@ -14,11 +14,11 @@ use Rattle.lrc_protocol.specs.Run.{Flying, World, event_on, fresh_world, run_of}
 use Rattle.lrc_protocol.specs.Turn.{TurnRecord}
 use Rattle.lrc_replay.specs.declared.replay.Replay.{Replay}
 use Rattle.lrc_replay.specs.Replays.{IsMade, nodes_played}
-use Rattle.lrc_replay.specs.Turns.{Turn, turn_by}
+use Rattle.lrc_replay.specs.Turns.{Turn}
 use Rattle.lrc_along.specs.declared.limit.TheConstants.{MOST_EVENTS}
 use Rattle.lrc_along.proofs.Events.{one_before}
 use Rattle.lrc_exact_events.specs.declared.player.Player.{Player}
-use Rattle.lrc_exact_events.specs.Drained.{AreAllDue, Ends, whole, astray, GoesOn, IsNext, MakesInTurn, due_event, event_due}
+use Rattle.lrc_exact_events.specs.Drained.{AreAllDue, whole, astray, GoesOn, IsNext, MakesInTurn, due_event, event_due}
 use Rattle.lrc_exact_events.specs.Playing.{AddsNext, IsPlayer, IsPlaying}
 
 -- ---- the event that is due

@@ -1,6 +1,5 @@
-use Rattle.std.proofs.Common.{ℕ, refl, subst}
+use Rattle.std.proofs.Common.{refl, subst}
 use Rattle.lrc_exact.specs.Rule.{Shape}
-use Rattle.lrc_protocol.specs.Node.{OptionsRecord}
 use Rattle.lrc_exact_search.specs.Searching.{MeetsMore}
 use Rattle.lrc_cli.proofs.exact.one_exact_run_as_events.Goals as goal
 

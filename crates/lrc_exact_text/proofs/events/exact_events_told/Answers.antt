@@ -1,9 +1,8 @@
-use Rattle.std.proofs.Common.{List, ℕ, subst}
+use Rattle.std.proofs.Common.{ℕ, subst}
 use Rattle.std.specs.Prelude.{◌≡◌, IfErr, IfOk, option_map, Vec}
 use Rattle.std.specs.declared.alloc.Global.{Global}
 use Rattle.lrc_exact.specs.Rule.{Shape}
 use Rattle.lrc_exact_search.specs.Searching.{MeetsMore}
-use Rattle.lrc_exact_judge.specs.Shape.{shape_of}
 use Rattle.lrc_protocol.specs.Node.{OptionsRecord}
 use Rattle.lrc_orders.specs.declared.search.ExploreFault.TheVariants.{TooMany}
 use Rattle.lrc_exact_text.specs.Events.{TellsExactEventsOfNumber}

@@ -1,4 +1,4 @@
-use Rattle.std.proofs.Common.{◌≡◌, ◌∙◌, ℕ, List, ap, length, subst}
+use Rattle.std.proofs.Common.{◌∙◌, ℕ, List, ap, length, subst}
 use Rattle.std.specs.Prelude.{Option}
 use Rattle.lrc_text.specs.Parts.{whole_text}
 use Rattle.lrc_exact_judge.specs.Shape.{shape_of}
