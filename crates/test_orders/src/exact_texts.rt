@@ -95,8 +95,7 @@ fn outcomes_told(rt: HostRuntime) {
 }
 
 /// A program of which no order races, with one lock.
-const LOCKS: &[u8] =
-    b"words 2; locks 1; [me] = 1; acquire 0; x = [1 - me]; release 0; print x;";
+const LOCKS: &[u8] = b"words 2; locks 1; [me] = 1; acquire 0; x = [1 - me]; release 0; print x;";
 
 #[test]
 fn events_told(rt: HostRuntime) {
