@@ -3,7 +3,9 @@ pub mod MeansOf
 pub mod Keys
 pub mod Stepping
 pub mod Trapping
+pub mod Trapless
 pub mod Seeking
+pub mod Met
 pub mod Telling
 pub mod Answering
 pub mod Fitting
