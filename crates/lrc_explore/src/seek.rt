@@ -178,8 +178,8 @@ impl Found {
         let _most = task.most;
         for place in 0..self.table.rows.len() {
             let row = self.table.rows.row(place);
-            let stuck = self.table.is_stuck(&row);
-            if stuck {
+            let halts = self.table.is_stuck(&row);
+            if halts {
                 return Some(place);
             }
         }

@@ -8,14 +8,14 @@ use Rattle.lrc_explore.proofs.task.Found.stuck_of_all.Goals as goal
 pub loop-place-init : goal.loop-place-init
 loop-place-init c = λ k key lt at. absurd (omega (arith, lt))
 
-pub is_stuck-stuck-requires : goal.is_stuck-stuck-requires
-is_stuck-stuck-requires c =
+pub is_stuck-halts-requires : goal.is_stuck-halts-requires
+is_stuck-halts-requires c =
     let found = c.args.self.now in
     let within : c.loop-place.place < row_count found.table.rows = omega (arith, c.loop-place-test.true, c.len-place-end.ensures.len) in
     known_at c.args.task.now found c.loop-place.place c.row-row.result c.requires.found within c.row-row.ensures
 
-pub returns-if-stuck : goal.returns-if-stuck
-returns-if-stuck c =
+pub returns-then-halts : goal.returns-then-halts
+returns-then-halts c =
     let task = c.args.task.now in
     let found = c.args.self.now in
     let place = c.loop-place.place in
@@ -26,8 +26,8 @@ returns-if-stuck c =
     let key = key_at task found place row f within there in
     let means = means_of task in
     let of = row_of task found place row f within there means (means_are task) in
-    let halted = c.is_stuck-stuck.ensures means key (f.table means (means_are task)) of in
-    (key, row_at task found place row f within there, halted.0 c.if-stuck.true)
+    let halted = c.is_stuck-halts.ensures means key (f.table means (means_are task)) of in
+    (key, row_at task found place row f within there, halted.0 c.if-halts.true)
 
 pub loop-place-preserved : goal.loop-place-preserved
 loop-place-preserved c =
@@ -41,8 +41,8 @@ loop-place-preserved c =
     let key = key_at task found place row f within there in
     let means = means_of task in
     let of = row_of task found place row f within there means (means_are task) in
-    let halted = c.is_stuck-stuck.ensures means key (f.table means (means_are task)) of in
-    nowhere_on task found.table.rows place key (row_at task found place row f within there) c.loop-place.invariant c.is_stuck-stuck.result halted c.if-stuck.false
+    let halted = c.is_stuck-halts.ensures means key (f.table means (means_are task)) of in
+    nowhere_on task found.table.rows place key (row_at task found place row f within there) c.loop-place.invariant c.is_stuck-halts.result halted c.if-halts.false
 
 pub returns : goal.returns
 returns c = λ k key lt at. c.loop-place.invariant k key (omega (arith, lt, c.loop-place-test.false, c.len-place-end.ensures.len)) at
