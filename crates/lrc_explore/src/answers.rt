@@ -188,7 +188,11 @@ pub fn count_of(nodes: u32) -> Result<u8, ExploreFault>
 }
 
 // The nodes of acts, in their order, and then these.
-pub(crate) fn order_of(alloc: Global, acts: &[Act], more: &[usize]) -> Result<Vec<usize>, AllocError>
+pub(crate) fn order_of(
+    alloc: Global,
+    acts: &[Act],
+    more: &[usize],
+) -> Result<Vec<usize>, AllocError>
     ensures { IfOk result (λ order. order.items ≡ nodes_of_acts acts.now ++ more.now) }
 {
     let mut order = Vec::new(alloc);

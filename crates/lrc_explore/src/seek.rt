@@ -118,13 +118,7 @@ impl Found {
 
     // Where a search ends that has found more states than may be: at the first from this place on where two nodes meet, if
     // that is looked for; or with what it met at them.
-    fn end_from(
-        &self,
-        task: &Task<'_>,
-        first: usize,
-        races: bool,
-        trap: Option<Trapping>,
-    ) -> Sought
+    fn end_from(&self, task: &Task<'_>, first: usize, races: bool, trap: Option<Trapping>) -> Sought
         requires found { AreFound task.now self.now }
         requires calm { races ≡ true → AreCalm task.now self.now.table.rows first }
         requires within { first < row_count self.now.table.rows }
