@@ -5,7 +5,7 @@ pub mod Stepping
 pub mod Trapping
 pub mod Trapless
 pub mod Seeking
-pub mod Met
+pub mod ManyStates
 pub mod Telling
 pub mod Answering
 pub mod Fitting

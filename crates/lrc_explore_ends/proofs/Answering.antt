@@ -17,7 +17,7 @@ use Rattle.lrc_explore.specs.declared.task.Found.{Found}
 use Rattle.lrc_explore.specs.declared.task.Trapping.{Trapping}
 use Rattle.lrc_explore.specs.Answers.{IsThrough, looked_at}
 use Rattle.lrc_explore.specs.Reached.{IsTask}
-use Rattle.lrc_explore.proofs.Met.{gave_up}
+use Rattle.lrc_explore.proofs.ManyStates.{gave_up}
 use Rattle.lrc_explore_ends.specs.declared.answers.EndVerdict.{EndVerdict}
 use Rattle.lrc_explore_ends.specs.declared.answers.EndVerdict.TheVariants.{Many, Through, Racy}
 use Rattle.lrc_explore_ends.specs.Answers.{IsEndAnswer, IsTaskEndAnswer}

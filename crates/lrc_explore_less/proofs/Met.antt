@@ -11,7 +11,7 @@ use Rattle.lrc_explore.specs.Answers.{IsAnswer, looked_at}
 use Rattle.lrc_explore.specs.Met.{HasMet, IsTrapMet, tells_both}
 use Rattle.lrc_explore.specs.Reached.{IsTask}
 use Rattle.lrc_explore.specs.Traps.{AreRowsTrapless}
-use Rattle.lrc_explore.proofs.Met.{both_found, gave_up}
+use Rattle.lrc_explore.proofs.ManyStates.{both_found, gave_up}
 use Rattle.lrc_explore_less.specs.declared.answers.Explored.{Explored}
 use Rattle.lrc_explore_less.specs.declared.answers.Explored.TheVariants as explored
 use Rattle.lrc_explore_less.specs.declared.answers.Searched.{Searched}

@@ -1,4 +1,4 @@
-use Rattle.lrc_explore.proofs.Met.{has_met}
+use Rattle.lrc_explore.proofs.ManyStates.{has_met}
 use Rattle.lrc_explore.proofs.task.Found.met_told.Goals as goal
 
 pub stuck_met-requires-clause-stuck : goal.stuck_met-requires-clause-stuck

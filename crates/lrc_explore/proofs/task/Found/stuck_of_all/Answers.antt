@@ -2,7 +2,7 @@ use Rattle.std.proofs.Common.{◌<◌, arith}
 use Rattle.lrc_orders_table.specs.Rows.{row_count}
 use Rattle.lrc_explore.proofs.MeansOf.{means_are, means_of}
 use Rattle.lrc_explore.proofs.Stepping.{key_at, known_at, row_at, row_of}
-use Rattle.lrc_explore.proofs.Met.{nowhere_on}
+use Rattle.lrc_explore.proofs.ManyStates.{nowhere_on}
 use Rattle.lrc_explore.proofs.task.Found.stuck_of_all.Goals as goal
 
 pub loop-place-init : goal.loop-place-init
