@@ -6,7 +6,6 @@ use Rattle.lrc_program.specs.declared.Program.{Program}
 use Rattle.lrc_exec.specs.Spots.{IsFlatOf}
 use Rattle.lrc_exec.specs.States.{plain_at}
 use Rattle.lrc_orders.specs.declared.noted.Noted.{Noted}
-use Rattle.lrc_orders.specs.declared.search.ExploreFault.TheVariants.{BadNodes, TooMany}
 use Rattle.lrc_orders.specs.declared.search.Findings.{Findings}
 use Rattle.lrc_orders.specs.Stuck.{IsStuck}
 use Rattle.lrc_orders.specs.Verdict.{AreFindings, TellsStuck, TellsTrap}
@@ -23,7 +22,6 @@ use Rattle.lrc_explore.specs.declared.task.Trapping.{Trapping}
 use Rattle.lrc_explore.specs.Answers.{has_more, looked_at}
 use Rattle.lrc_explore.specs.Met.{GaveUp, HasMet, IsMany, IsStuckAmong, IsStuckAt, TellsStuckAt, TellsStuckMet, TellsTrapAt, TellsTrapMet, tells_both}
 use Rattle.lrc_explore.specs.Reached.{AreFound, AreNowhereStuck, IsTask}
-use Rattle.lrc_explore.proofs.Answering.{fault_of_task}
 use Rattle.lrc_explore.proofs.Seeking.{has_more_settled}
 
 -- one more state at which the program is not stuck
@@ -43,7 +41,7 @@ module _ (task : Task) (found : Found) (races : Bool) (stuck : Option ℕ) (trap
   abbrev all : Rows
   all = found.table.rows
 
-  items : IsList IsRowAt row_count WidensRows IsNotedCopy row_store all
+  abbrev items : IsList IsRowAt row_count WidensRows IsNotedCopy row_store all
   items = listed IsRowAt row_count WidensRows IsNotedCopy row_store all f.reached.full
 
   stuck_among : (place : ℕ) → IsStuckAt task all place → IsStuckAmong task items.list
@@ -116,6 +114,18 @@ pub gave_up : (task : Task) (program : Program) (nodes most : ℕ) → IsTask ta
     → task.most ≡ most → task.looked ≡ looked_at most → task.noting ≡ false → (races : Bool) (met : Findings) → HasMet task task.most races met
     → GaveUp program nodes most races met
 gave_up task program nodes most is p flat m l n races met has = record {
-  search = (fault_of_task task program nodes most false races TooMany is p flat m l n (record { nodes = λ e. cc; many = λ e. has_more has.more })).many refl;
+  search = record {
+    task = task;
+    is = is;
+    program_is = p;
+    code = flat.code;
+    words = flat.words;
+    locks = flat.locks;
+    nodes_are = flat.nodes;
+    most_is = m;
+    looked_is = l;
+    noting_is = n;
+    many = has_more has.more;
+  };
   has = subst (λ k. HasMet task k races met) m has;
 }

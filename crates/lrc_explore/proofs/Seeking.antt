@@ -284,7 +284,7 @@ bare_key task found place key f at =
     threads_of_row (λ (spot : Spot). forgot task.live.items spot ≡ spot) keys found.table.rows.nodes at.row.threads key.state.spots.items at.stands.threads
     (f.table (means_of task) (means_are task)).bare
 
-pub has_more_settled : (task : Task) (found : Found) (most : ℕ) (races : Bool) → AreFound task found → most < row_count found.table.rows
+abbrev pub has_more_settled : (task : Task) (found : Found) (most : ℕ) (races : Bool) → AreFound task found → most < row_count found.table.rows
     → (races ≡ true → AreCalm task found.table.rows (row_count found.table.rows)) → HasMoreSettled task most races
 has_more_settled task found most races f many calm =
     let all = found.table.rows in

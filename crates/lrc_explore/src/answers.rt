@@ -224,7 +224,8 @@ impl Found {
         ensures faults { IfErr result (IsSearchFault task.now true) }
     {
         let traps = self.begin(alloc, task)?;
-        match self.seek(alloc, task, true, traps)? {
+        let sought = self.seek(alloc, task, true, traps)?;
+        match sought {
             Sought::Ended(end) => self.verdict(alloc, task, end),
             Sought::Many { .. } => Err(ExploreFault::TooMany),
         }
@@ -241,7 +242,8 @@ impl Found {
         ensures faults { IfErr result (IsSearchFault task.now false) }
     {
         let traps = self.begin(alloc, task)?;
-        match self.seek(alloc, task, false, traps)? {
+        let sought = self.seek(alloc, task, false, traps)?;
+        match sought {
             Sought::Ended(End::Meeting { .. }) => unreachable!(),
             Sought::Ended(End::Through { stuck, trap }) => {
                 self.findings_told(alloc, task, stuck, trap)

@@ -87,7 +87,8 @@ fn search(alloc: Global, task: &Task<'_>, races: bool) -> Result<EndVerdict, Exp
 {
     let mut found = Found::none(alloc, task.flat.nodes as usize);
     let traps = found.begin(alloc, task)?;
-    match found.seek(alloc, task, races, traps)? {
+    let sought = found.seek(alloc, task, races, traps)?;
+    match sought {
         Sought::Ended(End::Meeting { place, p, q }) => race_of(alloc, task, &found, place, p, q),
         Sought::Ended(End::Through { stuck, trap }) => {
             let ends = through(alloc, task, found, stuck, trap)?;

@@ -268,7 +268,8 @@ impl Less {
         ensures faults { IfErr result (IsFault task.now) }
     {
         self.begin(alloc, task)?;
-        match self.seek(alloc, task, true)? {
+        let sought = self.seek(alloc, task, true)?;
+        match sought {
             Sought::Ended(end) => {
                 let verdict = self.verdict(alloc, task, end)?;
                 Ok(Explored::Told(verdict))
@@ -288,7 +289,8 @@ impl Less {
         ensures faults { IfErr result (IsFault task.now) }
     {
         self.begin(alloc, task)?;
-        match self.seek(alloc, task, false)? {
+        let sought = self.seek(alloc, task, false)?;
+        match sought {
             Sought::Ended(End::Meeting { .. }) => unreachable!(),
             Sought::Ended(End::Through { stuck, trap }) => {
                 let found = self.findings_told(alloc, task, stuck, trap)?;
