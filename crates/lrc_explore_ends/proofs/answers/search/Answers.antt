@@ -1,7 +1,7 @@
 use Rattle.std.proofs.Common.{Bool, refl, sym, subst}
 use Rattle.std.specs.Prelude.{IfOk}
 use Rattle.std.proofs.lemmas.Result.{IfOk-weaker}
-use Rattle.lrc_explore.specs.Answers.{FitsSettled}
+use Rattle.lrc_explore.specs.Answers.{FitsEnd, FitsSettled, IsEnd}
 use Rattle.lrc_explore.specs.Met.{FitsSought, IsSought}
 use Rattle.lrc_explore.proofs.Fitting.{fits_settled}
 use Rattle.lrc_explore.proofs.Keys.{start_grown, within_more}
@@ -16,16 +16,23 @@ begin-requires-clause-found c = c.none-found.ensures.found c.args.task.now refl
 
 pub race_of-requires-clause-meeting : goal.race_of-requires-clause-meeting
 race_of-requires-clause-meeting c =
-    let end = subst (IsSought c.args.task.now c.seek.new.self c.args.races) c.in-Ended.is c.in_ok-place.ensures.sought in (end.0, end.1, end.2, refl)
-
-pub returns-in-Ended-in-Meeting-clause-answer : goal.returns-in-Ended-in-Meeting-clause-answer
-returns-in-Ended-in-Meeting-clause-answer c =
     let task = c.args.task.now in
-    let end = subst (IsSought task c.seek.new.self c.args.races) c.in-Ended.is c.in_ok-place.ensures.sought in
+    let new = c.seek.new.self in
+    let races = c.args.races in
+    let at = subst (IsSought task new races) c.in-Ended-Meeting.is c.in_ok-sought.ensures.sought in
+    let end = subst (IsEnd task new races) c.in-Ended-Meeting.field-0-is at in (end.0, end.1, end.2, refl)
+
+pub returns-in-Ended-Meeting-clause-answer : goal.returns-in-Ended-Meeting-clause-answer
+returns-in-Ended-Meeting-clause-answer c =
+    let task = c.args.task.now in
+    let new = c.seek.new.self in
+    let races = c.args.races in
+    let at = subst (IsSought task new races) c.in-Ended-Meeting.is c.in_ok-sought.ensures.sought in
+    let end = subst (IsEnd task new races) c.in-Ended-Meeting.field-0-is at in
     subst (λ (b : Bool). IfOk c.race_of.result (IsTaskEndAnswer task b)) (sym end.3) c.race_of.ensures.answer
 
-pub returns-in-Ended-in-Meeting-clause-fits : goal.returns-in-Ended-in-Meeting-clause-fits
-returns-in-Ended-in-Meeting-clause-fits c =
+pub returns-in-Ended-Meeting-clause-fits : goal.returns-in-Ended-Meeting-clause-fits
+returns-in-Ended-Meeting-clause-fits c =
     let task = c.args.task.now in
     IfOk-weaker c.race_of.result (λ (v : EndVerdict). GoesThrough v → ⊥)
     (λ v. GoesThrough v → FitsSettled task.program.now task.flat.nodes task.most) (λ v no through. absurd (no through)) c.race_of.ensures.racy
@@ -33,39 +40,47 @@ returns-in-Ended-in-Meeting-clause-fits c =
 pub through-requires-clause-all : goal.through-requires-clause-all
 through-requires-clause-all c =
     let task = c.args.task.now in
-    let end = subst (IsSought task c.seek.new.self c.args.races) c.in-Ended.is c.in_ok-place.ensures.sought in
+    let new = c.seek.new.self in
+    let races = c.args.races in
+    let e = c.in_ok-sought.ensures in
+    let end = subst (IsEnd task new races) c.in-Ended-Through.field-0-is (subst (IsSought task new races) c.in-Ended-Through.is e.sought) in
     record {
-      start = start_grown task c.begin.new.self.table.rows c.seek.new.self.table.rows c.in_ok-place.ensures.more.rows c.in_ok-traps.ensures.start;
+      start = start_grown task c.begin.new.self.table.rows new.table.rows e.more.rows c.in_ok-traps.ensures.start;
       expanded = end.expanded;
     }
 
 pub through-requires-clause-through : goal.through-requires-clause-through
 through-requires-clause-through c =
-    through_anyhow c.args.task.now c.seek.new.self c.args.races c.in-Ended.stuck c.in-Ended.trap
-    (subst (IsSought c.args.task.now c.seek.new.self c.args.races) c.in-Ended.is c.in_ok-place.ensures.sought)
+    let task = c.args.task.now in
+    let new = c.seek.new.self in
+    let races = c.args.races in
+    let at = subst (IsSought task new races) c.in-Ended-Through.is c.in_ok-sought.ensures.sought in
+    through_anyhow task new races c.in-Ended-Through.stuck c.in-Ended-Through.trap (subst (IsEnd task new races) c.in-Ended-Through.field-0-is at)
 
 pub through-requires-clause-some : goal.through-requires-clause-some
 through-requires-clause-some c =
-    within_more c.args.task.now c.begin.new.self c.seek.new.self 0 c.in_ok-traps.ensures.found c.in_ok-place.ensures.more c.in_ok-traps.ensures.some
+    within_more c.args.task.now c.begin.new.self c.seek.new.self 0 c.in_ok-traps.ensures.found c.in_ok-sought.ensures.more c.in_ok-traps.ensures.some
 
-pub returns-in-Ended-in-Through-clause-answer : goal.returns-in-Ended-in-Through-clause-answer
-returns-in-Ended-in-Through-clause-answer c =
-    let task = c.args.task.now in
-    let all = c.seek.new.self.table.rows in
-    let e = c.in_ok-place.ensures in
-    let end = subst (IsSought task c.seek.new.self c.args.races) c.in-Ended.is e.sought in
-    let start = start_grown task c.begin.new.self.table.rows all e.more.rows c.in_ok-traps.ensures.start in
-    (λ looked. no_race task all e.found.reached start end.expanded (end.calm looked), c.in_ok-ends.ensures.findings)
-
-pub returns-in-Ended-in-Through-clause-fits : goal.returns-in-Ended-in-Through-clause-fits
-returns-in-Ended-in-Through-clause-fits c = λ through.
+pub returns-in-Ended-Through-clause-answer : goal.returns-in-Ended-Through-clause-answer
+returns-in-Ended-Through-clause-answer c =
     let task = c.args.task.now in
     let new = c.seek.new.self in
-    let e = c.in_ok-place.ensures in
-    let end = subst (IsSought task new c.args.races) c.in-Ended.is e.sought in
-    let few = subst (FitsSought task new) c.in-Ended.is e.fits in
+    let races = c.args.races in
+    let e = c.in_ok-sought.ensures in
+    let end = subst (IsEnd task new races) c.in-Ended-Through.field-0-is (subst (IsSought task new races) c.in-Ended-Through.is e.sought) in
+    let start = start_grown task c.begin.new.self.table.rows new.table.rows e.more.rows c.in_ok-traps.ensures.start in
+    (λ looked. no_race task new.table.rows e.found.reached start end.expanded (end.calm looked), c.in_ok-ends.ensures.findings)
+
+pub returns-in-Ended-Through-clause-fits : goal.returns-in-Ended-Through-clause-fits
+returns-in-Ended-Through-clause-fits c = λ through.
+    let task = c.args.task.now in
+    let new = c.seek.new.self in
+    let races = c.args.races in
+    let e = c.in_ok-sought.ensures in
+    let end = subst (IsEnd task new races) c.in-Ended-Through.field-0-is (subst (IsSought task new races) c.in-Ended-Through.is e.sought) in
+    let few = subst (FitsEnd task new) c.in-Ended-Through.field-0-is (subst (FitsSought task new) c.in-Ended-Through.is e.fits) in
     let start = start_grown task c.begin.new.self.table.rows new.table.rows e.more.rows c.in_ok-traps.ensures.start in
     fits_settled task new.table.rows task.most e.found.reached start end.expanded few
 
 pub met_told-requires-clause-many : goal.met_told-requires-clause-many
-met_told-requires-clause-many c = subst (IsSought c.args.task.now c.seek.new.self c.args.races) c.in-Many.is c.in_ok-place.ensures.sought
+met_told-requires-clause-many c = subst (IsSought c.args.task.now c.seek.new.self c.args.races) c.in-Many.is c.in_ok-sought.ensures.sought

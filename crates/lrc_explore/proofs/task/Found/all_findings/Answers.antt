@@ -1,4 +1,5 @@
-use Rattle.std.proofs.Common.{false, subst}
+use Rattle.std.proofs.Common.{false, sym, subst}
+use Rattle.std.proofs.lemmas.Bool.{true≢false}
 use Rattle.lrc_explore.specs.Answers.{FitsEnd, FitsSettled, IsEnd}
 use Rattle.lrc_explore.specs.Met.{FitsSought, IsSought}
 use Rattle.lrc_explore.proofs.Fitting.{fits_settled, ok_all}
@@ -30,6 +31,13 @@ findings_told-requires-clause-trap c =
     let new = c.seek.new.self in
     let at = subst (IsSought task new false) c.in-Ended-Through.is c.in_ok-sought.ensures.sought in
     (subst (IsEnd task new false) c.in-Ended-Through.field-0-is at).traps
+
+pub unreachable-requires : goal.unreachable-requires
+unreachable-requires c =
+    let task = c.args.task.now in
+    let new = c.seek.new.self in
+    let at = subst (IsSought task new false) c.in-Ended-Meeting.is c.in_ok-sought.ensures.sought in
+    true≢false (sym (subst (IsEnd task new false) c.in-Ended-Meeting.field-0-is at).3)
 
 pub returns-in-Ended-Through-clause-fits : goal.returns-in-Ended-Through-clause-fits
 returns-in-Ended-Through-clause-fits c =
