@@ -7,6 +7,7 @@ pub mod ended;
 pub mod found;
 pub mod laws;
 pub mod met;
+mod notes;
 pub mod seek;
 pub mod task;
 pub mod told;
