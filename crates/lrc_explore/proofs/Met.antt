@@ -21,7 +21,7 @@ use Rattle.lrc_explore.specs.declared.task.Found.{Found}
 use Rattle.lrc_explore.specs.declared.task.Task.{Task}
 use Rattle.lrc_explore.specs.declared.task.Trapping.{Trapping}
 use Rattle.lrc_explore.specs.Answers.{has_more, looked_at}
-use Rattle.lrc_explore.specs.Met.{GaveUp, HasMet, IsMany, IsStuckAmong, IsStuckAt, TellsStuckAt, TellsStuckMet, TellsTrapAt, TellsTrapMet, tells_both}
+use Rattle.lrc_explore.specs.Met.{GaveUp, HasMet, IsMany, IsStuckAmong, IsStuckAt, IsStuckOrder, IsTrapOrder, TellsStuckAt, TellsStuckMet, TellsTrapAt, TellsTrapMet, tells_both}
 use Rattle.lrc_explore.specs.Reached.{AreFound, AreNowhereStuck, IsTask}
 use Rattle.lrc_explore.proofs.Answering.{fault_of_task}
 use Rattle.lrc_explore.proofs.Seeking.{has_more_settled}
@@ -119,3 +119,25 @@ gave_up task program nodes most is p flat m l n races met has = record {
   search = (fault_of_task task program nodes most false races TooMany is p flat m l n (record { nodes = λ e. cc; many = λ e. has_more has.more })).many refl;
   has = subst (λ k. HasMet task k races met) m has;
 }
+
+-- what is told of it is so of the program
+module _ (program : Program) (nodes most : ℕ) (races : Bool) (met : Findings) (gave : GaveUp program nodes most races met) where
+  stuck_so : (o : Option (List ℕ)) → TellsStuckMet gave.search.task gave.has.more.keys o → IsStuckOrder gave.search.task.program.now gave.search.task.flat.nodes o
+  stuck_so None tells = tt
+  stuck_so (Some order) tells = tells.1
+
+  trap_so : (o : Option (List ℕ)) → TellsTrapMet gave.search.task gave.has.more.keys o → IsTrapOrder gave.search.task.program.now gave.search.task.flat.nodes o
+  trap_so None tells = tt
+  trap_so (Some order) tells = tells
+
+  pub stuck_order_met : IsStuckOrder program nodes (option_map (λ order. order.items) met.stuck)
+  stuck_order_met =
+      subst (λ q. IsStuckOrder q nodes (option_map (λ order. order.items) met.stuck)) gave.search.program_is
+      (subst (λ k. IsStuckOrder gave.search.task.program.now k (option_map (λ order. order.items) met.stuck)) gave.search.nodes_are
+      (stuck_so (option_map (λ order. order.items) met.stuck) gave.has.tells.stuck))
+
+  pub trap_order_met : IsTrapOrder program nodes (option_map (λ order. order.items) met.trap)
+  trap_order_met =
+      subst (λ q. IsTrapOrder q nodes (option_map (λ order. order.items) met.trap)) gave.search.program_is
+      (subst (λ k. IsTrapOrder gave.search.task.program.now k (option_map (λ order. order.items) met.trap)) gave.search.nodes_are
+      (trap_so (option_map (λ order. order.items) met.trap) gave.has.tells.trap))

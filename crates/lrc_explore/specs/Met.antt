@@ -109,3 +109,13 @@ pub record GaveUp (program : Program) (nodes most : ℕ) (races : Bool) (met : F
 -- an order that gets stuck is told, and one in which a node traps
 abbrev pub tells_both : Findings → Bool
 tells_both met = is_some met.stuck && is_some met.trap
+
+-- after the order given, if there is one, the program is stuck
+abbrev pub IsStuckOrder : Program → (nodes : ℕ) → Option (List ℕ) → Type 0
+IsStuckOrder program nodes None = Unit {0}
+IsStuckOrder program nodes (Some order) = GetsStuck program nodes order
+
+-- in the order given, if there is one, a node traps
+abbrev pub IsTrapOrder : Program → (nodes : ℕ) → Option (List ℕ) → Type 0
+IsTrapOrder program nodes None = Unit {0}
+IsTrapOrder program nodes (Some order) = NodeTraps program nodes order

@@ -36,6 +36,13 @@ returns-in-Racy-clause-ok c =
 pub returns-in-Racy-clause-fits : goal.returns-in-Racy-clause-fits
 returns-in-Racy-clause-fits c = λ other. absurd (other c.in_ok-printout-in-Racy.ensures.status)
 
-pub returns-in-Many-clause-too_many : goal.returns-in-Many-clause-too_many
-returns-in-Many-clause-too_many c = λ e.
-    (subst (IsEndAnswer c.args.program.now c.args.nodes c.args.most c.args.races) c.in-Many.is c.in_ok-found.ensures.answer).search
+pub met_told-requires-clause-gave : goal.met_told-requires-clause-gave
+met_told-requires-clause-gave c =
+    (c.args.most, c.args.races, subst (IsEndAnswer c.args.program.now c.args.nodes c.args.most c.args.races) c.in-Many.is c.in_ok-found.ensures.answer)
+
+pub returns-in-Many-clause-ok : goal.returns-in-Many-clause-ok
+returns-in-Many-clause-ok c = record {
+  met = c.in-Many.met;
+  gave = subst (IsEndAnswer c.args.program.now c.args.nodes c.args.most c.args.races) c.in-Many.is c.in_ok-found.ensures.answer;
+  says = c.in_ok-parts.ensures;
+}

@@ -1,4 +1,5 @@
-use Rattle.std.proofs.Common.{map, subst}
+use Rattle.std.proofs.Common.{false, subst}
+use Rattle.std.specs.Prelude.{map}
 use Rattle.lrc_explain_waits.specs.Traps.{wording_of}
 use Rattle.lrc_text.specs.Parts.{whole_text}
 use Rattle.lrc_explore_less.specs.Met.{IsSearched}
@@ -14,5 +15,13 @@ returns-in-All-clause-ok c =
     of_found (wording_of c.args.wording.now) c.args.program.now c.args.nodes c.args.lines.now (whole_text printout.parts.items) printout.status
     c.in_ok-printout.ensures
 
-pub returns-in-Many-clause-too_many : goal.returns-in-Many-clause-too_many
-returns-in-Many-clause-too_many c = λ e. (subst (IsSearched c.args.program.now c.args.nodes c.args.most) c.in-Many.is c.in_ok-found.ensures.findings).0.search
+pub met_told-requires-clause-gave : goal.met_told-requires-clause-gave
+met_told-requires-clause-gave c =
+    (c.args.most, false, (subst (IsSearched c.args.program.now c.args.nodes c.args.most) c.in-Many.is c.in_ok-found.ensures.findings).0)
+
+pub returns-in-Many-clause-ok : goal.returns-in-Many-clause-ok
+returns-in-Many-clause-ok c = record {
+  met = c.in-Many.met;
+  gave = (subst (IsSearched c.args.program.now c.args.nodes c.args.most) c.in-Many.is c.in_ok-found.ensures.findings).0;
+  says = c.in_ok-parts.ensures;
+}
