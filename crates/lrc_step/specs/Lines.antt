@@ -114,3 +114,11 @@ HasNoMarkup bytes = All (λ byte. (byte ≢ 60) × (byte ≢ 62) × (byte ≢ 38
 -- the two positions are numbers of 64 bits
 abbrev pub IsPairOfWords : Pair → Type 0
 IsPairOfWords pair = (pair.earlier < 2 ^ 64) × (pair.later < 2 ^ 64)
+
+-- the two lines are numbers of 64 bits
+abbrev pub IsSiteOfWords : Site → Type 0
+IsSiteOfWords site = (site.line < 2 ^ 64) × (site.later_line < 2 ^ 64)
+
+-- and so is the position
+abbrev pub IsRivalOfWords : Rival → Type 0
+IsRivalOfWords rival = (rival.act < 2 ^ 64) × IsSiteOfWords rival.site

@@ -90,11 +90,7 @@ fn push_rivals(text: &mut Vec<u8>, rivals: &[Option<Rival>]) -> Result<(), Alloc
     Ok(())
 }
 
-fn push_rival_at(
-    text: &mut Vec<u8>,
-    node: usize,
-    rival: Option<Rival>,
-) -> Result<(), AllocError>
+fn push_rival_at(text: &mut Vec<u8>, node: usize, rival: Option<Rival>) -> Result<(), AllocError>
     ensures { OnOk result (text.new.items ≡ text.old.items ++ rival_at node rival) }
 {
     push_comma(text, node)?;
@@ -105,14 +101,12 @@ fn push_rival_at(
 fn push_rival(text: &mut Vec<u8>, rival: Option<Rival>) -> Result<(), AllocError>
     ensures { OnOk result (text.new.items ≡ text.old.items ++ rival_text rival) }
 {
-    match rival {
-        Some(rival) => {
-            push_number(text, b"{\"act\":", rival.act as u64)?;
-            push_site(text, rival.site)?;
-            text.extend_from_slice(b"}")
-        }
-        None => text.extend_from_slice(b"null"),
-    }
+    let Some(rival) = rival else {
+        return text.extend_from_slice(b"null");
+    };
+    push_number(text, b"{\"act\":", rival.act as u64)?;
+    push_site(text, rival.site)?;
+    text.extend_from_slice(b"}")
 }
 
 fn push_access(text: &mut Vec<u8>, line: u32, writes: bool) -> Result<(), AllocError>

@@ -37,7 +37,13 @@ pub(crate) fn push_whys(
         ++ whys_text positions.now (texts_of printed.now) (map (λ one. one.items) rivals.now)) }
 {
     for place in 0..positions.len() {
-        push_why_line(alloc, text, positions[place], &printed[place], &rivals[place])?;
+        push_why_line(
+            alloc,
+            text,
+            positions[place],
+            &printed[place],
+            &rivals[place],
+        )?;
     }
     Ok(())
 }

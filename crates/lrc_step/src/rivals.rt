@@ -49,7 +49,9 @@ fn rival(
     requires within { position < length acts.now }
     ensures { IsRivalIfAny acts.now lines.now position node result }
 {
-    let act = least_racing(acts, order, lanes, node, position)?;
+    let Some(act) = least_racing(acts, order, lanes, node, position) else {
+        return None;
+    };
     let site = site_of(acts, lines, pair_of(position, act));
     Some(Rival { act, site })
 }
