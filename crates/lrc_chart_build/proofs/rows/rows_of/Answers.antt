@@ -13,5 +13,9 @@ loop-at-preserved c =
     let places = c.args.places.now in
     let at = c.loop-at.at in
     let of : ℕ → Place → List SeenRow = λ at place. shown_if course circled places at place (slice_get course.turns place.turn) in
-    each_step of places at no_place (get_or places at no_place) [] (map seen_row c.loop-at.rows.items) (map seen_row c.push_row.new.rows.items)
-    c.loop-at-test.true refl c.loop-at.invariant c.in_ok-push_row.ensures
+    record {
+      rows =
+          each_step of places at no_place (get_or places at no_place) [] (map seen_row c.loop-at.rows.items) (map seen_row c.push_row.new.rows.items)
+          c.loop-at-test.true refl c.loop-at.invariant.rows c.in_ok-push_row.ensures;
+      counts = c.go_to_act.ensures.here;
+    }
