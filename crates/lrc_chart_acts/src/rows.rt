@@ -1,7 +1,7 @@
 // The rows of a picture of acts.
 
 ghost use Rattle.std.specs.Prelude.{◌≡◌, ◌<◌, ◌∷◌, ◌++◌, [], IfOk, OnOk, length, map, take};
-ghost use Rattle.lrc_chart_build.specs.Counts.{AreCountsAt};
+ghost use Rattle.lrc_chart_build.specs.Counts.{AreCounts, AreCountsAt};
 ghost use Rattle.lrc_chart_build.specs.Seen.{seen_row};
 ghost use Rattle.lrc_chart_build.specs.Words.{act_words};
 ghost use Rattle.lrc_acts_text.specs.Acts.{act_at};
@@ -80,6 +80,15 @@ fn push_act_row(
     Ok(())
 }
 
+// Goes to the act at a place, if there is one.
+fn go_to_place(counts: &mut Counts, known: &Known<'_>, place: Place)
+    requires { AreCounts known.now.acts counts.old.position counts.old }
+    ensures counts { AreCountsAt known.now.acts place.act counts.new }
+    ensures here { AreCounts known.now.acts counts.new.position counts.new }
+{
+    counts.go_to_act(known.acts, place.act);
+}
+
 /// Returns the rows at these places.
 pub(crate) fn act_rows(
     alloc: Global,
@@ -91,7 +100,7 @@ pub(crate) fn act_rows(
     let mut rows = Vec::new(alloc);
     let mut counts = Counts::new();
     for (at, place) in places.iter().enumerate() {
-        counts.go_to_act(known.acts, place.act);
+        go_to_place(&mut counts, known, *place);
         push_act_row(alloc, &mut rows, known, &counts, places, at, *place)?;
     }
     Ok(rows)

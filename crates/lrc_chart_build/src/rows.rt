@@ -1,7 +1,7 @@
 // Rows of a picture.
 
 ghost use Rattle.std.specs.Prelude.{◌≡◌, ◌<◌, ◌≤◌, ◌++◌, IfOk, OnOk, length, map, slice_get, take};
-ghost use Rattle.lrc_chart_build.specs.Counts.{AreCountsAt};
+ghost use Rattle.lrc_chart_build.specs.Counts.{AreCounts, AreCountsAt};
 ghost use Rattle.lrc_chart_build.specs.Rows.{shown_if, shown_row, shown_rows};
 ghost use Rattle.lrc_chart_build.specs.Seen.{seen_row};
 
@@ -72,6 +72,15 @@ fn push_row(
     Ok(())
 }
 
+// Goes to the act at a place, if there is one.
+fn go_to_place(counts: &mut Counts, course: &Course<'_>, place: Place)
+    requires { AreCounts course.now.known.acts counts.old.position counts.old }
+    ensures counts { AreCountsAt course.now.known.acts place.act counts.new }
+    ensures here { AreCounts course.now.known.acts counts.new.position counts.new }
+{
+    counts.go_to_act(course.known.acts, place.act);
+}
+
 /// Returns the rows at these places, given the nodes of the circles of waiting nodes.
 pub(crate) fn rows_of(
     alloc: Global,
@@ -85,7 +94,7 @@ pub(crate) fn rows_of(
     let mut rows = Vec::new(alloc);
     let mut counts = Counts::new();
     for (at, place) in places.iter().enumerate() {
-        counts.go_to_act(course.known.acts, place.act);
+        go_to_place(&mut counts, course, *place);
         push_row(
             alloc, &mut rows, course, &counts, circled, places, at, *place,
         )?;

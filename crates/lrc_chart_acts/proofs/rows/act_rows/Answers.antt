@@ -25,5 +25,5 @@ loop-at-preserved c =
       rows =
           each_step of places at no_place (get_or places at no_place) [] (map seen_row c.loop-at.rows.items)
           (map seen_row c.push_act_row.new.rows.items) c.loop-at-test.true refl c.loop-at.invariant.rows c.in_ok-push_act_row.ensures;
-      counts = c.go_to_act.ensures.here;
+      counts = c.go_to_place.ensures.here;
     }
