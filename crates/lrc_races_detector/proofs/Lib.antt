@@ -6,6 +6,7 @@ pub mod Holding
 pub mod Giving
 pub mod Noting
 pub mod Telling
+pub mod Covering
 pub mod Written
 pub mod Collecting
 pub mod Pairs

@@ -3,6 +3,7 @@ pub mod Clocks
 pub mod Barriers
 pub mod Variables
 pub mod Written
+pub mod Covers
 pub mod Knowing
 pub mod Detecting
 pub mod Held
