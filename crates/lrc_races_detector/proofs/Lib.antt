@@ -1,4 +1,5 @@
 pub mod Pushing
+pub mod Chunking
 pub mod Entries
 pub mod Gathering
 pub mod Handing

@@ -1,3 +1,4 @@
+pub mod Chunks
 pub mod Vectors
 pub mod Clocks
 pub mod Barriers

@@ -13,6 +13,7 @@
 
 pub mod accesses;
 pub mod barriers;
+mod chunks;
 pub mod clocks;
 pub mod covers;
 pub mod detector;
