@@ -1,13 +1,14 @@
 -- Entries in chunks.
-use Rattle.std.proofs.Common.{◌≡◌, ◌≢◌, ◌<◌, ◌≤◌, ◌+◌, ◌*◌, ◌/◌, ◌%◌, ◌⊎◌, ℕ, zero, suc, List, [], ◌∷◌, Vec, length, max, inl, inr, refl, sym, subst, ◌∙◌, ap, ap₂, arith}
+use Rattle.std.proofs.Common.{◌≡◌, ◌≢◌, ◌<◌, ◌≤◌, ◌+◌, ◌*◌, ◌/◌, ◌%◌, ◌⊎◌, ℕ, zero, suc, List, [], ◌∷◌, ◌++◌, Vec, length, max, inl, inr, refl, sym, subst, ◌∙◌, ap, ap₂, arith}
 use Rattle.std.proofs.lemmas.Bool.{cases_eq, cases_lt}
-use Rattle.std.proofs.lemmas.List.{get_or_past}
+use Rattle.std.proofs.lemmas.List.{get_or_past, length_push}
 use Rattle.std.proofs.lemmas.Option.{slice_get_past}
 use Rattle.std.specs.Prelude.{slice_get, slice_index}
 use Rattle.std.specs.declared.alloc.Global.{Global}
 use Rattle.std.specs.declared.rc.Rc.{Rc}
-use Rattle.lrc_races_detector.specs.Chunks.{chunk_of, entry_in, value_of, firsts, values, IsChunkPut, IsAppended, IsLowered, IsListed}
+use Rattle.lrc_races_detector.specs.Chunks.{chunk_of, entry_in, value_of, firsts, values, AreSharedBelow, IsChunkPut, IsAppended, IsLowered, IsListed}
 use Rattle.lrc_races_detector.specs.Vectors.{IsPut, IsRaised}
+use Rattle.lrc_races_detector.proofs.Pushing.{slice_get-push_new, slice_get-push_old}
 
 abbrev Chunks : Type 0
 Chunks = List (Rc (Vec ℕ Global) Global)
@@ -117,7 +118,7 @@ listed chunks list l p =
     ]
 
 listed_one : (chunks : Chunks) (count : ℕ) (before after chunk : List ℕ) → IsListed count chunks before → chunk_of (slice_get chunks count) ≡ chunk
-    → IsAppended 128 before chunk after → (thread : ℕ) → thread < suc count * 128 → slice_index after thread ≡ value_of chunks thread
+    → IsAppended 128 before chunk after → (thread : ℕ) → thread < (count + 1) * 128 → slice_index after thread ≡ value_of chunks thread
 listed_one chunks count before after chunk l is a thread lt =
     elim (cases_lt thread (count * 128)) [
       | inl old ↦ a.old thread (let long = l.long in omega (arith, old, long)) ∙ l.same thread old
@@ -130,8 +131,40 @@ listed_one chunks count before after chunk l is a thread lt =
     ]
 
 pub listed_next : (chunks : Chunks) (count : ℕ) (before after chunk : List ℕ) → IsListed count chunks before → chunk_of (slice_get chunks count) ≡ chunk
-    → IsAppended 128 before chunk after → IsListed (suc count) chunks after
+    → IsAppended 128 before chunk after → IsListed (count + 1) chunks after
 listed_next chunks count before after chunk l is a = record {
   long = let long = l.long in let more = a.long in omega (arith, long, more);
   same = λ thread lt. listed_one chunks count before after chunk l is a thread lt;
 }
+
+-- ---- chunks are shared
+
+shared_one : (more old : Chunks) (count : ℕ) (pushed : Rc (Vec ℕ Global) Global) → AreSharedBelow count more old
+    → chunk_of (slice_get more count) ≡ pushed.value.items → (index : ℕ) → index < count + 1
+    → chunk_of (slice_get (old ++ pushed ∷ []) index) ≡ chunk_of (slice_get more index)
+shared_one more old count pushed s is index lt =
+    let long = s.long in
+    elim (cases_eq index count) [
+      | inl here ↦
+          ap (λ k. chunk_of (slice_get (old ++ pushed ∷ []) k)) (here ∙ sym s.long) ∙ ap (λ o. chunk_of o) (slice_get-push_new old pushed) ∙ sym is
+          ∙ ap (λ k. chunk_of (slice_get more k)) (sym here)
+      | inr other ↦
+          ap (λ o. chunk_of o) (slice_get-push_old old pushed index (omega (arith, long, lt, other))) ∙ s.same index (omega (arith, lt, other))
+    ]
+
+pub shared_next : (more old new : Chunks) (count : ℕ) (pushed : Rc (Vec ℕ Global) Global) → AreSharedBelow count more old → new ≡ old ++ pushed ∷ []
+    → chunk_of (slice_get more count) ≡ pushed.value.items → AreSharedBelow (count + 1) more new
+shared_next more old new count pushed s pushes is = subst (λ xs. AreSharedBelow (count + 1) more xs) (sym pushes) (record {
+  long = let long = s.long in let more_by_one = length_push old pushed in omega (arith, long, more_by_one);
+  same = λ index lt. shared_one more old count pushed s is index lt;
+})
+
+pub shared_values : (more new : Chunks) → AreSharedBelow (length more) more new → values new ≡ values more
+shared_values more new s =
+    same_values new more s.long (λ index.
+        elim (cases_lt index (length more)) [
+          | inl lt ↦ s.same index lt
+          | inr le ↦
+              let long = s.long in
+              ap (λ o. chunk_of o) (slice_get_past new index (omega (arith, long, le))) ∙ sym (ap (λ o. chunk_of o) (slice_get_past more index le))
+        ])
