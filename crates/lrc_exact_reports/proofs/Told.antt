@@ -4,7 +4,7 @@ use Rattle.std.specs.Prelude.{Some}
 use Rattle.std.proofs.lemmas.Option.{same_Some}
 use Rattle.lrc_program.specs.declared.Program.{Program}
 use Rattle.lrc_trace.specs.declared.act.Act.{Act}
-use Rattle.lrc_exec.specs.Follows.{deeds_of, nodes_of_acts}
+use Rattle.lrc_exec.specs.Follows.{deeds_of}
 use Rattle.lrc_protocol.specs.declared.event.Event.{Event}
 use Rattle.lrc_protocol.specs.Node.{OptionsRecord}
 use Rattle.lrc_protocol.specs.Run.{World, run_of}
@@ -40,17 +40,17 @@ has_run program nodes options report (inr (inr is)) = record {
 }
 
 pub each_is_exact : EachIsExact
-each_is_exact program nodes options report is none =
+each_is_exact program nodes options report is =
     let r : HasRun program nodes options report.acts.items = has_run program nodes options report is in
     subst (AreExactActs program nodes options) r.are
     (record {
-      run = exact_run program nodes options r.events r.world r.made none;
-      steadily = steadily program nodes options r.events r.world r.made none;
-      led = order_fixes program nodes options r.events r.world r.made none;
+      run = exact_run program nodes options r.events r.world r.made;
+      steadily = steadily program nodes options r.events r.world r.made;
+      led = order_fixes program nodes options r.events r.world r.made;
     })
 
 pub locks_decide_reports : LocksDecideReports
-locks_decide_reports program nodes options report other is is' none locks =
+locks_decide_reports program nodes options report other is is' locks =
     by_acts (has_run program nodes options report is) (has_run program nodes options other is')
   where
     by_acts : HasRun program nodes options report.acts.items → HasRun program nodes options other.acts.items
@@ -58,21 +58,21 @@ locks_decide_reports program nodes options report other is is' none locks =
     by_acts r q =
         subst (λ acts. (node : ℕ) → OneBeginsOther (deeds_of node acts) (deeds_of node other.acts.items)) r.are
         (subst (λ acts. (node : ℕ) → OneBeginsOther (deeds_of node r.world.acts) (deeds_of node acts)) q.are
-        (locks_decide program nodes options r.events q.events r.world q.world r.made q.made none
+        (locks_decide program nodes options r.events q.events r.world q.world r.made q.made
         (subst (λ acts. (l : ℕ) → OneBeginsOther (acquirers l acts) (acquirers l q.world.acts)) (sym r.are)
         (subst (λ acts. (l : ℕ) → OneBeginsOther (acquirers l report.acts.items) (acquirers l acts)) (sym q.are) locks))))
 
 pub orders_decide_reports : OrdersDecideReports
-orders_decide_reports program nodes options report other is is' none same =
+orders_decide_reports program nodes options report other is is' same =
     same_Some report.acts.items other.acts.items
-    (sym (each_is_exact program nodes options report is none).led
+    (sym (each_is_exact program nodes options report is).led
     ∙ ap (exact program (shape_in nodes options)) same
-    ∙ (each_is_exact program nodes options other is' none).led)
+    ∙ (each_is_exact program nodes options other is').led)
 
 pub each_has_an_exact_outcome : EachHasAnExactOutcome
-each_has_an_exact_outcome program nodes options report is none over = record {
+each_has_an_exact_outcome program nodes options report is over = record {
   acts = report.acts.items;
-  run = (each_is_exact program nodes options report is none).run;
+  run = (each_is_exact program nodes options report is).run;
   over = over;
   are = refl;
 }

@@ -1,7 +1,7 @@
-pub mod Uncollected
-pub mod Effects
-pub mod Mending
-pub mod Turns
 pub mod Longer
+pub mod Numbers
+pub mod Serving
+pub mod Exact
 pub mod Worlds
+pub mod Start
 pub mod Theorem

@@ -10,15 +10,19 @@ use Rattle.lrc_page.specs.Changes.{change_at}
 use Rattle.lrc_clock.specs.Cover.{ClosesAt}
 use Rattle.lrc_clock.specs.Keeping.{KeepsTime}
 use Rattle.lrc_clock.specs.Times.{time_at, time_before}
-use Rattle.lrc_clock.proofs.Counting.{own_entry_before}
+use Rattle.lrc_clock.proofs.Counting.{closed_before, own_entry_before}
 use Rattle.lrc_clock.proofs.Covering.{closing-entry}
-use Rattle.lrc_exec.specs.Follows.{nodes_of_acts}
+use Rattle.lrc_exec.specs.Follows.{deeds_of, nodes_of_acts}
 use Rattle.lrc_store.specs.Store.{StoredRecord}
 use Rattle.lrc_copies.specs.Stamps.{stamp_index}
 use Rattle.lrc_protocol.specs.declared.event.Event.{Event}
 use Rattle.lrc_protocol.specs.Node.{Wait, nothing, grant, departure, access, upkeep, discard, OptionsRecord}
 use Rattle.lrc_protocol.specs.Run.{Logged, World, run_of}
+use Rattle.lrc_protocol.specs.Follows.{pending}
 use Rattle.lrc_protocol.proofs.Texts.{text}
+use Rattle.lrc_order_laws.specs.Counts.{closes, count, awaits_acquire}
+use Rattle.lrc_order_laws.proofs.Departs.{counted_at}
+use Rattle.lrc_order_laws.proofs.OwnEntry.{own_entry}
 use Rattle.lrc_order_laws.proofs.Pending.{get_within}
 use Rattle.lrc_order_laws.proofs.Timed.{synchronized, waits}
 use Rattle.lrc_protocol.proofs.Worlds.{run-whole}
@@ -43,11 +47,12 @@ use Rattle.lrc_exact_machine.proofs.Making.{is_made}
 use Rattle.lrc_exact_made.specs.Copies.{IsExactly, HasExact}
 use Rattle.lrc_exact_worlds.specs.Made.{shape_in, AreExact}
 use Rattle.lrc_exact_worlds.specs.Laws.{LocksAloneDecide, WasExactlyMade, ActsFixWhatWasMade}
-use Rattle.lrc_exact_worlds.proofs.Effects.{standing, KnowsMade}
-use Rattle.lrc_exact_worlds.proofs.Worlds.{AreExactOf, all_exact}
+use Rattle.lrc_exact_turns.proofs.Stands.{standing, number_of, all_at, KnowsMade}
+use Rattle.lrc_exact_worlds.proofs.Exact.{AreExactOf}
+use Rattle.lrc_exact_worlds.proofs.Start.{all_exact}
 
 module _ (program : Program) (nodes : ℕ) (options : OptionsRecord) (events : List Event) (world : World)
-    (run : run_of program nodes options events ≡ Some world) (none : options.collect ≡ 0) where
+    (run : run_of program nodes options events ≡ Some world) where
   abbrev shape : Shape
   shape = shape_in nodes options
 
@@ -57,8 +62,8 @@ module _ (program : Program) (nodes : ℕ) (options : OptionsRecord) (events : L
   abbrev made : List StoredRecord
   made = hist.0
 
-  pub all : AreExactOf nodes options made world.nodes world.acts
-  all = all_exact program nodes options none world hist.0 hist.1
+  pub all : AreExactOf nodes options made world.nodes (pending world) world.acts
+  all = all_exact program nodes options world hist.0 hist.1
 
   pub reads_exactly : ReadsExactly shape world.acts
   reads_exactly = record { states = all.states; keeps = all.keeps; reads = all.reads }
@@ -110,25 +115,32 @@ module _ (program : Program) (nodes : ℕ) (options : OptionsRecord) (events : L
   abbrev then_known : StoredRecord → Bool → Interval
   then_known x b = if b then open_interval (now_of x.node) else (now_of x.node).knows.interval x.node (stamp_index made_stamps x)
 
-  waits_so : (x : StoredRecord) (l : Logged) (w : Wait) → Contains made x → stamp_index made_stamps x ≤ entry l.node.locks.time x.node
+  -- who waits for a grant has closed one interval more than it has acted
+  awaits_grant : (w : Wait) → awaits_acquire w ≡ 1 → (lock : ℕ) × (w ≡ grant lock)
+  awaits_grant (grant lock) e = (lock, refl)
+  awaits_grant nothing e = absurd (omega arith)
+  awaits_grant departure e = absurd (omega arith)
+  awaits_grant (access need) e = absurd (omega arith)
+  awaits_grant (upkeep collection needs) e = absurd (omega arith)
+  awaits_grant (discard collection) e = absurd (omega arith)
+
+  one_at_most : (w : Wait) → awaits_acquire w ≤ 1
+  one_at_most nothing = omega arith
+  one_at_most (grant lock) = omega arith
+  one_at_most departure = omega arith
+  one_at_most (access need) = omega arith
+  one_at_most (upkeep collection needs) = omega arith
+  one_at_most (discard collection) = omega arith
+
+  waits_so : (x : StoredRecord) (l : Logged) (lock : ℕ) → Contains made x → stamp_index made_stamps x ≤ entry l.node.locks.time x.node
       → stamp_index made_stamps x ≡ entry (now_of x.node).knows.time x.node + 1
-      → HasExact options.size made l.node.locks.time l.node.memory (standing x.node w (now_of x.node))
+      → HasExact options.size made l.node.locks.time l.node.memory (closed x.node (now_of x.node))
       → IsExactly options.size x (open_interval (now_of x.node))
-  waits_so x l (grant lock) c known index f =
+  waits_so x l lock c known index f =
       subst (λ b. IsExactly options.size x (then_known x b))
       (and_from (x.node == x.node) (stamp_index made_stamps x == entry (now_of x.node).knows.time x.node + 1) (eq-eqb x.node x.node refl)
       (eq-eqb (stamp_index made_stamps x) (entry (now_of x.node).knows.time x.node + 1) index))
       (f.knows.each x c (subst (λ t. stamp_index made_stamps x ≤ entry t x.node) (sym f.time_is) known))
-  waits_so x l nothing c known index f =
-      let time : entry (now_of x.node).knows.time x.node ≡ entry l.node.locks.time x.node = ap (λ t. entry t x.node) f.time_is in absurd (omega arith)
-  waits_so x l departure c known index f =
-      let time : entry (now_of x.node).knows.time x.node ≡ entry l.node.locks.time x.node = ap (λ t. entry t x.node) f.time_is in absurd (omega arith)
-  waits_so x l (access need) c known index f =
-      let time : entry (now_of x.node).knows.time x.node ≡ entry l.node.locks.time x.node = ap (λ t. entry t x.node) f.time_is in absurd (omega arith)
-  waits_so x l (upkeep collection needs) c known index f =
-      let time : entry (now_of x.node).knows.time x.node ≡ entry l.node.locks.time x.node = ap (λ t. entry t x.node) f.time_is in absurd (omega arith)
-  waits_so x l (discard collection) c known index f =
-      let time : entry (now_of x.node).knows.time x.node ≡ entry l.node.locks.time x.node = ap (λ t. entry t x.node) f.time_is in absurd (omega arith)
 
   waiting_is : (x : StoredRecord) → Contains made x → interval_at world.acts x.node (length world.acts) ≡ stamp_index made_stamps x
       → IsExactly options.size x (open_interval (now_of x.node))
@@ -143,26 +155,36 @@ module _ (program : Program) (nodes : ℕ) (options : OptionsRecord) (events : L
       let same : entry (time_before nodes world.acts (times_of all.states) x.node (length world.acts)) x.node
       ≡ entry (now_of x.node).knows.time x.node =
       ap (λ t. entry t x.node) (before-time shape world.acts all.states all.keeps x.node (length world.acts) (omega arith)) in
-      waits_so x l l.node.mail.wait c known (omega arith) (all.exact x.node l there.1)
+      let index : stamp_index made_stamps x ≡ entry (now_of x.node).knows.time x.node + 1 = omega arith in
+      let machine : entry l.node.locks.time x.node ≡ count closes (deeds_of x.node world.acts) + awaits_acquire l.node.mail.wait =
+      own_entry program nodes options events world run x.node l there.1 in
+      let closed_acts : closed_before world.acts x.node (length world.acts) ≡ count closes (deeds_of x.node world.acts) =
+      counted_at closes x.node world.acts in
+      let most = one_at_most l.node.mail.wait in
+      let g = awaits_grant l.node.mail.wait (omega arith) in
+      waits_so x l g.0 c known index
+      (subst (λ w. HasExact options.size made l.node.locks.time l.node.memory
+      (standing shape x.node (all_at nodes world.acts all.states (number_of world.acts x.node)) w (now_of x.node))) g.1
+      (all.stands x.node l there.1).pages.exact)
 
   pub are_exact : AreExact nodes options made world all.states
   are_exact = record { keeps = all.keeps; closed = closed_is; waiting = waiting_is }
 
 pub was_made : WasExactlyMade
-was_made program nodes options events world run none =
-    let h = hist program nodes options events world run none in (
+was_made program nodes options events world run =
+    let h = hist program nodes options events world run in (
       h.0,
-      (all program nodes options events world run none).states,
+      (all program nodes options events world run).states,
       stamps program nodes options world h.0 h.1,
       of_acts program nodes options world h.0 h.1,
-      are_exact program nodes options events world run none,
+      are_exact program nodes options events world run,
     )
 
 -- two runs that read exactly differ by locks alone
 pub locks_decide : LocksAloneDecide
-locks_decide program nodes options events other_events world other run run' none locks =
-    let a : IsExactRun program (shape_in nodes options) world.acts = exact_run program nodes options events world run none in
-    let b : IsExactRun program (shape_in nodes options) other.acts = exact_run program nodes options other_events other run' none in
+locks_decide program nodes options events other_events world other run run' locks =
+    let a : IsExactRun program (shape_in nodes options) world.acts = exact_run program nodes options events world run in
+    let b : IsExactRun program (shape_in nodes options) other.acts = exact_run program nodes options other_events other run' in
     one_begins (exact_rule (shape_in nodes options)) (λ state word. (state.words word).value) program nodes world.acts other.acts a.exact.states b.exact.states
     record { follows = a.follows; synchronized = a.synchronized; keeps = a.exact.keeps; reads = a.exact.reads }
     record { follows = b.follows; synchronized = b.synchronized; keeps = b.exact.keeps; reads = b.exact.reads } locks

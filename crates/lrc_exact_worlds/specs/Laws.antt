@@ -20,11 +20,11 @@ use Rattle.lrc_exact_reading.specs.Steady.{ReadsSteadily}
 use Rattle.lrc_exact_machine.specs.Machine.{exact}
 use Rattle.lrc_exact_worlds.specs.Made.{shape_in, AreExact}
 
--- In every run in which barriers never collect
+-- In every run, whatever its barriers collect,
 abbrev pub InEachRun : (Program → ℕ → OptionsRecord → World → Type 0) → Type 0
 InEachRun Holds =
     (program : Program) (nodes : ℕ) (options : OptionsRecord) (events : List Event) (world : World) → run_of program nodes options events ≡ Some world
-    → options.collect ≡ 0 → Holds program nodes options world
+    → Holds program nodes options world
 
 -- each read gives the exact memory's value.
 abbrev pub ReadExactly : Type 0
@@ -47,7 +47,7 @@ OrderFixesActs = InEachRun (λ program nodes options world. exact program (shape
 abbrev pub LocksAloneDecide : Type 0
 LocksAloneDecide =
     (program : Program) (nodes : ℕ) (options : OptionsRecord) (events other_events : List Event) (world other : World)
-    → run_of program nodes options events ≡ Some world → run_of program nodes options other_events ≡ Some other → options.collect ≡ 0
+    → run_of program nodes options events ≡ Some world → run_of program nodes options other_events ≡ Some other
     → ((l : ℕ) → OneBeginsOther (acquirers l world.acts) (acquirers l other.acts))
     → (node : ℕ) → OneBeginsOther (deeds_of node world.acts) (deeds_of node other.acts)
 

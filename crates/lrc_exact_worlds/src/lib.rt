@@ -1,5 +1,5 @@
 //! What every run of the protocol machine reads, races or not: the values of the exact memory, a function of the program, the
-//! nodes, the size of a page and the order in which nodes acquire each lock. Proved here for runs without collections.
+//! nodes, the size of a page, how many intervals make a barrier collect, and the order in which nodes acquire each lock.
 //! The crate has laws only.
 #![tactic(auto)]
 
