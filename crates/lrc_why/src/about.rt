@@ -122,7 +122,7 @@ fn gift(
 {
     let unknown = last_written(acts, order, position, word);
     let writes = known_writes(alloc, acts, order, position, word)?;
-    let values = values_allowed(alloc, acts, position, word)?;
+    let values = values_allowed(alloc, order, acts, position, word)?;
     let allowed = has(&values, value);
     let source = match first_crossing(order, &writes) {
         Some(crossing) => several(alloc, order, &writes, values, crossing)?,
