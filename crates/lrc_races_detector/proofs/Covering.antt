@@ -57,7 +57,7 @@ module _ (events : List Event) (later : Placed) (here : At events later.position
         | inl same ↦ subst (λ m. HappensBefore events m n) (sym same) last
         | inr h ↦ transitive h last
       ]
-  behind_all None less is = absurd less
+  behind_all None less is k a lt at accesses = absurd less
 
   -- nothing is told of such an access
   pub none_told_behind : AreAllBefore events n v → (pairs : List Pair) → pairs ≡ [] → AreToldAt events n pairs

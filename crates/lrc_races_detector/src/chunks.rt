@@ -30,6 +30,18 @@ fn join(known: &mut Vec<u64>, more: &[u64]) -> Result<(), AllocError>
     Ok(())
 }
 
+// Sets an entry of a chunk. It fails if memory runs out.
+fn put_entry(entries: &mut Vec<u64>, place: usize, value: u64) -> Result<(), AllocError>
+    requires { place < 128 }
+    ensures { OnOk result (IsPut entries.old.items entries.new.items place value) }
+{
+    if entries.len() <= place {
+        entries.resize(place + 1, 0)?;
+    }
+    entries[place] = value;
+    Ok(())
+}
+
 // Returns a chunk with an entry set. It fails if memory runs out.
 fn with_entry(
     alloc: Global,
@@ -42,10 +54,7 @@ fn with_entry(
 {
     let mut entries = Vec::with_capacity(alloc, chunk.len().max(place + 1))?;
     entries.extend_from_slice(chunk)?;
-    if entries.len() <= place {
-        entries.resize(place + 1, 0)?;
-    }
-    entries[place] = value;
+    put_entry(&mut entries, place, value)?;
     Ok(entries)
 }
 

@@ -8,7 +8,7 @@ use Rattle.lrc_races_detector.proofs.chunks.list.Goals as goal
 pub loop-chunk-preserved : goal.loop-chunk-preserved
 loop-chunk-preserved c =
     let l = c.loop-chunk in
-    let item = c.loop-chunk-item in
+    let item = c.chunk-item in
     let there = slice_get_read c.args.chunks.now (length c.args.chunks.now) l.chunk-index item.result refl c.loop-chunk-test.true item.is in
     listed_next c.args.chunks.now l.chunk-index l.list.items c.append.new.list.items c.as_slice.result.now l.invariant
     (ap (λ o. chunk_of o) there ∙ sym (c.as_slice.ensures.value ∙ ap (λ v. v.items) c.as_ref.ensures)) c.in_ok-append.ensures

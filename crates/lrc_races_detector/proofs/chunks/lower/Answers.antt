@@ -11,8 +11,8 @@ returns-then-entry-value_of c =
     let e = c.args.entry in
     on_ok_weaker c.put.result (lowered_put chunks c.put.new.chunks.items e.thread e.value) c.put.ensures
 
-pub returns-else-entry-value_of : goal.returns-else-entry-value_of
-returns-else-entry-value_of c =
+pub returns : goal.returns
+returns c =
     let chunks = c.args.chunks.now.items in
     let e = c.args.entry in
     let was = c.value_of.ensures ∙ ap (λ xs. value_of xs e.thread) c.as_slice.ensures.value in

@@ -13,8 +13,8 @@ returns-then-value_of-entry c =
     let less = c.if-value_of-entry.true in
     on_ok_weaker c.put.result (raised_put chunks c.put.new.chunks.items e.thread e.value (omega (arith, was, less))) c.put.ensures
 
-pub returns-else-value_of-entry : goal.returns-else-value_of-entry
-returns-else-value_of-entry c =
+pub returns : goal.returns
+returns c =
     let chunks = c.args.chunks.now.items in
     let e = c.args.entry in
     let was = c.value_of.ensures ∙ ap (λ xs. value_of xs e.thread) c.as_slice.ensures.value in

@@ -23,8 +23,8 @@ returns-then-is_known c = λ events here op g old covers empty.
       none_told_behind events placed here w v op known g all c.args.told.now.items empty,
     )
 
-pub returns-else-is_known : goal.returns-else-is_known
-returns-else-is_known c = λ events here op g old covers empty.
+pub returns : goal.returns
+returns c = λ events here op g old covers empty.
     let placed = c.args.placed in
     let v = c.args.variable in
     let w = c.args.is_write in

@@ -1,5 +1,5 @@
 -- Before any event nothing is known, and nothing is told.
-use Rattle.std.proofs.Common.{◌≡◌, ℕ, [], List, refl, sym, subst, ap, arith, tt}
+use Rattle.std.proofs.Common.{◌≡◌, ℕ, [], List, refl, sym, subst, ap, arith}
 use Rattle.std.specs.Prelude.{Option, None, slice_get}
 use Rattle.lrc_races_trace.specs.declared.event.Event.{Event}
 use Rattle.lrc_races_trace.proofs.Cycles.{cycles_before-none}

@@ -29,7 +29,7 @@ returns c = λ events n here old.
         locks = c.in_ok-give_lock.ensures events n here own locks;
         barriers = c.in_ok-give_barrier.ensures events n few here own barriers;
         variables = subst (λ m. AreVariables events (m + 1) c.judge.new.variables) at judged.0;
-        covers = subst (λ m. AreCovers events (m + 1) c.judge.new.covers) at judged.1.0;
+        covers = subst (λ m. AreCovers events (m + 1) c.judge.new.covers) at judged.1;
       },
-      subst (λ m. AreToldAt events m c.judge.new.told.items) at judged.1.1,
+      subst (λ m. AreToldAt events m c.judge.new.told.items) at judged.2,
     )

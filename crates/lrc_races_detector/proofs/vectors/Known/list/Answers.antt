@@ -13,14 +13,14 @@ returns-in-Some c =
     let others = c.args.self.others.now in
     let all = c.raise.new.chunks.items in
     let laid = laid_among c.args.self.apart e (values others) (values all) c.in-Some.is
-    (subst (λ (xs : List ℕ). IsRaised xs (values all) e.thread e.value) c.in_ok-share_all.ensures c.in_ok-raise.ensures) in
+    (subst (λ (xs : List ℕ). IsRaised xs (values all) e.thread e.value) c.in_ok-share_all.ensures c.in_ok-raise-in-Some.ensures) in
     IfOk-weaker c.list.result _ _
     (λ l same thread. same thread ∙ ap (λ xs. slice_index (values xs) thread) c.as_slice.ensures.value ∙ laid thread) c.list.ensures
 
-pub returns-in-None : goal.returns-in-None
-returns-in-None c =
+pub returns : goal.returns
+returns c =
     let others = c.args.self.others.now in
-    IfOk-weaker c.list-2.result _ _
-    (λ l same thread. same thread ∙ ap (λ xs. slice_index (values xs) thread) c.as_slice-2.ensures.value
+    IfOk-weaker c.list-in-None.result _ _
+    (λ l same thread. same thread ∙ ap (λ xs. slice_index (values xs) thread) c.as_slice-in-None.ensures.value
     ∙ ap (λ xs. slice_index xs thread) c.in_ok-share_all.ensures ∙ settled_none c.args.self.apart (values others) c.in-None.is thread)
-    c.list-2.ensures
+    c.list-in-None.ensures
