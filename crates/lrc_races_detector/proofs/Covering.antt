@@ -1,13 +1,13 @@
 -- The last access of a variable, where all others of it happen before that: what an access that knows of it tells, and when
 -- an access becomes it.
-use Rattle.std.proofs.Common.{◌≡◌, ◌≢◌, ℕ, ◌+◌, ◌<◌, ◌≤◌, List, [], length, get_or, inl, inr, refl, sym, subst, ◌∙◌, ap, arith}
-use Rattle.std.specs.Prelude.{Option, Some, None, IfSome, Bool, true, Contains, ⊤}
+use Rattle.std.proofs.Common.{◌≡◌, ℕ, ◌+◌, ◌<◌, ◌≤◌, List, [], length, get_or, inl, inr, refl, sym, subst, ◌∙◌, ap, arith}
+use Rattle.std.specs.Prelude.{Option, Some, None, IfSome, Bool, true}
 use Rattle.std.proofs.lemmas.Bool.{cases_eq, cases_lt}
 use Rattle.lrc_races_trace.specs.declared.event.Event.{Event}
 use Rattle.lrc_races_trace.specs.declared.event.Pair.{Pair}
 use Rattle.lrc_races_trace.specs.declared.event.Placed.{Placed}
 use Rattle.lrc_races_trace.specs.Trace.{At, Accesses}
-use Rattle.lrc_races_trace.specs.Order.{HappensBefore, Reaches, program, base}
+use Rattle.lrc_races_trace.specs.Order.{HappensBefore, program, base}
 use Rattle.lrc_races_trace.specs.Races.{Races, AreToldAt}
 use Rattle.lrc_races_trace.proofs.HappensBefore.{transitive}
 use Rattle.lrc_races_trace.proofs.Positions.{At-one}

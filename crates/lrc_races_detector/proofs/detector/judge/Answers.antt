@@ -1,5 +1,5 @@
 -- A read or a write tells its pairs; another event tells none.
-use Rattle.std.proofs.Common.{◌≡◌, inl, inr, sym, subst}
+use Rattle.std.proofs.Common.{inl, inr, sym, subst}
 use Rattle.lrc_races_trace.specs.Races.{AreToldAt}
 use Rattle.lrc_races_detector.proofs.Covering.{covers_kept}
 use Rattle.lrc_races_detector.proofs.Noting.{variables_kept}
