@@ -166,8 +166,8 @@ shared_values more new count end s =
     let long = s.long in
     let within_them = s.within in
     same_values new more (omega (arith, long, within_them, end)) (λ index.
-        elim (cases_lt index (length more)) [
-          | inl lt ↦ s.same index (omega (arith, lt, end))
-          | inr le ↦
-              ap (λ o. chunk_of o) (slice_get_past new index (omega (arith, long, within_them, le))) ∙ sym (ap (λ o. chunk_of o) (slice_get_past more index le))
-        ])
+    elim (cases_lt index (length more)) [
+      | inl lt ↦ s.same index (omega (arith, lt, end))
+      | inr le ↦
+          ap (λ o. chunk_of o) (slice_get_past new index (omega (arith, long, within_them, le))) ∙ sym (ap (λ o. chunk_of o) (slice_get_past more index le))
+    ])
