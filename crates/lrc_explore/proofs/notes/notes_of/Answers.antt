@@ -1,4 +1,4 @@
-use Rattle.std.proofs.Common.{◌≡◌, ◌+◌, ◌++◌, ◌∙◌, sym, ap, subst, arith}
+use Rattle.std.proofs.Common.{◌≡◌, ◌++◌, ◌∙◌, sym, ap, arith}
 use Rattle.std.specs.Prelude.{filter}
 use Rattle.lrc_orders.specs.Notes.{is_note_of, notes_from}
 use Rattle.lrc_explore.proofs.NoteLists.{one_node_more}
