@@ -12,12 +12,13 @@ use Rattle.lrc_orders.specs.Outcome.{HasOutcome}
 use Rattle.lrc_explore_text.specs.OutcomeRun.{IsNumberedAt}
 use Rattle.lrc_lazy_text.specs.declared.listed.ToldOutcome.{ToldOutcome}
 use Rattle.lrc_protocol.specs.Node.{OptionsRecord}
-use Rattle.lrc_lazy_text.specs.Listed.{AreSeedsFor, AreToldOf, marked_lines, told_pair}
+use Rattle.lrc_lazy_text.specs.Listed.{AreToldOf, marked_lines, told_pair}
 use Rattle.lrc_lazy_text.proofs.Sorting.{marked_text}
 use Rattle.lrc_exact.specs.Rule.{Shape}
 use Rattle.lrc_exact_outcomes.specs.Outcome.{IsExactOutcome}
 use Rattle.lrc_exact_search.specs.declared.search.Met.{Met}
 use Rattle.lrc_exact_search.specs.Searching.{AreRunsOf, HasRunAt}
+use Rattle.lrc_exact_seeds.specs.Seeds.{AreSeedsFor}
 use Rattle.lrc_exact_text.specs.Listed.{AreExactOutcomes, ListsExactOutcomes, exact_head}
 use Rattle.lrc_exact_text.specs.One.{IsNumberedExactRun}
 

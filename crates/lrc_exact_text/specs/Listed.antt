@@ -9,10 +9,11 @@ use Rattle.lrc_orders.specs.contracts.outcomes.OutcomePartialEq.TheImpl.{eq-valu
 use Rattle.lrc_orders.specs.Outcome.{HasOutcome}
 use Rattle.lrc_explore_text.specs.Outcomes.{none_ends}
 use Rattle.lrc_protocol.specs.Node.{OptionsRecord}
-use Rattle.lrc_lazy_text.specs.Listed.{AreAscending, AreSeedsFor, marked_line}
+use Rattle.lrc_lazy_text.specs.Listed.{AreAscending, marked_line}
 use Rattle.lrc_exact.specs.Rule.{Shape}
 use Rattle.lrc_exact_outcomes.specs.Outcome.{IsExactOutcome}
 use Rattle.lrc_exact_search.specs.Searching.{FitsExactly}
+use Rattle.lrc_exact_seeds.specs.Seeds.{AreSeedsFor}
 
 -- these are exactly the outcomes of the exact runs after which no node can act, each once
 pub record AreExactOutcomes (program : Program) (shape : Shape) (outcomes : List Outcome) : Type 0 where

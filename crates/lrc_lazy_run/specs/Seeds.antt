@@ -16,32 +16,30 @@ use Rattle.lrc_lazy.specs.Lazy.{IsOver}
 unfoldable pub seed_options : OptionsRecord
 seed_options = record { steps = 1000000; collect = 0; first = 0; size = Words64 }
 
--- There is a run with these options in the random order of this seed: it answers no fault. No node can act after it, by the text, locks and
--- barriers, and it has these notes.
-pub record IsOutcomeOfSeed (program : Program) (nodes : ℕ) (options : OptionsRecord) (seed : ℕ) (notes : List Act) : Type 0 where
+-- There is a run in the random order of this seed: it answers no fault. No node can act after it, by the text, locks and barriers, and it
+-- has these notes.
+pub record IsOutcomeOfSeed (program : Program) (nodes seed : ℕ) (notes : List Act) : Type 0 where
   pub run : Run
   pub keep : Keep
-  pub made : IsRunIn (Random seed) program nodes options keep run
+  pub made : IsRunIn (Random seed) program nodes seed_options keep run
   pub over : IsOver program nodes run.report.acts.items
   pub are : notes_of nodes run.report.acts.items ≡ notes
 
 -- the seed's run has these notes, and no others, if any
-abbrev pub IsAllOfSeed : Program → (nodes : ℕ) → OptionsRecord → (seed : ℕ) → Option (List Act) → Type 0
-IsAllOfSeed program nodes options seed found = (notes : List Act) → IsOutcomeOfSeed program nodes options seed notes ↔ (found ≡ Some notes)
+abbrev pub IsAllOfSeed : Program → (nodes seed : ℕ) → Option (List Act) → Type 0
+IsAllOfSeed program nodes seed found = (notes : List Act) → IsOutcomeOfSeed program nodes seed notes ↔ (found ≡ Some notes)
 
 -- of so many seeds, from 0 on, this is the least whose run has these notes, or none has them
-abbrev pub IsLeastSeed : Program → (nodes : ℕ) → OptionsRecord → (tries : ℕ) → (notes : List Act) → Option ℕ → Type 0
-IsLeastSeed program nodes options tries notes (Some seed) =
-    (seed < tries) × IsOutcomeOfSeed program nodes options seed notes
-    × ((less : ℕ) → less < seed → ¬ IsOutcomeOfSeed program nodes options less notes)
-IsLeastSeed program nodes options tries notes None = (seed : ℕ) → seed < tries → ¬ IsOutcomeOfSeed program nodes options seed notes
+abbrev pub IsLeastSeed : Program → (nodes tries : ℕ) → (notes : List Act) → Option ℕ → Type 0
+IsLeastSeed program nodes tries notes (Some seed) =
+    (seed < tries) × IsOutcomeOfSeed program nodes seed notes × ((less : ℕ) → less < seed → ¬ IsOutcomeOfSeed program nodes less notes)
+IsLeastSeed program nodes tries notes None = (seed : ℕ) → seed < tries → ¬ IsOutcomeOfSeed program nodes seed notes
 
 -- so it is of each outcome
-pub record AreLeastSeeds (program : Program) (nodes : ℕ) (options : OptionsRecord) (tries : ℕ) (outcomes : List Outcome) (seeds : List (Option ℕ)) : Type 0
-  where
-    pub count : length seeds ≡ length outcomes
-    pub each : (k : ℕ) (outcome : Outcome) (seed : Option ℕ) → slice_get outcomes k ≡ Some outcome → slice_get seeds k ≡ Some seed
-        → IsLeastSeed program nodes options tries outcome.notes.items seed
+pub record AreLeastSeeds (program : Program) (nodes tries : ℕ) (outcomes : List Outcome) (seeds : List (Option ℕ)) : Type 0 where
+  pub count : length seeds ≡ length outcomes
+  pub each : (k : ℕ) (outcome : Outcome) (seed : Option ℕ) → slice_get outcomes k ≡ Some outcome → slice_get seeds k ≡ Some seed
+      → IsLeastSeed program nodes tries outcome.notes.items seed
 
 -- the notes of acts, if no node can act after them
 abbrev pub AreNotesIfOver : Program → (nodes : ℕ) → List Act → Option (List Act) → Type 0

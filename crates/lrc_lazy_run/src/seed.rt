@@ -23,42 +23,37 @@ use lrc_world::report::TurnFault;
 use lrc_world::run::{Order, Run, run_in};
 use std::alloc::{AllocError, Global};
 
-/// Returns what the nodes print in the run of a seed with this setting, and how they end, as notes of its acts. There are
-/// none if the run answers a fault, or if a node can still act after it. It fails if memory runs out.
+/// Returns what the nodes print in the run of a seed, and how they end, as notes of its acts. There are none if the run
+/// answers a fault, or if a node can still act after it. It fails if memory runs out.
 pub fn notes_of_seed(
     alloc: Global,
     program: &Program,
-    setting: &Setting,
+    nodes: Nodes,
     seed: u64,
 ) -> Result<Option<Vec<Act>>, AllocError>
-    ensures { IfOk result (λ notes. IsAllOfSeed program.now setting.now.nodes.count
-        (options_of setting.now) seed (option_map (λ notes. notes.items) notes)) }
+    ensures { IfOk result (λ notes. IsAllOfSeed program.now nodes.count seed
+        (option_map (λ notes. notes.items) notes)) }
 {
-    match run_of_seed(alloc, program, setting, seed) {
-        Ok(run) => notes_if_over(alloc, program, setting.nodes.number(), &run.report.acts),
+    match run_of_seed(alloc, program, nodes, seed) {
+        Ok(run) => notes_if_over(alloc, program, nodes.number(), &run.report.acts),
         Err(TurnFault::Worn) => Ok(None),
         Err(TurnFault::NoMemory) => Err(AllocError),
     }
 }
 
 // The run of a seed.
-fn run_of_seed(
-    alloc: Global,
-    program: &Program,
-    setting: &Setting,
-    seed: u64,
-) -> Result<Run, TurnFault>
-    ensures run { IfOk result (IsRunIn (Random seed) program.now setting.now.nodes.count
-        (options_of setting.now) Newest) }
+fn run_of_seed(alloc: Global, program: &Program, nodes: Nodes, seed: u64) -> Result<Run, TurnFault>
+    ensures run { IfOk result (IsRunIn (Random seed) program.now nodes.count seed_options Newest) }
     ensures fault { IfErr result (IsWornFault
-        (WanderingWearsOut program.now setting.now.nodes.count (options_of setting.now) seed)) }
+        (WanderingWearsOut program.now nodes.count seed_options seed)) }
 {
-    run_in(alloc, program, setting, Order::Random(seed), Keep::Newest)
+    let setting = setting_of(nodes);
+    run_in(alloc, program, &setting, Order::Random(seed), Keep::Newest)
 }
 
-/// Returns what a run of so many nodes is made with where nothing else is said.
+// What a run of so many nodes is made with where nothing else is said.
 #[tactic(auto, unfolding(crate::specs::Seeds::seed_options))]
-pub fn seed_setting(nodes: Nodes) -> Setting
+fn setting_of(nodes: Nodes) -> Setting
     ensures nodes { result.nodes.count ≡ nodes.count }
     ensures options { options_of result ≡ seed_options }
 {

@@ -3,34 +3,33 @@
 ghost use Rattle.std.specs.Prelude.{◌≡◌, ◌+◌, ◌↔◌, length, IfOk, IsTrue, OnOk};
 ghost use Rattle.std.specs.List.{list_all};
 ghost use Rattle.std.specs.Option.{is_some};
-ghost use Rattle.lrc_node.specs.Options.{options_of};
 ghost use Rattle.lrc_lazy_run.specs.Seeds.{AreLeastSeeds, AreMarked, IsMarked};
 
 use crate::seed::notes_of_seed;
 use lrc_orders::outcomes::Outcome;
 use lrc_program::Program;
-use lrc_setting::setting::Setting;
+use lrc_setting::setting::Nodes;
 use lrc_trace::act::Act;
 use std::alloc::{AllocError, Global};
 
-/// Returns for each of these outcomes the least of so many seeds, from 0 on, whose run with this setting has it, if there
-/// is one. It fails if memory runs out.
+/// Returns for each of these outcomes the least of so many seeds, from 0 on, whose run has it, if there is one. It fails
+/// if memory runs out.
 pub fn least_seeds(
     alloc: Global,
     program: &Program,
-    setting: &Setting,
+    nodes: Nodes,
     tries: u32,
     outcomes: &[Outcome],
 ) -> Result<Vec<Option<u64>>, AllocError>
-    ensures { IfOk result (λ seeds. AreLeastSeeds program.now setting.now.nodes.count
-        (options_of setting.now) tries outcomes.now seeds.items) }
+    ensures { IfOk result (λ seeds. AreLeastSeeds program.now nodes.count tries outcomes.now
+        seeds.items) }
 {
     let mut seeds = vec![in alloc; None; outcomes.len()]?;
     for seed in 0..tries {
         if are_all_found(&seeds) {
             return Ok(seeds);
         }
-        try_seed(alloc, program, setting, seed, outcomes, &mut seeds)?;
+        try_seed(alloc, program, nodes, seed, outcomes, &mut seeds)?;
     }
     Ok(seeds)
 }
@@ -39,18 +38,17 @@ pub fn least_seeds(
 fn try_seed(
     alloc: Global,
     program: &Program,
-    setting: &Setting,
+    nodes: Nodes,
     seed: u32,
     outcomes: &[Outcome],
     seeds: &mut Vec<Option<u64>>,
 ) -> Result<(), AllocError>
-    requires { AreLeastSeeds program.now setting.now.nodes.count (options_of setting.now) seed
-        outcomes.now seeds.old.items }
-    ensures { OnOk result (AreLeastSeeds program.now setting.now.nodes.count
-        (options_of setting.now) (seed + 1) outcomes.now seeds.new.items) }
+    requires { AreLeastSeeds program.now nodes.count seed outcomes.now seeds.old.items }
+    ensures { OnOk result (AreLeastSeeds program.now nodes.count
+        (seed + 1) outcomes.now seeds.new.items) }
 {
     let seed = u64::from(seed);
-    let notes = notes_of_seed(alloc, program, setting, seed)?;
+    let notes = notes_of_seed(alloc, program, nodes, seed)?;
     match notes {
         Some(notes) => {
             mark(seeds, outcomes, &notes, seed);

@@ -6,14 +6,13 @@ use Rattle.std.specs.List.Sorted.{IsPermutation, IsSorted}
 use Rattle.std.specs.Ordering.{nat_cmp}
 use Rattle.lrc_program.specs.declared.Program.{Program}
 use Rattle.lrc_trace.specs.declared.act.Act.{Act}
-use Rattle.lrc_protocol.specs.Node.{OptionsRecord}
 use Rattle.lrc_orders.specs.declared.outcomes.Outcome.{Outcome}
 use Rattle.lrc_orders.specs.contracts.outcomes.OutcomePartialEq.TheImpl.{eq-value}
 use Rattle.lrc_orders.specs.Outcome.{HasOutcome}
 use Rattle.lrc_explore_text.specs.Outcomes.{none_ends, outcome_line}
 use Rattle.lrc_lazy.specs.Lazy.{IsLazyOutcome}
 use Rattle.lrc_lazy_search.specs.Searching.{FitsLazily, MeetsMore}
-use Rattle.lrc_lazy_run.specs.Seeds.{AreLeastSeeds, seed_options}
+use Rattle.lrc_lazy_run.specs.Seeds.{AreLeastSeeds}
 use Rattle.lrc_lazy_text.specs.declared.listed.ToldOutcome.{ToldOutcome}
 
 -- these are exactly the outcomes of the lazy runs after which no node can act, each once
@@ -21,10 +20,10 @@ pub record AreLazyOutcomes (program : Program) (nodes : ℕ) (outcomes : List Ou
   pub exact : (notes : List Act) → HasOutcome outcomes notes ↔ IsLazyOutcome program nodes notes
   pub once : IsDistinct eq-value.it outcomes
 
--- where the runs with these options of so many seeds are tried, each outcome has the least seed whose run has it, if there is one; else none has a seed
-abbrev pub AreSeedsFor : Program → (nodes : ℕ) → OptionsRecord → (tries : Option ℕ) → List Outcome → List (Option ℕ) → Type 0
-AreSeedsFor program nodes options (Some tries) outcomes seeds = AreLeastSeeds program nodes options tries outcomes seeds
-AreSeedsFor program nodes options None outcomes seeds = seeds ≡ replicate (length outcomes) None
+-- where the runs of so many seeds are tried, each outcome has the least seed whose run has it, if there is one; else none has a seed
+abbrev pub AreSeedsFor : Program → (nodes : ℕ) → (tries : Option ℕ) → List Outcome → List (Option ℕ) → Type 0
+AreSeedsFor program nodes (Some tries) outcomes seeds = AreLeastSeeds program nodes tries outcomes seeds
+AreSeedsFor program nodes None outcomes seeds = seeds ≡ replicate (length outcomes) None
 
 -- the line that counts the outcomes; where there are none, no run ends
 abbrev pub lazy_head : ℕ → List ℕ
@@ -61,7 +60,7 @@ pub record TellsLazyOutcomes (program : Program) (nodes : ℕ) (tries : Option �
   pub outcomes : List Outcome
   pub are : AreLazyOutcomes program nodes outcomes
   pub seeds : List (Option ℕ)
-  pub seeded : AreSeedsFor program nodes seed_options tries outcomes seeds
+  pub seeded : AreSeedsFor program nodes tries outcomes seeds
   pub listed : ListsLazyOutcomes nodes outcomes seeds out
 
 -- the search through the lazy runs met more states than it might

@@ -3,17 +3,15 @@
 ghost use Rattle.std.specs.Prelude.{◌≡◌, ◌≢◌, ◌++◌, IfErr, IfOk, OnOk, codes, decimal, length};
 ghost use Rattle.lrc_text.specs.Parts.{whole_text};
 ghost use Rattle.lrc_explore_text.specs.Outcomes.{none_ends};
-ghost use Rattle.lrc_node.specs.Options.{options_of};
 ghost use Rattle.lrc_lazy_text.specs.Listed.{AreSeedsFor, AreToldOf, FitLazyRuns, ListsLazyOutcomes, MetTooManyLazily, TellsLazyOutcomes, marked_line, marked_lines, seed_mark, told_pair};
 
 use lrc_explore_text::outcomes::outcome_line;
-use lrc_lazy_run::seed::seed_setting;
 use lrc_lazy_run::seeds::least_seeds;
 use lrc_lazy_search::search::lazy_outcomes;
 use lrc_orders::outcomes::Outcome;
 use lrc_orders::search::ExploreFault;
 use lrc_program::Program;
-use lrc_setting::setting::{Nodes, Setting};
+use lrc_setting::setting::Nodes;
 use lrc_text::push_number;
 use std::alloc::{AllocError, Global};
 
@@ -43,25 +41,24 @@ pub fn lazy_outcomes_told(
 {
     let found = lazy_outcomes(alloc, program, nodes.count, most)?;
     let outcomes = found.as_slice();
-    let setting = seed_setting(nodes);
-    let seeds = seeds_for(alloc, program, &setting, tries, outcomes)?;
+    let seeds = seeds_for(alloc, program, nodes, tries, outcomes)?;
     let parts = outcomes_listed(alloc, nodes.number(), outcomes, &seeds)?;
     Ok(parts)
 }
 
-/// Returns for each outcome the least seed whose run with this setting has it, where runs are tried, and none else.
-pub fn seeds_for(
+// The least seeds whose runs have these outcomes, where runs are tried.
+fn seeds_for(
     alloc: Global,
     program: &Program,
-    setting: &Setting,
+    nodes: Nodes,
     tries: Option<u32>,
     outcomes: &[Outcome],
 ) -> Result<Vec<Option<u64>>, AllocError>
-    ensures { IfOk result (λ seeds. AreSeedsFor program.now setting.now.nodes.count
-        (options_of setting.now) tries outcomes.now seeds.items) }
+    ensures { IfOk result (λ seeds. AreSeedsFor program.now nodes.count tries outcomes.now
+        seeds.items) }
 {
     match tries {
-        Some(tries) => least_seeds(alloc, program, setting, tries, outcomes),
+        Some(tries) => least_seeds(alloc, program, nodes, tries, outcomes),
         None => vec![in alloc; None; outcomes.len()],
     }
 }

@@ -3,7 +3,7 @@ use Rattle.std.specs.Prelude.{Option}
 use Rattle.lrc_text.specs.Parts.{whole_text}
 use Rattle.lrc_exact_judge.specs.Shape.{shape_of}
 use Rattle.lrc_node.specs.Options.{options_of}
-use Rattle.lrc_lazy_text.specs.Listed.{AreSeedsFor}
+use Rattle.lrc_exact_seeds.specs.Seeds.{AreSeedsFor}
 use Rattle.lrc_exact_text.specs.Listed.{ListsExactOutcomes}
 use Rattle.lrc_exact_text.proofs.Telling.{outcomes_found, seeds_long}
 use Rattle.lrc_exact_text.proofs.listed.told_in.Goals as goal

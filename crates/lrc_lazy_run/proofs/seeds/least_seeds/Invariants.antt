@@ -1,7 +1,6 @@
 -- The seeds are the least of those that were tried.
-use Rattle.lrc_node.specs.Options.{options_of}
 use Rattle.lrc_lazy_run.specs.Seeds.{AreLeastSeeds}
 use Rattle.lrc_lazy_run.proofs.seeds.least_seeds.Given as goal
 
 abbrev pub invariant-loop-seed : goal.invariant-loop-seed
-invariant-loop-seed l = AreLeastSeeds l.program l.setting.nodes.count (options_of l.setting) l.seed l.outcomes l.seeds.items
+invariant-loop-seed l = AreLeastSeeds l.program l.nodes.count l.seed l.outcomes l.seeds.items
