@@ -1,6 +1,6 @@
 // What the program answers to the command `explore`.
 
-ghost use Rattle.std.specs.Prelude.{◌≡◌, ◌≤◌, ◌⊎◌, IfErr, IfOk, None};
+ghost use Rattle.std.specs.Prelude.{◌≤◌, ◌⊎◌, IfErr, IfOk, None};
 ghost use Rattle.lrc_cli.specs.Answer.{HasFindingsFault, HasLazyFault, HasLazyRunFault, HasLineFault, HasOrdersFault, HasOutcomeFault, IsAnswerTo, IsExactAnswer, IsExactFault, IsExploration, IsFault, IsFaultIn, IsFlatAnswer, IsFlatFault};
 ghost use Rattle.lrc_cli.specs.Answer.{IsLazyAnswer, IsLazyFault, IsSaid, IsSearchFault, Prints, ShowsEnds, ShowsFindings, ShowsLazyOutcomes, ShowsLazyRun, ShowsOrders, ShowsOutcome};
 ghost use Rattle.lrc_cli_answer.specs.Texts.{IsTextFault, IsTextOf};
