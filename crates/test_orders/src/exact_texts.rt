@@ -94,7 +94,7 @@ fn outcomes_told(rt: HostRuntime) {
     passes(&rt, if seeded { None } else { Some("seeded") });
 }
 
-/// A program of which no order races, with one lock.
+/// A program whose two outcomes are told apart by which node acquires first.
 const LOCKS: &[u8] = b"words 2; locks 1; [me] = 1; acquire 0; x = [1 - me]; release 0; print x;";
 
 #[test]
