@@ -20,7 +20,8 @@ none_at zero k seed at = let never : ◌≡◌ {A = Option (Option ℕ)} None (S
 none_at (suc count) zero seed at = sym (same_Some None seed at)
 none_at (suc count) (suc k) seed at = none_at count k seed at
 
-pub none_tried : (program : Program) (nodes : ℕ) (options : OptionsRecord) (outcomes : List Outcome) (seeds : List (Option ℕ)) → seeds ≡ replicate (length outcomes) None
+pub none_tried : (program : Program) (nodes : ℕ) (options : OptionsRecord) (outcomes : List Outcome) (seeds : List (Option ℕ))
+    → seeds ≡ replicate (length outcomes) None
     → AreLeastSeeds program nodes options 0 outcomes seeds
 none_tried program nodes options outcomes seeds are = record {
   count = ap (λ (l : List (Option ℕ)). length l) are ∙ length-replicate {A = Option ℕ} (length outcomes) None;
@@ -32,8 +33,8 @@ none_tried program nodes options outcomes seeds are = record {
 -- ---- one seed more
 
 least_more : (program : Program) (nodes : ℕ) (options : OptionsRecord) (tried : ℕ) (outcome : Outcome) (notes : List Act) (before after : Option ℕ)
-    → IsAllOfSeed program nodes options tried (Some notes) → IsLeastSeed program nodes options tried outcome.notes.items before → IsMarked outcome notes tried before after
-    → IsLeastSeed program nodes options (tried + 1) outcome.notes.items after
+    → IsAllOfSeed program nodes options tried (Some notes) → IsLeastSeed program nodes options tried outcome.notes.items before
+    → IsMarked outcome notes tried before after → IsLeastSeed program nodes options (tried + 1) outcome.notes.items after
 least_more program nodes options tried outcome notes (Some seed) after all (lt, has, least) marked =
     subst (IsLeastSeed program nodes options (tried + 1) outcome.notes.items) (sym marked) (omega (arith, lt), has, least)
 least_more program nodes options tried outcome notes None after all none (inl (same, is)) =
@@ -43,7 +44,8 @@ least_more program nodes options tried outcome notes None after all none (inr (o
     subst (IsLeastSeed program nodes options (tried + 1) outcome.notes.items) (sym is)
     (λ s lt has. elim (cases_eq s tried) [
       | inl now ↦
-          other (sym (same_Some notes outcome.notes.items ((all outcome.notes.items).0 (subst (λ n. IsOutcomeOfSeed program nodes options n outcome.notes.items) now has))))
+          other (sym (same_Some notes outcome.notes.items
+          ((all outcome.notes.items).0 (subst (λ n. IsOutcomeOfSeed program nodes options n outcome.notes.items) now has))))
       | inr apart ↦ none s (omega (arith, lt, apart)) has
     ])
 
@@ -56,7 +58,8 @@ marked_more program nodes options tried outcomes notes old new all least marked 
       let within = slice_get_within new k seed at in
       let count = marked.count in
       let stood = item_at old k (omega (arith, within, count)) in
-      least_more program nodes options tried outcome notes stood.0 seed all (least.each k outcome stood.0 there stood.1) (marked.each k outcome stood.0 seed there stood.1 at);
+      least_more program nodes options tried outcome notes stood.0 seed all (least.each k outcome stood.0 there stood.1)
+      (marked.each k outcome stood.0 seed there stood.1 at);
 }
 
 -- a seed whose run has no outcome
@@ -69,8 +72,9 @@ none_more program nodes options tried notes None all none = λ s lt has. elim (c
   | inr apart ↦ none s (omega (arith, lt, apart)) has
 ]
 
-pub unmarked_more : (program : Program) (nodes : ℕ) (options : OptionsRecord) (tried : ℕ) (outcomes : List Outcome) (seeds : List (Option ℕ)) → IsAllOfSeed program nodes options tried None
-    → AreLeastSeeds program nodes options tried outcomes seeds → AreLeastSeeds program nodes options (tried + 1) outcomes seeds
+pub unmarked_more : (program : Program) (nodes : ℕ) (options : OptionsRecord) (tried : ℕ) (outcomes : List Outcome) (seeds : List (Option ℕ))
+    → IsAllOfSeed program nodes options tried None → AreLeastSeeds program nodes options tried outcomes seeds
+    → AreLeastSeeds program nodes options (tried + 1) outcomes seeds
 unmarked_more program nodes options tried outcomes seeds all least = record {
   count = least.count;
   each = λ k outcome seed there at. none_more program nodes options tried outcome.notes.items seed all (least.each k outcome seed there at);
@@ -91,7 +95,8 @@ later : (program : Program) (nodes : ℕ) (options : OptionsRecord) (tried tries
 later program nodes options tried tries notes (Some seed) le some (lt, has, least) = (omega (arith, lt, le), has, least)
 later program nodes options tried tries notes None le some none = absurd (some refl)
 
-pub all_later : (program : Program) (nodes : ℕ) (options : OptionsRecord) (tried tries : ℕ) (outcomes : List Outcome) (seeds : List (Option ℕ)) → tried ≤ tries → list_all is_some seeds ≡ true
+pub all_later : (program : Program) (nodes : ℕ) (options : OptionsRecord) (tried tries : ℕ) (outcomes : List Outcome) (seeds : List (Option ℕ))
+    → tried ≤ tries → list_all is_some seeds ≡ true
     → AreLeastSeeds program nodes options tried outcomes seeds → AreLeastSeeds program nodes options tries outcomes seeds
 all_later program nodes options tried tries outcomes seeds le all least = record {
   count = least.count;

@@ -14,7 +14,8 @@ pub notes_if_over-requires-clause-run : goal.notes_if_over-requires-clause-run
 notes_if_over-requires-clause-run c =
     let program = c.args.program.now in
     let lazy = is_lazy program c.args.setting.now.nodes.count (options_of c.args.setting.now) c.args.seed Newest c.in-Ok.run' c.in-Ok.ensures.run in
-    subst (λ n. IsLazyRun program n c.deref.result.now) (sym c.number.ensures) (subst (IsLazyRun program c.args.setting.now.nodes.count) (sym c.deref.ensures.value) lazy)
+    subst (λ n. IsLazyRun program n c.deref.result.now) (sym c.number.ensures)
+    (subst (IsLazyRun program c.args.setting.now.nodes.count) (sym c.deref.ensures.value) lazy)
 
 pub returns-in-Ok : goal.returns-in-Ok
 returns-in-Ok c =
@@ -30,4 +31,6 @@ returns-in-Ok c =
     c.notes_if_over.ensures
 
 pub returns-in-Err-Worn : goal.returns-in-Err-Worn
-returns-in-Err-Worn c = none_of_worn c.args.program.now c.args.setting.now.nodes.count (options_of c.args.setting.now) c.args.seed (rw c.in-Err-Worn.field-0-is at c.in-Err-Worn.ensures.fault)
+returns-in-Err-Worn c =
+    none_of_worn c.args.program.now c.args.setting.now.nodes.count (options_of c.args.setting.now) c.args.seed
+    (rw c.in-Err-Worn.field-0-is at c.in-Err-Worn.ensures.fault)

@@ -6,7 +6,9 @@ use Rattle.lrc_exact_seeds.proofs.Marking.{all_later, none_tried}
 use Rattle.lrc_exact_seeds.proofs.seeds.least_seeds.Goals as goal
 
 pub loop-seed-init : goal.loop-seed-init
-loop-seed-init c = none_tried c.args.program.now c.args.setting.now.nodes.count (options_of c.args.setting.now) c.args.outcomes.now c.in_ok-seeds.seeds.items (search rules)
+loop-seed-init c =
+    none_tried c.args.program.now c.args.setting.now.nodes.count (options_of c.args.setting.now) c.args.outcomes.now c.in_ok-seeds.seeds.items
+    (search rules)
 
 pub returns-then-are_all_found : goal.returns-then-are_all_found
 returns-then-are_all_found c =
