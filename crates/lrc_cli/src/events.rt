@@ -46,7 +46,8 @@ fn events_in_memory(
         program.now number) }
 {
     match exploring.memory {
-        Memory::Flat | Memory::Lazy => outcome_events(alloc, exploring, program, number),
+        Memory::Flat => outcome_events(alloc, exploring, program, number),
+        Memory::Lazy => outcome_events(alloc, exploring, program, number),
         Memory::Exact(options) => {
             one_exact_run_as_events(alloc, exploring, options, program, number)
         }
