@@ -1,9 +1,10 @@
 // A run as a picture.
 
-ghost use Rattle.std.specs.Prelude.{◌≡◌, IfErr, IfOk, Some, map, option_map};
+ghost use Rattle.std.specs.Prelude.{◌≡◌, ◌<◌, All, IfErr, IfOk, Some, map, option_map};
 ghost use Rattle.lrc_cli_runs.specs.Charted.{AreInvalidIn, AreWaitsIn, IsChart, IsCharted, IsChartFault, IsDrawn, part_of, source_of};
 ghost use Rattle.lrc_cli_runs.specs.Runs.{IsRunWith, turns_in};
 ghost use Rattle.lrc_cli_runs.specs.Shown.{IsShowFault};
+ghost use Rattle.lrc_judge.specs.FirstPairs.{AreFirstPairs};
 ghost use Rattle.lrc_program.specs.declared.Program.{Program as AnyProgram};
 ghost use Rattle.lrc_explain_waits.specs.Circles.{waits_of};
 ghost use Rattle.lrc_explain_waits.specs.Stand.{stands_of};
@@ -25,7 +26,8 @@ use lrc_cli_answer::fault::Fault;
 use lrc_cli_answer::printout::in_one;
 use lrc_cli_args::choice::{Charting, RunChoice, RunOptions};
 use lrc_explain_waits::{stands_of, waits_of};
-use lrc_judge::first_pairs::first_pairs;
+use lrc_judge::first_pairs::{Pair, first_pairs};
+use lrc_judge::order::happens_before;
 use lrc_labels::read_labels;
 use lrc_lines::walks::follow_acts;
 use lrc_node::options_of;
@@ -61,7 +63,7 @@ pub(crate) fn charted(
     let places = lines_kept(alloc, source, &run.origins.statements)?;
     let lines = places.as_slice();
     let times = &run.origins.times;
-    let found = first_pairs(alloc, acts)?;
+    let found = pairs_of(alloc, acts)?;
     let pairs = found.as_slice();
     let order = order_of(alloc, run)?;
     let made = turns_of(alloc, &run.report.logs, &order)?;
@@ -86,6 +88,15 @@ pub(crate) fn charted(
     let title = title_of(alloc, choice, &charting)?;
     let part = chart_part(alloc, charting, &title, nodes, &course, read.shown())?;
     Ok(in_one(alloc, part)?)
+}
+
+// Of each race that the acts of a run name the first pair.
+fn pairs_of(alloc: Global, acts: &[Act]) -> Result<Vec<Pair>, AllocError>
+    requires { All (λ act. act.node < 16) acts.now }
+    ensures { IfOk result (λ pairs. AreFirstPairs acts.now pairs.items) }
+{
+    let order = happens_before(alloc, acts)?;
+    first_pairs(alloc, &order, acts)
 }
 
 // For whom each node waits when a run has made these acts.

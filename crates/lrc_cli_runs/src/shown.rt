@@ -1,6 +1,7 @@
 // What the program answers to a run without threads, and what is shown of any run.
 
 ghost use Rattle.std.specs.Prelude.{◌≡◌, ◌<◌, All, IfErr, IfOk, false, is_some, length, option_map};
+ghost use Rattle.lrc_judge.specs.Order.{IsOrderOf};
 ghost use Rattle.lrc_cli_runs.specs.Showing.{RefusesRun, ShowsRun};
 ghost use Rattle.lrc_cli_runs.specs.Explained.{IsExplained};
 ghost use Rattle.lrc_cli_runs.specs.Shown.{IsRunFor, IsShowFault, IsShown, keep_for, shown_status};
@@ -19,6 +20,7 @@ use lrc_cli_answer::printout::{Printout, in_one};
 use lrc_cli_args::choice::{Form, RunChoice, RunOptions, Shape};
 use lrc_explain::explain;
 use lrc_explain_waits::traps_told;
+use lrc_judge::order::{Order, happens_before};
 use lrc_node::End;
 use lrc_report::report::{run_parts, status_after_run};
 use lrc_source::read_text::ReadText;
@@ -139,12 +141,28 @@ fn parts_of(
     match shape {
         Shape::Report => Ok(run_parts(alloc, acts, &report.ends, &report.races, first_race)?),
         Shape::Trace(form) => traced(alloc, form, source, options, run),
-        Shape::Explain => Ok(explained(alloc, source, options, acts, first_race)?),
+        Shape::Explain => Ok(explained_alone(alloc, source, options, acts, first_race)?),
         Shape::Stats => Ok(counted(alloc, run)?),
         Shape::Chart(charting) => charted(alloc, charting, choice, source, run),
         Shape::Step(part) => stepped(alloc, part, source, options, run),
         Shape::Why(asking) => Ok(reasons_of_run(alloc, source, options, acts, &asking)?),
     }
+}
+
+// The report of a run with reasons, of acts whose order is not known yet.
+fn explained_alone(
+    alloc: Global,
+    source: &Source<'_>,
+    options: &RunOptions<'_>,
+    acts: &[Act],
+    first_race: Option<usize>,
+) -> Result<Vec<Vec<u8>>, AllocError>
+    requires { All (λ act. act.node < 16) acts.now }
+    ensures { IfOk result (λ parts. IsExplained source.now.text source.now.program options.now
+        acts.now first_race (whole_text parts.items)) }
+{
+    let order = happens_before(alloc, acts)?;
+    explained(alloc, source, options, acts, &order, first_race)
 }
 
 /// Returns the report of a run with reasons, with the labels of the text.
@@ -153,9 +171,11 @@ pub(crate) fn explained(
     source: &Source<'_>,
     options: &RunOptions<'_>,
     acts: &[Act],
+    order: &Order,
     first_race: Option<usize>,
 ) -> Result<Vec<Vec<u8>>, AllocError>
-    requires { All (λ act. act.node < 16) acts.now }
+    requires nodes { All (λ act. act.node < 16) acts.now }
+    requires order { IsOrderOf acts.now order.now }
     ensures { IfOk result (λ parts. IsExplained source.now.text source.now.program options.now
         acts.now first_race (whole_text parts.items)) }
 {
@@ -170,6 +190,7 @@ pub(crate) fn explained(
         nodes,
         options.steps.count,
         acts,
+        order,
         first_race,
     )
 }

@@ -129,14 +129,16 @@ fn explained_text(
     source: &Source<'_>,
     options: &RunOptions<'_>,
     run: &Run,
+    order: &Order,
 ) -> Result<Vec<u8>, AllocError>
     requires ran { (keep : AnyKeep) × IsRunWith source.now.program options.now keep run.now }
+    requires order { IsOrderOf run.now.report.acts.items order.now }
     ensures { IfOk result (λ told. IsExplained source.now.text source.now.program options.now
         run.now.report.acts.items
         run.now.report.first_race told.items) }
 {
     let acts = run.report.acts.as_slice();
-    let parts = explained(alloc, source, options, acts, run.report.first_race)?;
+    let parts = explained(alloc, source, options, acts, order, run.report.first_race)?;
     joined(alloc, &parts)
 }
 
@@ -200,8 +202,8 @@ pub(crate) fn stepped(
         run.now) }
 {
     let states = stated(alloc, part, source, options, run)?;
-    let explained = explained_text(alloc, source, options, run)?;
     let order = happens_before(alloc, &run.report.acts)?;
+    let explained = explained_text(alloc, source, options, run, &order)?;
     let races = races_text(alloc, part, source, options, run, &order)?;
     let reasons = reasons_text(alloc, part, source, options, run, &order)?;
     let name = name_of(alloc, options.file.as_bytes())?;

@@ -4,6 +4,7 @@ ghost use Rattle.std.specs.Prelude.{◌≡◌, ◌<◌, ◌++◌, List, All, IfO
 ghost use Rattle.lrc_judge.specs.declared.TheConstants.{NODES};
 ghost use Rattle.lrc_judge.specs.declared.lanes.Pair.{Pair as PairRecord};
 ghost use Rattle.lrc_judge.specs.FirstPairs.{AreFirstPairs};
+ghost use Rattle.lrc_judge.specs.Order.{IsOrderOf};
 ghost use Rattle.lrc_labels.specs.Reading.{label_seen};
 ghost use Rattle.lrc_named_core.specs.View.{trap_of};
 ghost use Rattle.lrc_text.specs.Parts.{whole_text};
@@ -17,6 +18,7 @@ use lrc_exec::code::Code;
 use lrc_explain_waits::{Stand, push_deadlocks, push_end, stands_of, trap_at};
 use lrc_judge::NODES;
 use lrc_judge::first_pairs::first_pairs;
+use lrc_judge::order::Order;
 use lrc_labels::label::Label;
 use lrc_lines::walks::follow_acts;
 use lrc_named_core::tree::Trap;
@@ -107,6 +109,7 @@ fn parts_of(
 /// the circles of waiting; the races by groups; and the first race. `lines` has the lines of the program's statements,
 /// and of the text's end behind them. Each node has `steps` steps. The labels of words and locks follow their numbers.
 /// `traps` has, for each node, what the text says of a trap of the statement to which it has come; or it is empty.
+/// `order` is the happens-before order of the acts.
 pub fn explain(
     alloc: Global,
     labels: &[Label<'_>],
@@ -116,9 +119,11 @@ pub fn explain(
     nodes: u8,
     steps: u32,
     acts: &[Act],
+    order: &Order,
     first_race: Option<usize>,
 ) -> Result<Vec<Vec<u8>>, AllocError>
-    requires { All (λ act. act.node < NODES) acts.now }
+    requires nodes { All (λ act. act.node < NODES) acts.now }
+    requires order { IsOrderOf acts.now order.now }
     ensures { IfOk result (λ parts. (pairs : List PairRecord) × AreFirstPairs acts.now pairs
         × (whole_text parts.items
         ≡ explain_text (map label_seen labels.now) (map trap_of traps.now) code.now nodes lines.now
@@ -126,7 +131,7 @@ pub fn explain(
 {
     let followed = follow_acts(alloc, code, lines, nodes, acts)?;
     let stands = stands_of(alloc, &followed, nodes, Some(steps), acts)?;
-    let pairs = first_pairs(alloc, acts)?;
+    let pairs = first_pairs(alloc, order, acts)?;
     let told = nodes_part(alloc, labels, traps, acts, &stands)?;
     let deadlocks = deadlocks_part(alloc, &stands)?;
     let groups = groups_part(alloc, labels, acts, &followed.lines, &pairs)?;

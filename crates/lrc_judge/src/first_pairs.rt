@@ -3,11 +3,13 @@ ghost use Rattle.std.specs.Prelude.{◌≡◌, ◌<◌, All, IfOk, length};
 ghost use Rattle.lrc_judge.specs.declared.TheConstants.{NODES};
 ghost use Rattle.lrc_judge.specs.FirstPairs.{AreFirstPairs};
 ghost use Rattle.lrc_judge.specs.Leaders.{AreLeaders};
+ghost use Rattle.lrc_judge.specs.Order.{IsOrderOf};
 ghost use Rattle.lrc_judge.specs.Races.{IsNameOf};
 
 use crate::NODES;
 use crate::firsts::intervals_of;
 pub use crate::lanes::Pair;
+use crate::order::Order;
 use crate::races::{race_of_places, race_pairs, word_of};
 use lrc_trace::act::Act;
 use lrc_trace::race::Race;
@@ -52,17 +54,18 @@ fn leaders_of(
     Ok(leaders)
 }
 
-/// Returns the first pair of each race that a run names. Among the pairs with the same race, it is the one whose later
+/// Returns the first pair of each race that a run names, given its happens-before order. Among the pairs with the same race, it is the one whose later
 /// act comes first, and among these the one whose earlier act comes first.
 ///
 /// The pairs are sorted by the later act, then by the earlier, each once. The cost is nearly linear in the acts times
 /// the nodes, plus the races. It fails only if memory runs out.
-pub fn first_pairs(alloc: Global, acts: &[Act]) -> Result<Vec<Pair>, AllocError>
-    requires { All (λ act. act.node < NODES) acts.now }
+pub fn first_pairs(alloc: Global, order: &Order, acts: &[Act]) -> Result<Vec<Pair>, AllocError>
+    requires order { IsOrderOf acts.now order.now }
+    requires nodes { All (λ act. act.node < NODES) acts.now }
     ensures { IfOk result (λ pairs. AreFirstPairs acts.now pairs.items) }
 {
     let intervals = intervals_of(alloc, acts)?;
-    let mut pairs = race_pairs(alloc, acts, intervals.as_slice())?;
+    let mut pairs = race_pairs(alloc, order, acts, intervals.as_slice())?;
     pairs.sort_unstable();
     let mut leaders = leaders_of(alloc, acts, intervals.as_slice(), pairs.as_slice())?;
     leaders.sort_unstable();

@@ -3,13 +3,14 @@ ghost use Rattle.std.specs.Prelude.{◌≡◌, ◌<◌, All, IfOk, OnOk, length}
 ghost use Rattle.lrc_judge.specs.declared.TheConstants.{NODES};
 ghost use Rattle.lrc_judge.specs.Adding.{Adds, IsOfSome};
 ghost use Rattle.lrc_judge.specs.Firsts.{AreFirstEntries, AreIntervals};
+ghost use Rattle.lrc_judge.specs.Order.{IsOrderOf};
 ghost use Rattle.lrc_judge.specs.Races.{AreNamedRaces, AreRacePairs, IsNameOf, race_of_places, word_of};
 
 use crate::NODES;
 use crate::entries::{Told, entries_of};
 use crate::firsts::{firsts_of, intervals_of};
 use crate::lanes::{Entry, Pair};
-use crate::order::happens_before;
+use crate::order::{Order, happens_before};
 use crate::pairs::add_crossing;
 use lrc_trace::act::{Act, Deed};
 use lrc_trace::race::Race;
@@ -66,19 +67,20 @@ fn first_entries(
 // Pairs that race, among them one for each race that the run names: those of the first accesses of intervals.
 pub(crate) fn race_pairs(
     alloc: Global,
+    order: &Order,
     acts: &[Act],
     intervals: &[u64],
 ) -> Result<Vec<Pair>, AllocError>
+    requires order { IsOrderOf acts.now order.now }
     requires nodes { All (λ act. act.node < NODES) acts.now }
     requires intervals { AreIntervals acts.now (length acts.now) intervals.now }
     ensures { IfOk result (λ pairs. AreRacePairs acts.now pairs.items) }
 {
-    let order = happens_before(alloc, acts)?;
     let accesses = first_entries(alloc, acts, Told::EachAccess, intervals)?;
     let writes = first_entries(alloc, acts, Told::EachWrite, intervals)?;
     let mut pairs = Vec::new(alloc);
-    add_crossing(&mut pairs, &order, accesses.as_slice(), writes.as_slice())?;
-    add_crossing(&mut pairs, &order, writes.as_slice(), accesses.as_slice())?;
+    add_crossing(&mut pairs, order, accesses.as_slice(), writes.as_slice())?;
+    add_crossing(&mut pairs, order, writes.as_slice(), accesses.as_slice())?;
     Ok(pairs)
 }
 
@@ -112,8 +114,9 @@ pub fn named_races(alloc: Global, acts: &[Act]) -> Result<Vec<Race>, AllocError>
     requires { All (λ act. act.node < NODES) acts.now }
     ensures { IfOk result (λ races. AreNamedRaces acts.now races.items) }
 {
+    let order = happens_before(alloc, acts)?;
     let intervals = intervals_of(alloc, acts)?;
-    let pairs = race_pairs(alloc, acts, intervals.as_slice())?;
+    let pairs = race_pairs(alloc, &order, acts, intervals.as_slice())?;
     let mut races = Vec::new(alloc);
     add_names(&mut races, acts, intervals.as_slice(), pairs.as_slice())?;
     races.sort_unstable();

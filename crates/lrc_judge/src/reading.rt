@@ -13,7 +13,7 @@ ghost use Rattle.lrc_judge.specs.Written.{AreFlags, IsWrittenOf};
 ghost use Rattle.lrc_judge.specs.declared.TheConstants.{NODES};
 
 use crate::NODES;
-use crate::order::{Order, happens_before};
+use crate::order::Order;
 use crate::written::Written;
 use lrc_trace::act::{Act, Deed};
 use std::alloc::{AllocError, Global};
@@ -121,26 +121,27 @@ fn add_written(
     Ok(())
 }
 
-/// Returns the values that a read of the word at this position may give, ascending, each once. If the writes that
+/// Returns the values that a read of the word at this position may give, ascending, each once, given the run's
+/// happens-before order. If the writes that
 /// happen before it are ordered, this is the last one's value, or 0 if there are none. Otherwise these are 0 and all
 /// values that they wrote. It fails only if memory runs out.
 pub fn values_allowed(
     alloc: Global,
+    order: &Order,
     acts: &[Act],
     position: usize,
     word: u32,
 ) -> Result<Vec<u64>, AllocError>
-    requires nodes { All (λ act. act.node < NODES) acts.now }
+    requires order { IsOrderOf acts.now order.now }
     requires within { position < length acts.now }
     ensures { IfOk result (λ values. AreAllowed acts.now position word values.items) }
 {
-    let order = happens_before(alloc, acts)?;
-    let tally = tally_of(&order, acts, position, word);
+    let tally = tally_of(order, acts, position, word);
     let mut values = Vec::new(alloc);
     if tally.are_ordered {
         values.push(tally.latest())?;
     } else {
-        add_written(&mut values, &order, acts, position, word)?;
+        add_written(&mut values, order, acts, position, word)?;
     }
     values.sort_unstable();
     values.dedup();

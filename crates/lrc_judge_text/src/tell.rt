@@ -11,6 +11,7 @@ ghost use Rattle.lrc_judge_text.specs.Judgement.{AddsText, TellsLazyReading, Tel
 use lrc_acts::judge_lines::{Place, push_unlazy, push_unordered, push_unsynchronized};
 use lrc_judge::NODES;
 use lrc_judge::in_order::{OutOfOrder, first_out_of_order};
+use lrc_judge::order::happens_before;
 use lrc_judge::races::named_races;
 use lrc_judge::reading::{first_fault_of_reading, values_allowed};
 use lrc_judge::synchronization::first_fault_of_synchronization;
@@ -113,7 +114,8 @@ fn tell_unlazy(
     let Some(read) = read_at(acts, position) else {
         unreachable!()
     };
-    let allowed = values_allowed(alloc, acts, position, read.word)?;
+    let order = happens_before(alloc, acts)?;
+    let allowed = values_allowed(alloc, &order, acts, position, read.word)?;
     push_unlazy(text, place_at(lines, position), read.value, &allowed)?;
     Ok(())
 }

@@ -1,5 +1,6 @@
 pub mod Among
 pub mod Each
+pub mod FirstPlaces
 pub mod Measure
 pub mod Rows
 pub mod Unique

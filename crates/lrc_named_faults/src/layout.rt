@@ -33,9 +33,7 @@ impl<'n, 'p> Layout<'n, 'p> {
         ensures uncounted { result.nodes ≡ None }
     {
         Layout {
-            names: Names {
-                declared: Vec::new(alloc),
-            },
+            names: Names::new(alloc),
             extents: Vec::new(alloc),
             words: 0,
             locks: 0,
@@ -58,7 +56,7 @@ impl<'n, 'p> Layout<'n, 'p> {
             meaning,
         };
         self.extents.push(extent)?;
-        self.names.declared.push(declared)?;
+        self.names.declare(declared)?;
         Ok(())
     }
 }

@@ -1,3 +1,4 @@
 pub mod Elements
 pub mod Names
+pub mod Places
 pub mod View

@@ -1,13 +1,11 @@
 // The table of what is declared.
 
-ghost use Rattle.std.specs.Prelude.{◌≡◌, Some, map, option_map};
-ghost use Rattle.std.specs.Str.{bytes_eq};
-ghost use Rattle.lrc_named_tree.specs.View.{named_of, expression_of};
-ghost use Rattle.lrc_named_names.specs.Names.{IsFunction, function, meaning_at, place_of};
-ghost use Rattle.lrc_named_names.specs.View.{declared_of, entry_of, meaning_seen};
+ghost use Rattle.lrc_named_names.specs.Places.{ArePlaces};
 
 use crate::item::Item;
 use lrc_named_tree::tree::{Expression, Name};
+use std::alloc::{AllocError, Global};
+use std::collections::HashMap;
 
 /// What a declared name means.
 #[derive(Drop)]
@@ -34,33 +32,56 @@ pub struct Declared<'n, 'p> {
 #[derive(Drop)]
 pub struct Names<'n, 'p> {
     pub declared: Vec<Declared<'n, 'p>>,
-}
-
-// Whether a declared name is this one.
-fn is_named(declared: &Declared<'_, '_>, name: &[u8]) -> bool
-    ensures { result ≡ bytes_eq (entry_of declared.now).name name.now }
-{
-    declared.name == name
-}
-
-// The place of a name among these; of a name that is not among them, how many these are.
-fn place_among(declared: &[Declared<'_, '_>], name: &[u8]) -> usize
-    ensures { result ≡ place_of (map entry_of declared.now) name.now }
-{
-    for (i, entry) in declared.iter().enumerate() {
-        if is_named(entry, name) {
-            return i;
-        }
-    }
-    declared.len()
+    // The place of each declared name: of one that is declared more than once the first.
+    places: HashMap<&'p [u8], usize>,
+    ghost placed: { ArePlaces declared.items places },
 }
 
 impl<'n, 'p> Names<'n, 'p> {
+    ghost use Rattle.std.specs.Prelude.{◌≡◌, ◌++◌, ◌∷◌, [], OnErr, OnOk, Some, map, option_map};
+    ghost use Rattle.lrc_named_tree.specs.View.{named_of, expression_of};
+    ghost use Rattle.lrc_named_names.specs.Names.{IsFunction, function, meaning_at, place_of};
+    ghost use Rattle.lrc_named_names.specs.View.{declared_of, entry_of, meaning_seen};
+
+    /// Returns the table in which nothing is declared.
+    pub fn new(alloc: Global) -> Names<'n, 'p>
+        ensures { declared_of result ≡ [] }
+    {
+        Names {
+            declared: Vec::new(alloc),
+            places: HashMap::new(alloc),
+        }
+    }
+
+    /// Declares a name, behind those that are declared. It fails only if memory runs out; then nothing is declared.
+    pub fn declare(&mut self, declared: Declared<'n, 'p>) -> Result<(), AllocError>
+        ensures declared { OnOk result (declared_of self.new
+            ≡ declared_of self.old ++ entry_of declared.entry ∷ []) }
+        ensures unchanged { OnErr result (declared_of self.new ≡ declared_of self.old) }
+    {
+        let name = declared.name;
+        let place = self.declared.len();
+        self.declared.push(declared)?;
+        if self.places.contains_key(name) {
+            return Ok(());
+        }
+        match self.places.insert(name, place) {
+            Ok(_) => Ok(()),
+            Err(_) => {
+                self.declared.pop();
+                Err(AllocError)
+            }
+        }
+    }
+
     /// Returns the place of a name among the declared ones; of a name that is not declared, how many these are.
     pub fn place(&self, name: &[u8]) -> usize
         ensures { result ≡ place_of (declared_of self.now) name.now }
     {
-        place_among(&self.declared, name)
+        match self.places.get(name) {
+            Some(place) => *place,
+            None => self.declared.len(),
+        }
     }
 
     /// Returns what the name at a place means, if there is one.

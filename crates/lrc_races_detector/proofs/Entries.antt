@@ -3,6 +3,7 @@ use Rattle.std.proofs.Common.{◌≡◌, ◌≢◌, ℕ, zero, suc, List, [], �
 use Rattle.std.proofs.lemmas.Bool.{cases_eq}
 use Rattle.std.specs.Prelude.{Option, None, Some, slice_index}
 use Rattle.lrc_races_detector.specs.declared.vectors.Entry.{Entry}
+use Rattle.lrc_races_detector.specs.Chunks.{IsLowered}
 use Rattle.lrc_races_detector.specs.Vectors.{IsPut, IsRaised, apart_at, raised_at, with_apart}
 
 raised_here : (thread value : ℕ) (xs : List ℕ) → slice_index (raised_at thread value xs) thread ≡ max (slice_index xs thread) value
@@ -141,11 +142,11 @@ pub settled_none : (o : Option Entry) (xs : List ℕ) → o ≡ None → (other 
 settled_none o xs is other = sym (ap (λ (a : Option Entry). slice_index (with_apart a xs) other) is)
 
 pub put_apart : (thread value : ℕ) (before xs ys : List ℕ) → ((other : ℕ) → other ≢ thread → slice_index xs other ≡ slice_index before other)
-    → IsPut xs ys thread 0 → IsPut before (raised_at thread value ys) thread value
-put_apart thread value before xs ys settled cleared = record {
+    → IsLowered xs ys thread value → IsPut before (raised_at thread value ys) thread value
+put_apart thread value before xs ys settled lowered = record {
   here =
       let at = raised_here thread value ys in
-      let none = cleared.here in
-      omega (arith, at, none);
-  others = λ p ne. raised_other thread value ys p ne ∙ cleared.others p ne ∙ settled p ne;
+      let most = lowered.here in
+      omega (arith, at, most);
+  others = λ p ne. raised_other thread value ys p ne ∙ lowered.others p ne ∙ settled p ne;
 }

@@ -1,4 +1,5 @@
 pub mod Pushing
+pub mod Chunking
 pub mod Entries
 pub mod Gathering
 pub mod Handing
@@ -6,6 +7,7 @@ pub mod Holding
 pub mod Giving
 pub mod Noting
 pub mod Telling
+pub mod Covering
 pub mod Written
 pub mod Collecting
 pub mod Pairs

@@ -6,20 +6,15 @@ use Rattle.std.proofs.lemmas.Option.{same_Some}
 use Rattle.std.proofs.lemmas.Bool.{cases_eq}
 use Rattle.lrc_races_trace.specs.declared.event.Event.{Event}
 use Rattle.lrc_races_trace.specs.declared.event.Placed.{Placed}
-use Rattle.lrc_races_trace.specs.declared.event.Operation.{Operation}
 use Rattle.lrc_races_trace.specs.declared.event.Operation.TheVariants.{Read, Write}
 use Rattle.lrc_races_trace.specs.Trace.{At, Accesses, Writes}
 use Rattle.lrc_races_trace.proofs.Positions.{At-one}
 use Rattle.lrc_races_detector.specs.declared.variables.Last.{Last}
 use Rattle.lrc_races_detector.specs.declared.variables.Variables.{Variables}
+use Rattle.lrc_races_detector.specs.Covers.{operation_of}
 use Rattle.lrc_races_detector.specs.Variables.{thread_of, lasts_of, write_of, noted, IsAscending, IsNoted, IsNotedAt}
 use Rattle.lrc_races_detector.specs.Knowing.{IsLastAt, IsLastOf, IsLast, IsRow, AccessOf, WriteOf, AreVariables}
 use Rattle.lrc_races_detector.proofs.Pairs.{pairs-append, pairs-left, pairs-right}
-
--- the operation is a write, or a read
-abbrev pub operation_of : Bool → ℕ → Operation
-operation_of true v = Write v
-operation_of false v = Read v
 
 module _ (events : List Event) (n : ℕ) (These : ℕ → Type 0) where
   pub last-same : (o : Option Placed) → (These n → ⊥) → IsLastOf events n These o → IsLastOf events (n + 1) These o
@@ -83,7 +78,7 @@ module _ (events : List Event) (n : ℕ) (b : Event) (here : At events n b) wher
   variables_kept variables no_read no_write old v =
       row_kept v (lasts_of variables v) (λ u h. elim ((access_here v u h).1) [ inl r ↦ no_read v r | inr w ↦ no_write v w ]) (old v)
 
-  one_variable : (is_write : Bool) (v w : ℕ) → b.operation ≡ operation_of is_write v → Accesses b w → w ≡ v
+  pub one_variable : (is_write : Bool) (v w : ℕ) → b.operation ≡ operation_of is_write v → Accesses b w → w ≡ v
   one_variable true v w e (inl r) = let never : ⊥ = cc in absurd never
   one_variable true v w e (inr h) = cc
   one_variable false v w e (inl r) = cc

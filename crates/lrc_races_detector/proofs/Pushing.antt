@@ -1,5 +1,5 @@
--- What a list says at each index, where one element is pushed or set.
-use Rattle.std.proofs.Common.{◌≡◌, ◌≢◌, ℕ, zero, suc, ◌<◌, List, [], ◌∷◌, length, set, refl, ap, arith}
+-- What a list says at each index, where one element is set or pushed.
+use Rattle.std.proofs.Common.{◌≡◌, ◌≢◌, ℕ, zero, suc, ◌<◌, List, [], ◌∷◌, ◌++◌, length, set, refl, ap, arith}
 use Rattle.std.specs.Prelude.{Some, slice_get}
 
 pub slice_get-set_same : {X : Type 0} (xs : List X) (i : ℕ) (y : X) → i < length xs → slice_get (set xs i y) i ≡ Some y
@@ -13,3 +13,12 @@ slice_get-set_other (x ∷ xs) zero y zero h = absurd (h refl)
 slice_get-set_other (x ∷ xs) zero y (suc k) h = refl
 slice_get-set_other (x ∷ xs) (suc i) y zero h = refl
 slice_get-set_other (x ∷ xs) (suc i) y (suc k) h = slice_get-set_other xs i y k (λ e. h (ap suc e))
+
+pub slice_get-push_old : {X : Type 0} (xs : List X) (y : X) (k : ℕ) → k < length xs → slice_get (xs ++ y ∷ []) k ≡ slice_get xs k
+slice_get-push_old [] y k h = absurd (omega arith)
+slice_get-push_old (x ∷ xs) y zero h = refl
+slice_get-push_old (x ∷ xs) y (suc k) h = slice_get-push_old xs y k (omega arith)
+
+pub slice_get-push_new : {X : Type 0} (xs : List X) (y : X) → slice_get (xs ++ y ∷ []) (length xs) ≡ Some y
+slice_get-push_new [] y = refl
+slice_get-push_new (x ∷ xs) y = slice_get-push_new xs y

@@ -16,10 +16,10 @@ use Rattle.lrc_races_trace.specs.Races.{Conflict, Races, IsTold, ComesFirst, Are
 use Rattle.lrc_races_trace.proofs.Positions.{At-one}
 use Rattle.lrc_races_trace.proofs.HappensBefore.{transitive}
 use Rattle.lrc_races_detector.specs.declared.variables.Last.{Last}
+use Rattle.lrc_races_detector.specs.Covers.{operation_of}
 use Rattle.lrc_races_detector.specs.Variables.{thread_of, told_with, told_one, told_at, told_below}
 use Rattle.lrc_races_detector.specs.Knowing.{Gathers, IsLastAt, IsLastOf, IsLast, IsRow, AccessOf, WriteOf}
 use Rattle.lrc_races_detector.proofs.Gathering.{Gathers-one}
-use Rattle.lrc_races_detector.proofs.Noting.{operation_of}
 use Rattle.lrc_races_detector.proofs.Pairs.{contained_at}
 
 -- ---- the list, as a program makes it
@@ -55,7 +55,7 @@ rival_last : (events : List Event) (n v : ℕ) (w : Bool) (last : Last) → IsLa
 rival_last events n v true last is = is.access
 rival_last events n v false last is = is.write
 
-rival_access : (events : List Event) (v u k : ℕ) (w : Bool) → Rival events w v u k → AccessOf events v u k
+pub rival_access : (events : List Event) (v u k : ℕ) (w : Bool) → Rival events w v u k → AccessOf events v u k
 rival_access events v u k true h = h
 rival_access events v u k false (a, at, of, writes) = (a, at, of, inr writes)
 
@@ -85,7 +85,7 @@ module _ (events : List Event) (later : Placed) (here : At events later.position
         | inr h ↦ let never : ⊥ = cc in absurd never
       ]
 
-  race_rival : (u k : ℕ) (a : Event) → At events k a → a.thread ≡ u → Races events k n → Rival events w v u k
+  pub race_rival : (u k : ℕ) (a : Event) → At events k a → a.thread ≡ u → Races events k n → Rival events w v u k
   race_rival u k a at of r =
       let first : r.a ≡ a = At-one r.first at in
       let second : r.b ≡ b = At-one r.second here in
@@ -104,7 +104,7 @@ module _ (events : List Event) (later : Placed) (here : At events later.position
   rival_at u k apart h = let (a, at, of, conflict) = rival_conflict w op u k apart h in (a, at, of)
 
   -- whether an access before n is known says whether it happens before n
-  known_before : (k : ℕ) (a : Event) → At events k a → k < n → k < get_or known a.thread 0 → HappensBefore events k n
+  pub known_before : (k : ℕ) (a : Event) → At events k a → k < n → k < get_or known a.thread 0 → HappensBefore events k n
   known_before k a at lt below = elim (Gathers-one events n known g k a at below) [ inl same ↦ absurd (omega arith) | inr h ↦ h ]
 
   before_known : (k : ℕ) (a : Event) → At events k a → HappensBefore events k n → k < get_or known a.thread 0

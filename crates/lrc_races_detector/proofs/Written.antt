@@ -1,5 +1,5 @@
 -- A read tells nothing of a variable that nobody has written.
-use Rattle.std.proofs.Common.{◌≡◌, ℕ, zero, suc, ◌<◌, List, [], ◌∷◌, ◌++◌, length, set, take, drop, refl, sym, ◌∙◌, ap, ap₂, arith}
+use Rattle.std.proofs.Common.{◌≡◌, ℕ, zero, suc, ◌<◌, List, [], ◌∷◌, ◌++◌, length, set, refl, ◌∙◌, ap, ap₂, arith}
 use Rattle.std.specs.Prelude.{◌==◌, if◌then◌else◌, ◌||◌, Bool, true, false, Option, None, Some, insert, option_to_list, slice_get, slice_index}
 use Rattle.std.proofs.lemmas.Bool.{or_parts}
 use Rattle.lrc_races_trace.specs.declared.event.Pair.{Pair}

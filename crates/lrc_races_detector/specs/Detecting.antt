@@ -4,6 +4,7 @@ use Rattle.lrc_races_trace.specs.declared.event.Event.{Event}
 use Rattle.lrc_races_trace.specs.declared.event.Pair.{Pair}
 use Rattle.lrc_races_trace.specs.Races.{IsTold, ComesFirst}
 use Rattle.lrc_races_detector.specs.declared.detector.Detector.{Detector}
+use Rattle.lrc_races_detector.specs.Covers.{AreCovers}
 use Rattle.lrc_races_detector.specs.Knowing.{AreThreads, AreLocks, AreBarriers, AreVariables}
 
 -- The detector has taken the events before position n of the trace, whatever stands behind them.
@@ -13,6 +14,7 @@ pub record HasTaken (events : List Event) (n : ℕ) (detector : Detector) : Type
   pub locks : AreLocks events n detector.locks
   pub barriers : AreBarriers events n detector.barriers
   pub variables : AreVariables events n detector.variables
+  pub covers : AreCovers events n detector.covers
 
 -- the pairs are exactly those that are told of the events before this position
 pub record AreToldBefore (events : List Event) (n : ℕ) (pairs : List Pair) : Type 0 where

@@ -1,8 +1,10 @@
+pub mod Chunks
 pub mod Vectors
 pub mod Clocks
 pub mod Barriers
 pub mod Variables
 pub mod Written
+pub mod Covers
 pub mod Knowing
 pub mod Detecting
 pub mod Held

@@ -3,6 +3,7 @@ use Rattle.std.specs.Prelude.{◌≡◌, ◌≢◌, ◌==◌, if◌then◌else�
 use Rattle.lrc_races_detector.specs.declared.vectors.Entry.{Entry}
 use Rattle.lrc_races_detector.specs.declared.vectors.Known.{Known}
 use Rattle.lrc_races_detector.specs.declared.vectors.Vector.{Vector}
+use Rattle.lrc_races_detector.specs.Chunks.{values}
 
 -- the entry has this value, and all others are as before
 pub record IsPut (before after : List ℕ) (thread value : ℕ) : Type 0 where
@@ -39,7 +40,7 @@ apart_at None thread = 0
 
 -- all entries
 abbrev pub entries : Known → List ℕ
-entries known = with_apart known.apart known.others.now
+entries known = with_apart known.apart (values known.others.now)
 
 abbrev pub held : Vector → List ℕ
-held vector = with_apart vector.apart vector.others.items
+held vector = with_apart vector.apart (values vector.others.items)

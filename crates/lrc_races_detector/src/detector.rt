@@ -1,9 +1,10 @@
 // The detector: what it keeps, and what one event makes of it.
-ghost use Rattle.std.specs.Prelude.{◌≡◌, ◌≢◌, ℕ, ◌+◌, ◌^◌, ◌<◌, [], ◌++◌, List, IfOk, OnOk, length, true, false};
+ghost use Rattle.std.specs.Prelude.{◌≡◌, ◌≢◌, ℕ, ◌+◌, ◌^◌, ◌<◌, [], ◌++◌, List, IfOk, IfSome, IsTrue, OnOk, length, true, false};
 ghost use Rattle.lrc_races_trace.specs.declared.event.Event.{Event};
 ghost use Rattle.lrc_races_trace.specs.Trace.{At};
 ghost use Rattle.lrc_races_trace.specs.Races.{AreTold, AreToldAt};
 ghost use Rattle.lrc_races_detector.specs.Clocks.{row, IsGained};
+ghost use Rattle.lrc_races_detector.specs.Covers.{operation_of, AreCovers};
 ghost use Rattle.lrc_races_detector.specs.Variables.{lasts_of, told_below, IsNoted};
 ghost use Rattle.lrc_races_detector.specs.Knowing.{Gathers, AreThreads, AreLocks, AreBarriers, AreVariables, IsReached, handed};
 ghost use Rattle.lrc_races_detector.specs.Detecting.{HasTaken};
@@ -11,6 +12,7 @@ ghost use Rattle.lrc_races_detector.specs.Vectors.{entries};
 
 use crate::barriers::Barriers;
 use crate::clocks::Clocks;
+use crate::covers::{Cover, Covers};
 use crate::variables::Variables;
 use crate::vectors::Known;
 use lrc_races_trace::event::{Event, Operation, Pair, Placed};
@@ -29,6 +31,8 @@ pub struct Detector {
     pub barriers: Barriers,
     /// The last accesses of each variable.
     pub variables: Variables,
+    /// The last access of each variable, where all others happen before it.
+    pub covers: Covers,
 }
 
 /// Adds to what the thread of an event knows what the event learns from a lock, a barrier or a thread that it joins. It
@@ -130,9 +134,62 @@ pub fn access(
     Ok(())
 }
 
+fn cover_of(placed: Placed) -> Cover
+    ensures position { result.position ≡ placed.position }
+    ensures thread { result.thread ≡ placed.event.thread }
+{
+    Cover {
+        thread: placed.event.thread,
+        position: placed.position,
+    }
+}
+
+// A write of which nothing is told comes behind all accesses of its variable.
+fn cover_behind(placed: Placed, is_write: bool, told: &[Pair]) -> Option<Cover>
+    ensures { IfSome result (λ cover. (cover.position ≡ placed.position)
+        × (cover.thread ≡ placed.event.thread) × IsTrue is_write × (length told.now ≡ 0)) }
+{
+    if is_write && told.is_empty() {
+        return Some(cover_of(placed));
+    }
+    None
+}
+
+// Tells the pairs of an access, and notes it.
+fn judge_access(
+    variables: &mut Variables,
+    covers: &mut Covers,
+    variable: u32,
+    known: Known<'_>,
+    placed: Placed,
+    is_write: bool,
+    told: &mut Vec<Pair>,
+) -> Result<(), AllocError>
+    ensures { OnOk result ((events : List Event) → At events placed.position placed.event
+        → placed.event.operation ≡ operation_of is_write variable
+        → Gathers events (λ k. k ≡ placed.position) (entries known.entry)
+        → AreVariables events placed.position variables.old
+        → AreCovers events placed.position covers.old
+        → told.old.items ≡ []
+        → AreVariables events (placed.position + 1) variables.new
+        × AreCovers events (placed.position + 1) covers.new
+        × AreToldAt events placed.position told.new.items) }
+{
+    let index = variable as usize;
+    if covers.is_known(index, known) {
+        variables.note(index, placed, is_write)?;
+        covers.set(index, Some(cover_of(placed)))?;
+        return Ok(());
+    }
+    access(variables, index, known, placed, is_write, told)?;
+    covers.set(index, cover_behind(placed, is_write, told.as_slice()))?;
+    Ok(())
+}
+
 // Tells the pairs of an event, and notes it.
 fn judge(
     variables: &mut Variables,
+    covers: &mut Covers,
     known: Known<'_>,
     placed: Placed,
     told: &mut Vec<Pair>,
@@ -140,17 +197,19 @@ fn judge(
     ensures { OnOk result ((events : List Event) → At events placed.position placed.event
         → Gathers events (λ k. k ≡ placed.position) (entries known.entry)
         → AreVariables events placed.position variables.old
+        → AreCovers events placed.position covers.old
         → told.old.items ≡ []
         → AreVariables events (placed.position + 1) variables.new
+        × AreCovers events (placed.position + 1) covers.new
         × AreToldAt events placed.position told.new.items) }
 {
     match placed.event.operation {
         Operation::Read(variable) => {
-            access(variables, variable as usize, known, placed, false, told)?;
+            judge_access(variables, covers, variable, known, placed, false, told)?;
             Ok(())
         }
         Operation::Write(variable) => {
-            access(variables, variable as usize, known, placed, true, told)?;
+            judge_access(variables, covers, variable, known, placed, true, told)?;
             Ok(())
         }
         _ => Ok(()),
@@ -168,6 +227,7 @@ impl Detector {
             locks: Clocks::new(alloc),
             barriers: Barriers::new(alloc),
             variables: Variables::new(alloc),
+            covers: Covers::new(alloc),
         }
     }
 
@@ -181,6 +241,7 @@ impl Detector {
         ensures locks { self.new.locks ≡ self.old.locks }
         ensures barriers { self.new.barriers ≡ self.old.barriers }
         ensures variables { self.new.variables ≡ self.old.variables }
+        ensures covers { self.new.covers ≡ self.old.covers }
     {
         receive(&mut self.threads, &self.locks, &self.barriers, event)?;
         self.threads.mark(event.thread, self.position + 1)?;
@@ -203,7 +264,7 @@ impl Detector {
             event,
         };
         let known = self.threads.row(event.thread as usize);
-        judge(&mut self.variables, known, placed, told)?;
+        judge(&mut self.variables, &mut self.covers, known, placed, told)?;
         give_lock(&mut self.locks, known, event)?;
         give_barrier(&mut self.barriers, known, event)?;
         give_thread(&mut self.threads, event)?;

@@ -3,7 +3,8 @@
 //!
 //! It uses vectors that say what is known of each thread. It has one for each thread, for each lock, and for the open
 //! cycle of each barrier, and one for each thread of a closed cycle. For each variable and each thread that accesses
-//! it, it stores the last access and the last write, ascending by thread. So memory grows with threads, locks and
+//! it, it stores the last access and the last write, ascending by thread. Of a variable whose accesses all happen before
+//! its last one it looks at that alone. So memory grows with threads, locks and
 //! barriers, and with the threads of each variable, but not with the length of the trace.
 //!
 //! Beside it, `fault_finder` finds the first event that no program would give: `held` has the holder of each lock,
@@ -12,7 +13,9 @@
 
 pub mod accesses;
 pub mod barriers;
+mod chunks;
 pub mod clocks;
+pub mod covers;
 pub mod detector;
 pub mod fault_finder;
 pub mod groups;

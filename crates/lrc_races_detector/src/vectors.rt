@@ -1,8 +1,12 @@
-// Vectors: for each thread, one more than the last of its positions that is known, or 0 where none is.
+// Vectors: for each thread, one more than the last of its positions that is known, or 0 where none is. Vectors share what
+// they know alike.
 ghost use Rattle.std.specs.Prelude.{◌≡◌, ◌≢◌, ℕ, [], IfOk, OnOk, max, slice_index};
+ghost use Rattle.lrc_races_detector.specs.Chunks.{values};
 ghost use Rattle.lrc_races_detector.specs.Vectors.{IsPut, IsRaised, apart_at, entries, held};
 
+use crate::chunks::{join_all, list, lower, raise, share_all, value_of};
 use std::alloc::{AllocError, Global};
+use std::rc::Rc;
 
 /// The entry of one thread.
 #[derive(Clone, Copy)]
@@ -16,7 +20,7 @@ pub struct Entry {
 pub struct Known<'a> {
     /// One entry stands apart: the thread's value is this, or what it is among the others, whichever is greater.
     apart: Option<Entry>,
-    others: &'a [u64],
+    others: &'a [Rc<Vec<u64>>],
 }
 
 /// A vector. One entry stands apart from the others, which reach up to the last thread of which something is known. So a
@@ -24,47 +28,7 @@ pub struct Known<'a> {
 #[derive(Drop)]
 pub struct Vector {
     apart: Option<Entry>,
-    others: Vec<u64>,
-}
-
-// Adds to entries what others say: each becomes the greater of the two. It fails if memory runs out.
-fn join(known: &mut Vec<u64>, more: &[u64]) -> Result<(), AllocError>
-    ensures { OnOk result ((thread : ℕ)
-        → slice_index known.new.items thread
-        ≡ max (slice_index known.old.items thread) (slice_index more.now thread)) }
-{
-    for (thread, value) in more.iter().enumerate() {
-        if thread < known.len() {
-            if known[thread] < *value {
-                known[thread] = *value;
-            }
-        } else {
-            known.push(*value)?;
-        }
-    }
-    Ok(())
-}
-
-// Raises an entry, if it is less. It fails if memory runs out.
-fn raise(known: &mut Vec<u64>, entry: Entry) -> Result<(), AllocError>
-    ensures { OnOk result (IsRaised known.old.items known.new.items entry.thread entry.value) }
-{
-    let thread = entry.thread as usize;
-    if known.len() <= thread {
-        known.resize(thread + 1, 0)?;
-    }
-    known[thread] = known[thread].max(entry.value);
-    Ok(())
-}
-
-// Sets an entry to 0.
-fn clear(known: &mut Vec<u64>, thread: u32)
-    ensures { IsPut known.old.items known.new.items thread 0 }
-{
-    let thread = thread as usize;
-    if thread < known.len() {
-        known[thread] = 0;
-    }
+    others: Vec<Rc<Vec<u64>>>,
 }
 
 // What the entry that stands apart says of a thread.
@@ -78,16 +42,6 @@ fn apart_at(apart: Option<Entry>, thread: u32) -> u64
             }
             0
         }
-        None => 0,
-    }
-}
-
-// What the others say of it.
-fn other_at(others: &[u64], thread: u32) -> u64
-    ensures { result ≡ slice_index others.now thread }
-{
-    match others.get(thread as usize) {
-        Some(value) => *value,
         None => 0,
     }
 }
@@ -107,7 +61,7 @@ impl<'a> Known<'a> {
     pub fn of(self, thread: u32) -> u64
         ensures { result ≡ slice_index (entries self.entry) thread }
     {
-        other_at(self.others, thread).max(apart_at(self.apart, thread))
+        value_of(self.others, thread as usize).max(apart_at(self.apart, thread))
     }
 
     /// Returns what is known of each thread, in a list. It fails if memory runs out.
@@ -115,13 +69,14 @@ impl<'a> Known<'a> {
         ensures { IfOk result (λ list. (thread : ℕ)
             → slice_index list.items thread ≡ slice_index (entries self.entry) thread) }
     {
-        let mut list = Vec::from_slice(alloc, self.others)?;
+        let mut all = Vec::new(alloc);
+        share_all(&mut all, self.others)?;
         match self.apart {
             Some(entry) => {
-                raise(&mut list, entry)?;
-                Ok(list)
+                raise(&mut all, entry)?;
+                list(alloc, all.as_slice())
             }
-            None => Ok(list),
+            None => list(alloc, all.as_slice()),
         }
     }
 }
@@ -175,7 +130,7 @@ impl Vector {
             → slice_index (held self.new) thread
             ≡ max (slice_index (held self.old) thread) (slice_index (entries more.entry) thread)) }
     {
-        join(&mut self.others, more.others)?;
+        join_all(&mut self.others, more.others)?;
         match more.apart {
             Some(entry) => self.raise(entry),
             None => Ok(()),
@@ -187,15 +142,13 @@ impl Vector {
         ensures { OnOk result (held self.new ≡ entries known.entry) }
     {
         self.apart = known.apart;
-        self.others.clear();
-        self.others.extend_from_slice(known.others)?;
-        Ok(())
+        share_all(&mut self.others, known.others)
     }
 
     // Puts the entry that stands apart among the others, unless it is of this thread.
     fn settle(&mut self, thread: u32) -> Result<(), AllocError>
         ensures { OnOk result ((other : ℕ) → other ≢ thread
-            → slice_index self.new.others.items other ≡ slice_index (held self.old) other) }
+            → slice_index (values self.new.others.items) other ≡ slice_index (held self.old) other) }
     {
         match self.apart {
             Some(entry) => {
@@ -213,7 +166,7 @@ impl Vector {
         ensures { OnOk result (IsPut (held self.old) (held self.new) thread value) }
     {
         self.settle(thread)?;
-        clear(&mut self.others, thread);
+        lower(&mut self.others, Entry { thread, value })?;
         self.apart = Some(Entry { thread, value });
         Ok(())
     }

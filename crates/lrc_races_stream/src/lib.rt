@@ -1,6 +1,11 @@
 //! Reports the races of a trace while it is read, its pairs of locations that race, the events that show a sure race, and
 //! why two events are ordered. Of the races what is known from the lines read so far is written before the next input is
 //! awaited.
+//!
+//! Decisions:
+//!
+//! - If memory runs out, or a count would exceed 64 bits, nothing is written for that block of lines. What was
+//!   written is the answer to the blocks before.
 #![tactic(auto)]
 
 mod answer;

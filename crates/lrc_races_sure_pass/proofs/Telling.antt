@@ -22,7 +22,7 @@ use Rattle.lrc_races_detector.specs.declared.variables.Last.{Last}
 use Rattle.lrc_races_detector.specs.Variables.{thread_of, told_with, told_one, told_at, told_below}
 use Rattle.lrc_races_sure_pass.specs.Knowing.{Gathers}
 use Rattle.lrc_races_detector.specs.Knowing.{IsLastAt, IsLastOf, IsLast, IsRow, AccessOf, WriteOf}
-use Rattle.lrc_races_detector.proofs.Noting.{operation_of}
+use Rattle.lrc_races_detector.specs.Covers.{operation_of}
 use Rattle.lrc_races_detector.proofs.Pairs.{contained_at}
 
 -- ---- pairs

@@ -1,6 +1,13 @@
 //! Runs of a program on threads: each node on a separate thread, with a post between them. The turns of the threads are
 //! put into one order by their stamps, so that the parallel run becomes a run of the simulator, and its promises hold.
 //! This includes the sequential-consistency theorem for programs without races.
+//!
+//! Decisions:
+//!
+//! - A run on threads answers the same `Run` as the simulator, with all turns. So the code that shows a run is
+//!   written once.
+//! - `are_takes_sent` looks for each taken message among all turns. That is quadratic, but only a run that failed
+//!   pays for it.
 #![tactic(auto)]
 
 mod failure;

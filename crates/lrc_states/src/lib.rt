@@ -3,6 +3,11 @@
 //!
 //! `objects` writes what lines about turns contain: messages, labels, acts, and the last write to a word. (The size of a
 //! message that is too long to be sent is written as `no`. No run has such a message.)
+//!
+//! Decisions:
+//!
+//! - A node shows its parts by calls that change nothing. Changes (diffs) that the code has not made yet are shown
+//!   as made, as the machine has them.
 #![tactic(auto)]
 
 mod fault;

@@ -93,7 +93,7 @@ pub fn races_part(
     requires within { part.until ≤ length acts.now }
     ensures { IfOk result (λ text. TellsRaces acts.now lines.now part text.items) }
 {
-    let firsts = first_pairs(alloc, acts)?;
+    let firsts = first_pairs(alloc, order, acts)?;
     let leaders = leaders_of(alloc, acts, lines, &firsts)?;
     let pairs = shown_pairs(alloc, acts, order, nodes, part)?;
     let text = races_of(alloc, acts, lines, &leaders, &pairs)?;

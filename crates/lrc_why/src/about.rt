@@ -1,10 +1,9 @@
 // What an act is about.
 
-ghost use Rattle.std.specs.Prelude.{◌≡◌, ℕ, ◌<◌, ◌≤◌, ◌↔◌, All, Contains, IfOk, IsTrue, List, MatchBool, MatchOption, length};
+ghost use Rattle.std.specs.Prelude.{◌≡◌, ℕ, ◌<◌, ◌≤◌, ◌↔◌, Contains, IfOk, IsTrue, List, MatchBool, MatchOption, length};
 ghost use Rattle.lrc_trace.specs.declared.act.Act.{Act as AnyAct};
 ghost use Rattle.lrc_trace.specs.declared.act.Deed.TheVariants.{Release};
 ghost use Rattle.lrc_trace.specs.Run.{Does, IsDone};
-ghost use Rattle.lrc_judge.specs.declared.TheConstants.{NODES};
 ghost use Rattle.lrc_judge.specs.Allowed.{AreAllowed};
 ghost use Rattle.lrc_judge.specs.Order.{IsOrderOf};
 ghost use Rattle.lrc_why_chains.specs.Known.{IsActOf};
@@ -114,7 +113,6 @@ fn gift(
     word: u32,
     value: u64,
 ) -> Result<Gift, AllocError>
-    requires nodes { All (λ act. act.node < NODES) acts.now }
     requires order { IsOrderOf acts.now order.now }
     requires within { position < length acts.now }
     requires acting { IsActOf acts.now acting position }
@@ -122,7 +120,7 @@ fn gift(
 {
     let unknown = last_written(acts, order, position, word);
     let writes = known_writes(alloc, acts, order, position, word)?;
-    let values = values_allowed(alloc, acts, position, word)?;
+    let values = values_allowed(alloc, order, acts, position, word)?;
     let allowed = has(&values, value);
     let source = match first_crossing(order, &writes) {
         Some(crossing) => several(alloc, order, &writes, values, crossing)?,
@@ -144,7 +142,6 @@ pub(crate) fn about(
     deed: Deed,
     position: usize,
 ) -> Result<About, AllocError>
-    requires nodes { All (λ act. act.node < NODES) acts.now }
     requires order { IsOrderOf acts.now order.now }
     requires within { position < length acts.now }
     requires does { Does acts.now position acting deed }

@@ -1,8 +1,7 @@
 // The reasons of an act, and how two acts are ordered.
 
-ghost use Rattle.std.specs.Prelude.{◌≡◌, ◌<◌, All, IfOk, length};
+ghost use Rattle.std.specs.Prelude.{◌≡◌, ◌<◌, IfOk, length};
 ghost use Rattle.lrc_trace.specs.Order.{HappensBefore};
-ghost use Rattle.lrc_judge.specs.declared.TheConstants.{NODES};
 ghost use Rattle.lrc_judge.specs.Firsts.{AreIntervals};
 ghost use Rattle.lrc_judge.specs.Order.{IsOrderOf};
 ghost use Rattle.lrc_why.specs.Whole.{AreReasons, IsRelation};
@@ -28,7 +27,6 @@ pub fn reasons(
     nodes: u8,
     position: usize,
 ) -> Result<Reasons, AllocError>
-    requires nodes { All (λ act. act.node < NODES) acts.now }
     requires order { IsOrderOf acts.now order.now }
     requires intervals { AreIntervals acts.now (length acts.now) intervals.now }
     requires within { position < length acts.now }

@@ -4,6 +4,7 @@ use lrc_acts::reading::acts_of;
 use lrc_exec::code::Code;
 use lrc_explain::explain;
 use lrc_explain_waits::{Wording, stuck_part};
+use lrc_judge::order::happens_before;
 use lrc_labels::label::Label;
 use lrc_labels::read_labels;
 use lrc_lang::lines::lines_of;
@@ -52,6 +53,9 @@ fn is_explained_of(
     if !acts.iter().all(|act| act.node < 16) {
         return false;
     }
+    let Ok(order) = happens_before(alloc, acts) else {
+        return false;
+    };
     match explain(
         alloc,
         labels,
@@ -61,6 +65,7 @@ fn is_explained_of(
         case.nodes,
         case.steps,
         acts,
+        &order,
         case.first_race,
     ) {
         Ok(parts) => are_parts_of(&parts, case.told),

@@ -23,8 +23,8 @@ use Rattle.lrc_cli_runs.proofs.CourseLemmas.{chart_unshown, course_of_run}
 use Rattle.lrc_cli_runs.proofs.RunLemmas.{acts_of_few, statements_of, times_of}
 use Rattle.lrc_cli_runs.proofs.charted.charted.Goals as goal
 
-pub first_pairs-requires : goal.first_pairs-requires
-first_pairs-requires c =
+pub pairs_of-requires : goal.pairs_of-requires
+pairs_of-requires c =
     subst (λ (acts : List Act). All (λ act. act.node < 16) acts) (sym c.as_slice-acts.ensures.value)
     (acts_of_few c.args.source.now.program c.args.choice.now.options Whole c.args.run.now c.requires)
 

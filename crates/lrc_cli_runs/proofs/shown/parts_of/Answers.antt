@@ -15,8 +15,8 @@ pub charted-requires : goal.charted-requires
 charted-requires c =
     whole_run c.args.shape c.args.source.now.program c.args.choice.now.options c.args.run.now c.requires.ran (ap keep_for c.in-Chart.is)
 
-pub explained-requires : goal.explained-requires
-explained-requires c =
+pub explained_alone-requires : goal.explained_alone-requires
+explained_alone-requires c =
     subst (λ (acts : List Act). All (λ act. act.node < 16) acts) (sym c.as_slice-acts.ensures.value)
     (acts_of_few c.args.source.now.program c.args.choice.now.options c.requires.ran.0 c.args.run.now c.requires.ran.2)
 

@@ -1,14 +1,19 @@
 use Rattle.std.proofs.Common.{◌≡◌, ◌<◌, ◌∙◌, ℕ, All, List, Vec, Global, ap, subst, sym}
 use Rattle.std.proofs.lemmas.Result.{IfOk-weaker}
 use Rattle.lrc_trace.specs.declared.act.Act.{Act}
+use Rattle.lrc_judge.specs.Order.{IsOrderOf}
 use Rattle.lrc_text.specs.Parts.{whole_text}
 use Rattle.lrc_cli_runs.specs.Explained.{IsExplained}
 use Rattle.lrc_cli_runs.proofs.RunLemmas.{acts_of_few}
 use Rattle.lrc_cli_runs.proofs.StatedLemmas.{explained_so}
 use Rattle.lrc_cli_runs.proofs.stated.explained_text.Goals as goal
 
-pub explained-requires : goal.explained-requires
-explained-requires c =
+pub explained-requires-clause-order : goal.explained-requires-clause-order
+explained-requires-clause-order c =
+    subst (λ (acts : List Act). IsOrderOf acts c.args.order.now) (sym c.as_slice-acts.ensures.value) c.requires.order
+
+pub explained-requires-clause-nodes : goal.explained-requires-clause-nodes
+explained-requires-clause-nodes c =
     subst (λ (acts : List Act). All (λ act. act.node < 16) acts) (sym c.as_slice-acts.ensures.value)
     (acts_of_few c.args.source.now.program c.args.options.now c.requires.ran.0 c.args.run.now c.requires.ran.1)
 

@@ -14,6 +14,10 @@ happens_before-requires c =
     subst (λ (acts : List Act). All (λ act. act.node < 16) acts) (sym c.deref.ensures.value)
     (acts_of_few c.args.source.now.program c.args.options.now c.requires.ran.0 c.args.run.now c.requires.ran.1)
 
+pub explained_text-requires-clause-order : goal.explained_text-requires-clause-order
+explained_text-requires-clause-order c =
+    subst (λ (acts : List Act). IsOrderOf acts c.in_ok-order.order) c.deref.ensures.value c.in_ok-order.ensures
+
 pub races_text-requires-clause-order : goal.races_text-requires-clause-order
 races_text-requires-clause-order c =
     subst (λ (acts : List Act). IsOrderOf acts c.in_ok-order.order) c.deref.ensures.value c.in_ok-order.ensures

@@ -10,20 +10,20 @@ use Rattle.lrc_judge.proofs.Naming.{firsts_searchable, pairs_sound, pairs_below}
 use Rattle.lrc_judge.proofs.races.race_pairs.Goals as goal
 
 pub add_crossing-requires : goal.add_crossing-requires
-add_crossing-requires c = subst (λ l. AreSearchable c.in_ok-order.order l) (sym c.as_slice-2.ensures.value)
-    (firsts_searchable c.args.acts.now EachWrite c.args.intervals.now c.in_ok-writes.writes.items c.in_ok-order.order c.in_ok-writes.ensures
-    c.in_ok-order.ensures)
+add_crossing-requires c = subst (λ l. AreSearchable c.args.order.now l) (sym c.as_slice-2.ensures.value)
+    (firsts_searchable c.args.acts.now EachWrite c.args.intervals.now c.in_ok-writes.writes.items c.args.order.now c.in_ok-writes.ensures
+    c.requires.order)
 
 pub add_crossing-requires-2 : goal.add_crossing-requires-2
-add_crossing-requires-2 c = subst (λ l. AreSearchable c.in_ok-order.order l) (sym c.as_slice-4.ensures.value)
-    (firsts_searchable c.args.acts.now EachAccess c.args.intervals.now c.in_ok-accesses.accesses.items c.in_ok-order.order c.in_ok-accesses.ensures
-    c.in_ok-order.ensures)
+add_crossing-requires-2 c = subst (λ l. AreSearchable c.args.order.now l) (sym c.as_slice-4.ensures.value)
+    (firsts_searchable c.args.acts.now EachAccess c.args.intervals.now c.in_ok-accesses.accesses.items c.args.order.now c.in_ok-accesses.ensures
+    c.requires.order)
 
 pub returns : goal.returns
 returns c =
     let run = c.args.acts.now in
     let intervals = c.args.intervals.now in
-    let order = c.in_ok-order.order in
+    let order = c.args.order.now in
     let accesses = c.in_ok-accesses.accesses.items in
     let writes = c.in_ok-writes.writes.items in
     let some = c.add_crossing.new.pairs.items in
@@ -37,13 +37,13 @@ returns c =
     (subst (λ (ys : List Entry). Adds some found (IsCrossing c.as_slice-3.result.now ys order)) c.as_slice-4.ensures.value
     c.in_ok-add_crossing-2.ensures) in
     record {
-      sound = λ pair h. pairs_sound run intervals c.requires.intervals order c.in_ok-order.ensures accesses writes c.in_ok-accesses.ensures
+      sound = λ pair h. pairs_sound run intervals c.requires.intervals order c.requires.order accesses writes c.in_ok-accesses.ensures
           c.in_ok-writes.ensures c.requires.nodes pair (elim ((second.exact pair).0 h) [
             | inr two ↦ inr two
             | inl before ↦ elim ((first.exact pair).0 before) [ inl (k, lt, _) ↦ absurd (omega arith) | inr one ↦ inl one ]
           ]);
       complete = λ race other of.
-          let (pair, crossing, named, later, earlier) = pairs_below run intervals c.requires.intervals order c.in_ok-order.ensures accesses writes c.in_ok-accesses.ensures
+          let (pair, crossing, named, later, earlier) = pairs_below run intervals c.requires.intervals order c.requires.order accesses writes c.in_ok-accesses.ensures
           c.in_ok-writes.ensures c.requires.nodes race other of in
           let has : Contains found pair = (second.exact pair).1 (elim crossing [
             | inl one ↦ inl ((first.exact pair).1 (inr one))

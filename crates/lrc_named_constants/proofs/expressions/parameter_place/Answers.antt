@@ -1,7 +1,7 @@
 -- The first parameter of this name, or none.
 use Rattle.std.proofs.Common.{◌≡◌, ◌<◌, false, map, get_or, below_more, sym, ◌∙◌, arith, []}
 use Rattle.std.specs.Str.{bytes_eq}
-use Rattle.lrc_named_names.proofs.Places.{no_place}
+use Rattle.lrc_named_constants.proofs.FirstPlaces.{no_place}
 use Rattle.lrc_named_constants.specs.declared.constancy.Constancy.TheVariants.{Varies}
 use Rattle.lrc_named_constants.specs.Constant.{Known}
 use Rattle.lrc_named_constants.specs.View.{known_of}

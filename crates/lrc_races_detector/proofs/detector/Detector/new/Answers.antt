@@ -8,6 +8,9 @@ use Rattle.lrc_races_detector.specs.declared.clocks.Clocks.{Clocks}
 use Rattle.lrc_races_detector.specs.declared.barriers.Barriers.{Barriers}
 use Rattle.lrc_races_detector.specs.declared.barriers.Barrier.{Barrier}
 use Rattle.lrc_races_detector.specs.declared.variables.Variables.{Variables}
+use Rattle.lrc_races_detector.specs.declared.covers.Cover.{Cover}
+use Rattle.lrc_races_detector.specs.declared.covers.Covers.{Covers}
+use Rattle.lrc_races_detector.specs.Covers.{cover_at, IsCover, AreCovers}
 use Rattle.lrc_races_detector.specs.Clocks.{row, entries_of}
 use Rattle.lrc_races_detector.specs.Variables.{lasts_of, items_of}
 use Rattle.lrc_races_detector.specs.Knowing.{Gathers, Before, AreVariables, IsBarrier, AreBarriers, IsRow, ArrivesIn}
@@ -41,6 +44,10 @@ no_variables events variables e v =
       complete = λ u k lt h. absurd (omega arith);
     })
 
+no_covers : (events : List Event) (covers : Covers) → covers.covers.items ≡ [] → AreCovers events 0 covers
+no_covers events covers e v =
+    subst (λ (o : Option Cover). IsCover events 0 v o) (sym (ap (λ xs. cover_at (slice_get xs v)) e)) tt
+
 pub returns : goal.returns
 returns c = λ events. record {
   position = refl;
@@ -48,4 +55,5 @@ returns c = λ events. record {
   locks = λ l. none_known events _ c.new-2.result c.new-2.ensures l;
   barriers = no_barriers events c.new-3.result c.new-3.ensures;
   variables = no_variables events c.new-4.result c.new-4.ensures;
+  covers = no_covers events c.new-5.result c.new-5.ensures;
 }
