@@ -1,8 +1,9 @@
 -- Indices behind declarations without a fault.
-use Rattle.std.proofs.Common.{◌≡◌, ◌≤◌, ◌<◌, ◌⊎◌, ℕ, true, false, zero, suc, List, [], ◌∷◌, ◌++◌, length, map, take, refl, sym, ap, subst, ◌∙◌, arith, inl, inr}
+use Rattle.std.proofs.Common.{◌≡◌, ◌==◌, ◌-◌, ◌≤◌, ◌<◌, ◌⊎◌, ℕ, true, false, zero, suc, List, [], ◌∷◌, ◌++◌, length, map, take, refl, sym, ap, subst, ◌∙◌, arith, inl, inr, length-append}
 use Rattle.std.specs.Prelude.{Option, Some, None, slice_get, is_some}
 use Rattle.lrc_named_tree.specs.declared.tree.Statement as code_statement
 use Rattle.lrc_named_tree.specs.Tree.{Declaration}
+use Rattle.std.proofs.lemmas.Bool.Decides.{nat_tests}
 use Rattle.std.proofs.lemmas.List.{map-append}
 use Rattle.lrc_named_tree.specs.declared.tree.Declaration as code_declaration
 use Rattle.lrc_named_tree.specs.View.{block_of, declaration_of}
@@ -46,6 +47,9 @@ nothing_behind front IsSo not = λ v s b. not b.table v s b.so
 pub clean_of : (front : List Declaration) (rest : List code_statement.Statement) → rest ≡ [] → IsNone (λ f. IsInProgram None [] front (block_of rest) f)
     → IsNone (λ f. IsInProgram None [] front empty f)
 clean_of front rest e h = subst (λ l. IsNone (λ f. IsInProgram None [] front (block_of l) f)) e h
+
+pub is_zero : (n : ℕ) → (n == 0) ≡ true → n ≡ 0
+is_zero n e = grind (arith, nat_tests)
 
 -- none of no indices is over its size
 pub none_seen : (xs : List code_spot.Spot) → length xs ≡ 0 → map spot_seen xs ≡ []
@@ -157,3 +161,29 @@ none_found A (Some x) e h = absurd (cc)
 pub last_taken : (all front : List code_declaration.Declaration) (d : code_declaration.Declaration) → all ≡ front ++ d ∷ []
     → map declaration_of all ≡ map declaration_of front ++ declaration_of d ∷ []
 last_taken all front d e = ap (map declaration_of) e ∙ map-append declaration_of front (d ∷ [])
+
+-- the last one of these
+placed : {A : Type 0} (before : List A) (last : A) → slice_get (before ++ last ∷ []) (length before) ≡ Some last
+placed [] last = refl
+placed (x ∷ before) last = placed before last
+
+last_is : {A : Type 0} (all before : List A) (last : A) → all ≡ before ++ last ∷ [] → slice_get all (length all - 1) ≡ Some last
+last_is all before last e =
+    let count : length (before ++ last ∷ []) - 1 ≡ length before = omega (arith, length-append before (last ∷ [])) in
+    subst (λ l. slice_get l (length l - 1) ≡ Some last) (sym e) (ap (λ (n : ℕ). slice_get (before ++ last ∷ []) n) count ∙ placed before last)
+
+same_last : {A : Type 0} {x y : A} → Some x ≡ Some y → x ≡ y
+same_last e = cc
+
+-- what is found of the last one
+abbrev pub IsFoundIn : (front : List Declaration) (at : ℕ) → code_declaration.Declaration → Option Beyond → Type 0
+IsFoundIn front at d found = IsFound (λ v s. IsBehind front (λ t. IsOutIn t at (declaration_of d) v s)) found
+
+pub last_found : (front : List Declaration) (at : ℕ) (all : List code_declaration.Declaration) (d : code_declaration.Declaration) (found : Option Beyond)
+    → slice_get all (length all - 1) ≡ Some d → IsFoundIn front at d found → (before : List code_declaration.Declaration) (last : code_declaration.Declaration)
+    → all ≡ before ++ last ∷ [] → IsFoundIn front at last found
+last_found front at all d found is h before last e = subst (λ x. IsFoundIn front at x found) (same_last (sym is ∙ last_is all before last e)) h
+
+pub none_last : (front : List Declaration) (at : ℕ) (all : List code_declaration.Declaration) → slice_get all (length all - 1) ≡ None
+    → (before : List code_declaration.Declaration) (last : code_declaration.Declaration) → all ≡ before ++ last ∷ [] → IsFoundIn front at last None
+none_last front at all is before last e = let some = last_is all before last e in absurd (cc)

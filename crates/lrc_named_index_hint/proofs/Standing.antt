@@ -124,11 +124,11 @@ dropped_next (size ∷ sizes) zero = refl
 dropped_next (size ∷ sizes) (suc i) = dropped_next sizes i
 
 one_dropped : (sizes : List ℕ) (i : ℕ) → drop 1 (drop i sizes) ≡ drop (i + 1) sizes
-one_dropped sizes i = dropped_next sizes i ∙ ap (λ n. drop n sizes) (omega arith)
+one_dropped sizes i = let next : suc i ≡ i + 1 = omega arith in dropped_next sizes i ∙ ap (λ (n : ℕ). drop n sizes) next
 
 -- an index that is beyond its size is over it
 chosen : (b : Bool) (spot : Spot) → b ≡ true → (if b then spot ∷ [] else []) ≡ spot ∷ []
-chosen b spot e = ap (λ c. if c then spot ∷ [] else []) e
+chosen b spot e = ap (λ (c : Bool). if c then spot ∷ [] else []) e
 
 same_token : (m n : ℕ) → m ≡ n → (m == n) ≡ true
 same_token m n e = grind (arith, nat_tests)

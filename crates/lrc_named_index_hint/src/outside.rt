@@ -1,6 +1,7 @@
 // The index of a program that begins at a token and is out of range.
 
-ghost use Rattle.std.specs.Prelude.{◌≡◌, IfOk, [], map};
+ghost use Rattle.std.specs.Prelude.{◌≡◌, ◌++◌, IfOk, List, [], ◌∷◌, map};
+ghost use Rattle.lrc_named_tree.specs.declared.tree.Declaration.{Declaration as DeclarationSeen};
 ghost use Rattle.lrc_named_tree.specs.View.{block_of, declaration_of, expression_of, named_of, program_of};
 ghost use Rattle.lrc_named_names.specs.View.{declared_of};
 ghost use Rattle.lrc_named_constants.specs.View.{known_of};
@@ -59,13 +60,34 @@ fn in_declarations(
     ensures { IfOk result (λ found. IsFound (λ value size. IsOutInOne
         (map declaration_of front.old.declarations.items) at value size) found) }
 {
+    let mut taken = Vec::new(alloc);
     while let Some(declaration) = front.declarations.pop() {
-        let found = in_declaration(alloc, front, &declaration, at)?;
+        taken.push(declaration)?;
+        let found = in_last(alloc, front, &taken, at)?;
         if found.is_some() {
             return Ok(found);
         }
     }
     Ok(None)
+}
+
+// Of the index in the last of these, behind those in front.
+fn in_last<'p>(
+    alloc: Global,
+    front: &NamedProgram<'p>,
+    taken: &[Declaration<'p>],
+    at: u64,
+) -> Result<Option<Beyond>, AllocError>
+    requires { front.now.statements.items ≡ [] }
+    ensures { IfOk result (λ found. (before : List DeclarationSeen) (last : DeclarationSeen)
+        → taken.now ≡ before ++ last ∷ [] → IsFound (λ value size. IsBehind
+        (map declaration_of front.now.declarations.items)
+        (λ table. IsOutIn table at (declaration_of last) value size)) found) }
+{
+    match taken.last() {
+        Some(declaration) => in_declaration(alloc, front, declaration, at),
+        None => Ok(None),
+    }
 }
 
 // Of the index in a declaration, behind those in front.

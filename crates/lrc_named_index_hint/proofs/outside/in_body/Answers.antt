@@ -1,5 +1,5 @@
 -- By what is declared in front, if that has no fault.
-use Rattle.std.proofs.Common.{◌≡◌, ℕ, List, [], map, eqb-true, sym, ap, subst, ◌∙◌}
+use Rattle.std.proofs.Common.{◌≡◌, ◌==◌, ℕ, List, [], length, map, sym, ap, subst, ◌∙◌}
 use Rattle.std.specs.Prelude.{IfOk}
 use Rattle.lrc_named_tree.specs.View.{declaration_of, expression_of, named_of, program_of}
 use Rattle.lrc_named_names.specs.Names.{Declared}
@@ -10,7 +10,7 @@ use Rattle.lrc_named_faults.specs.Declarations.{body_scope}
 use Rattle.lrc_named_index_hint.specs.Out.{IsBehind}
 use Rattle.lrc_named_index_hint.specs.Over.{IsFound, IsOneOver}
 use Rattle.lrc_named_index_hint.specs.Spots.{spot_seen, spots_in}
-use Rattle.lrc_named_index_hint.proofs.Behind.{behind_found, clean_of, none_of_none, none_seen, not_behind, nothing_behind}
+use Rattle.lrc_named_index_hint.proofs.Behind.{behind_found, clean_of, is_zero, none_of_none, none_seen, not_behind, nothing_behind}
 use Rattle.lrc_named_index_hint.proofs.outside.in_body.Goals as goal
 
 pub returns-then-is_empty : goal.returns-then-is_empty
@@ -18,7 +18,9 @@ returns-then-is_empty c =
     let front = map declaration_of c.args.front.now.declarations.items in
     let own = map named_of c.args.parameters.now in
     let spots = spots_in c.args.at (expression_of c.args.body.now) in
-    let none : spots ≡ [] = sym c.in_ok-spots.ensures ∙ none_seen c.in_ok-spots.spots.items (eqb-true _ _ (sym c.is_empty.ensures ∙ c.if-is_empty.true)) in
+    let count : c.is_empty.result ≡ (length c.in_ok-spots.spots.items == 0) = c.is_empty.ensures ∙ ap (λ (n : ℕ). n == 0) c.in_ok-spots.spots.ok.0 in
+    let none : spots ≡ [] = sym c.in_ok-spots.ensures
+    ∙ none_seen c.in_ok-spots.spots.items (is_zero (length c.in_ok-spots.spots.items) (sym count ∙ c.if-is_empty.true)) in
     nothing_behind front (λ (t : List Declared) (v s : ℕ). IsOneOver (body_scope t own) spots v s) (λ t v s. none_of_none (body_scope t own) spots v s none)
 
 pub body_over-requires : goal.body_over-requires
@@ -38,8 +40,8 @@ returns-in-Good c =
     (clean_of front c.args.front.now.statements.items c.requires checked.0) checked.1 h)
     (subst (λ l. IfOk c.body_over.result (λ found. IsFound (λ v s. IsOneOver (body_scope table own) l v s) found)) same c.body_over.ensures)
 
-pub returns-in-Bad : goal.returns-in-Bad
-returns-in-Bad c =
+pub returns : goal.returns
+returns c =
     let front = map declaration_of c.args.front.now.declarations.items in
     let own = map named_of c.args.parameters.now in
     let spots = spots_in c.args.at (expression_of c.args.body.now) in

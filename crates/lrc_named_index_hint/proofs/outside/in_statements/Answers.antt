@@ -1,5 +1,5 @@
 -- By what is declared in front, if that has no fault.
-use Rattle.std.proofs.Common.{◌≡◌, ◌++◌, ℕ, List, [], map, eqb-true, sym, ap, subst, ◌∙◌}
+use Rattle.std.proofs.Common.{◌≡◌, ◌==◌, ◌++◌, ℕ, List, [], length, map, sym, ap, subst, ◌∙◌}
 use Rattle.std.specs.Prelude.{IfOk}
 use Rattle.lrc_named_tree.specs.View.{block_of, declaration_of, program_of}
 use Rattle.lrc_named_names.specs.Names.{Declared}
@@ -11,7 +11,7 @@ use Rattle.lrc_named_faults.specs.Checked.{IsChecked}
 use Rattle.lrc_named_index_hint.specs.Out.{IsBehind, IsOutAmong}
 use Rattle.lrc_named_index_hint.specs.Over.{IsFound, IsOneOver}
 use Rattle.lrc_named_index_hint.specs.Spots.{spot_seen, spots_in_parts}
-use Rattle.lrc_named_index_hint.proofs.Behind.{behind_found, clean_of, none_of_none, none_seen, not_behind, nothing_behind}
+use Rattle.lrc_named_index_hint.proofs.Behind.{behind_found, clean_of, is_zero, none_of_none, none_seen, not_behind, nothing_behind}
 use Rattle.lrc_named_index_hint.proofs.outside.in_statements.Goals as goal
 
 pub returns-then-is_empty : goal.returns-then-is_empty
@@ -23,7 +23,9 @@ returns-then-is_empty c =
     let seen : map part_seen c.push_parts.new.parts.items ≡ parts = c.in_ok-push_parts.ensures ∙ ap (λ l. map part_seen l ++ parts) c.new-parts.ensures.items in
     let same : map spot_seen c.in_ok-spots.spots.items ≡ spots =
     c.in_ok-spots.ensures ∙ ap (λ l. spots_in_parts c.args.at (map part_seen l)) c.deref.ensures.value ∙ ap (spots_in_parts c.args.at) seen in
-    let none : spots ≡ [] = sym same ∙ none_seen c.in_ok-spots.spots.items (eqb-true _ _ (sym c.is_empty.ensures ∙ c.if-is_empty.true)) in
+    let count : c.is_empty.result ≡ (length c.in_ok-spots.spots.items == 0) = c.is_empty.ensures ∙ ap (λ (n : ℕ). n == 0) c.in_ok-spots.spots.ok.0 in
+    let none : spots ≡ [] = sym same
+    ∙ none_seen c.in_ok-spots.spots.items (is_zero (length c.in_ok-spots.spots.items) (sym count ∙ c.if-is_empty.true)) in
     nothing_behind front (λ (t : List Declared) (v s : ℕ). IsOutAmong t c.args.at block v s) (λ t v s. none_of_none (statement_scope t parts) spots v s none)
 
 pub parts_over-requires : goal.parts_over-requires
@@ -40,9 +42,9 @@ returns-in-Good c =
     let seen : map part_seen c.push_parts.new.parts.items ≡ parts = c.in_ok-push_parts.ensures ∙ ap (λ l. map part_seen l ++ parts) c.new-parts.ensures.items in
     let same : map spot_seen c.in_ok-spots.spots.items ≡ spots =
     c.in_ok-spots.ensures ∙ ap (λ l. spots_in_parts c.args.at (map part_seen l)) c.deref.ensures.value ∙ ap (spots_in_parts c.args.at) seen in
-    let own : map part_seen c.deref-2.result.now ≡ parts = ap (map part_seen) c.deref-2.ensures.value ∙ seen in
-    let here : map spot_seen c.deref-3.result.now ≡ spots = ap (map spot_seen) c.deref-3.ensures.value ∙ same in
-    let over = subst (λ p. IfOk c.parts_over.result (λ found. IsFound (λ v s. IsOneOver (statement_scope table p) (map spot_seen c.deref-3.result.now) v s) found)) own
+    let own : map part_seen c.deref-in-Good.result.now ≡ parts = ap (map part_seen) c.deref-in-Good.ensures.value ∙ seen in
+    let here : map spot_seen c.deref-in-Good-2.result.now ≡ spots = ap (map spot_seen) c.deref-in-Good-2.ensures.value ∙ same in
+    let over = subst (λ p. IfOk c.parts_over.result (λ found. IsFound (λ v s. IsOneOver (statement_scope table p) (map spot_seen c.deref-in-Good-2.result.now) v s) found)) own
     c.parts_over.ensures in
     if_ok (λ found. IsFound (λ v s. IsOutAmong table c.args.at block v s) found)
     (λ found. IsFound (λ v s. IsBehind front (λ t. IsOutAmong t c.args.at block v s)) found) c.parts_over.result
@@ -50,8 +52,8 @@ returns-in-Good c =
     (clean_of front c.args.front.now.statements.items c.requires checked.0) checked.1 h)
     (subst (λ l. IfOk c.parts_over.result (λ found. IsFound (λ v s. IsOneOver (statement_scope table parts) l v s) found)) here over)
 
-pub returns-in-Bad : goal.returns-in-Bad
-returns-in-Bad c =
+pub returns : goal.returns
+returns c =
     let front = map declaration_of c.args.front.now.declarations.items in
     let block = block_of c.args.statements.now in
     let checked = subst (IsChecked (program_of c.args.front.now)) c.in-Bad.is c.in_ok-found.ensures in

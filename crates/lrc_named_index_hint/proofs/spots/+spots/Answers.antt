@@ -85,7 +85,9 @@ push_in-returns-in_ok-push_in-in-Binary t c =
     let l = spots_in c.args.at (expression_of c.deref-in-Binary.result.now) in
     let r = spots_in c.args.at (expression_of c.deref-in-Binary-2.result.now) in
     let is : spots_in c.args.at (expression_of c.args.expression.now) ≡ l ++ r =
-    ap (λ x. spots_in c.args.at (expression_of x)) c.in-Binary.is ∙ ap (λ x. spots_in c.args.at (expression_of x) ++ spots_in c.args.at (expression_of c.in-Binary.right.value)) (sym c.deref-in-Binary.ensures) ∙ ap (λ x. l ++ spots_in c.args.at (expression_of x)) (sym c.deref-in-Binary-2.ensures) in
+    ap (λ x. spots_in c.args.at (expression_of x)) c.in-Binary.is
+    ∙ ap (λ x. spots_in c.args.at (expression_of x) ++ spots_in c.args.at (expression_of c.in-Binary.right.value)) (sym c.deref-in-Binary.ensures)
+    ∙ ap (λ x. l ++ spots_in c.args.at (expression_of x)) (sym c.deref-in-Binary-2.ensures) in
     well (new ≡ one ++ r) (new ≡ old ++ spots_in c.args.at (expression_of c.args.expression.now)) c.push_in-in-Binary-2.result
     (λ h. two_pieces old one new l r c.in_ok-push_in-in-Binary.ensures h ∙ ap (λ z. old ++ z) (sym is)) c.push_in-in-Binary-2.ensures
 
@@ -97,7 +99,9 @@ push_in-returns-in_ok-push_in-in-And t c =
     let l = spots_in c.args.at (expression_of c.deref-in-And.result.now) in
     let r = spots_in c.args.at (expression_of c.deref-in-And-2.result.now) in
     let is : spots_in c.args.at (expression_of c.args.expression.now) ≡ l ++ r =
-    ap (λ x. spots_in c.args.at (expression_of x)) c.in-And.is ∙ ap (λ x. spots_in c.args.at (expression_of x) ++ spots_in c.args.at (expression_of c.in-And.right.value)) (sym c.deref-in-And.ensures) ∙ ap (λ x. l ++ spots_in c.args.at (expression_of x)) (sym c.deref-in-And-2.ensures) in
+    ap (λ x. spots_in c.args.at (expression_of x)) c.in-And.is
+    ∙ ap (λ x. spots_in c.args.at (expression_of x) ++ spots_in c.args.at (expression_of c.in-And.right.value)) (sym c.deref-in-And.ensures)
+    ∙ ap (λ x. l ++ spots_in c.args.at (expression_of x)) (sym c.deref-in-And-2.ensures) in
     well (new ≡ one ++ r) (new ≡ old ++ spots_in c.args.at (expression_of c.args.expression.now)) c.push_in-in-And-2.result
     (λ h. two_pieces old one new l r c.in_ok-push_in-in-And.ensures h ∙ ap (λ z. old ++ z) (sym is)) c.push_in-in-And-2.ensures
 
@@ -109,6 +113,8 @@ push_in-returns-in_ok-push_in-in-Or t c =
     let l = spots_in c.args.at (expression_of c.deref-in-Or.result.now) in
     let r = spots_in c.args.at (expression_of c.deref-in-Or-2.result.now) in
     let is : spots_in c.args.at (expression_of c.args.expression.now) ≡ l ++ r =
-    ap (λ x. spots_in c.args.at (expression_of x)) c.in-Or.is ∙ ap (λ x. spots_in c.args.at (expression_of x) ++ spots_in c.args.at (expression_of c.in-Or.right.value)) (sym c.deref-in-Or.ensures) ∙ ap (λ x. l ++ spots_in c.args.at (expression_of x)) (sym c.deref-in-Or-2.ensures) in
+    ap (λ x. spots_in c.args.at (expression_of x)) c.in-Or.is
+    ∙ ap (λ x. spots_in c.args.at (expression_of x) ++ spots_in c.args.at (expression_of c.in-Or.right.value)) (sym c.deref-in-Or.ensures)
+    ∙ ap (λ x. l ++ spots_in c.args.at (expression_of x)) (sym c.deref-in-Or-2.ensures) in
     well (new ≡ one ++ r) (new ≡ old ++ spots_in c.args.at (expression_of c.args.expression.now)) c.push_in-in-Or-2.result
     (λ h. two_pieces old one new l r c.in_ok-push_in-in-Or.ensures h ∙ ap (λ z. old ++ z) (sym is)) c.push_in-in-Or-2.ensures
