@@ -4,7 +4,8 @@ use Rattle.lrc_named_tokens.specs.Token.{Token}
 use Rattle.lrc_named_tree.specs.Tree.{Expression, Expressions, number, me, nodes, element, call, group, negation, binary, both, either, none, more}
 use Rattle.lrc_named_tree.specs.Ends.{first_of}
 use Rattle.lrc_named_tree.specs.Grammar as grammar
-use Rattle.lrc_named_tree.specs.Grammar.{Numbered, numbered, on, IsFactor, AreIndices, AreArguments, AreSeparate, IsTerm, AreFactors, IsSum, AreTerms, IsTest, IsBoth, AreTests, IsExpression, AreBoths}
+use Rattle.lrc_named_tree.specs.Grammar.{Numbered, numbered, on, IsFactor, AreIndices, AreArguments, AreSeparate, IsTerm, AreFactors, IsSum, AreTerms, IsTest, IsBoth}
+use Rattle.lrc_named_tree.specs.Grammar.{AreTests, IsExpression, AreBoths}
 
 -- tokens of ascending numbers, each of this one at least
 abbrev pub IsFrom : ℕ → List Numbered → Type 0
