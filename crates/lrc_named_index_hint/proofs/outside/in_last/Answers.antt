@@ -1,5 +1,5 @@
 -- The last one, if there is one.
-use Rattle.std.proofs.Common.{◌≡◌, List, [], ◌∷◌, ◌++◌, map}
+use Rattle.std.proofs.Common.{◌≡◌, List, [], ◌∷◌, ◌++◌, map, sym}
 use Rattle.lrc_named_tree.specs.declared.tree.Declaration as code_declaration
 use Rattle.lrc_named_tree.specs.View.{declaration_of}
 use Rattle.lrc_named_expression_faults.proofs.First.{if_ok}
@@ -12,8 +12,8 @@ returns-in-Some c =
     let all = c.args.taken.now in
     if_ok (λ found. IsFoundIn front c.args.at c.in-Some.declaration.now found)
     (λ found. (before : List code_declaration.Declaration) (last : code_declaration.Declaration) → all ≡ before ++ last ∷ [] → IsFoundIn front c.args.at last found)
-    c.in_declaration.result (λ found h. last_found front c.args.at all c.in-Some.declaration.now found c.in-Some.ensures.value h) c.in_declaration.ensures
+    c.in_declaration.result (λ found h. last_found front c.args.at all c.in-Some.declaration.now found (sym c.in-Some.ensures.value) h) c.in_declaration.ensures
 
 pub returns-in-None : goal.returns-in-None
 returns-in-None c =
-    none_last (map declaration_of c.args.front.now.declarations.items) c.args.at c.args.taken.now c.in-None.ensures.value
+    none_last (map declaration_of c.args.front.now.declarations.items) c.args.at c.args.taken.now (sym c.in-None.ensures.value)
