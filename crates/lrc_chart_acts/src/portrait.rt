@@ -62,7 +62,7 @@ fn portrait_in(
 {
     let order = happens_before(alloc, acts)?;
     let times = times_known(alloc, &order, acts, nodes, places)?;
-    let pairs = first_pairs(alloc, acts)?;
+    let pairs = first_pairs(alloc, &order, acts)?;
     let known = Known {
         acts,
         lines,

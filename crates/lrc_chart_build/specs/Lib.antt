@@ -1,3 +1,4 @@
+pub mod Counts
 pub mod Seen
 pub mod Course
 pub mod Bands

@@ -1,76 +1,50 @@
 // Barriers of a picture.
 
-ghost use Rattle.std.specs.Prelude.{◌≡◌, ◌==◌, ◌∷◌, ◌++◌, [], IfOk, OnOk, if◌then◌else◌, map};
-ghost use Rattle.lrc_trace.specs.Run.{arrives_before, departs_before, is_arrive, is_depart};
+ghost use Rattle.std.specs.Prelude.{◌≡◌, ◌==◌, ◌∷◌, ◌++◌, [], ℕ, IfOk, List, OnOk, if◌then◌else◌, map};
+ghost use Rattle.lrc_trace.specs.declared.act.Act.{Act as AnyAct};
 ghost use Rattle.lrc_chart_build.specs.Bands.{band, band_at, band_if, barrier_at, barrier_of, barrier_of_act, barriers};
 ghost use Rattle.lrc_chart_build.specs.Bands.{last_or, places_of, shown_bands};
+ghost use Rattle.lrc_chart_build.specs.Counts.{AreCounts, AreCountsAt};
 ghost use Rattle.lrc_chart_build.specs.Seen.{seen_band};
 ghost use Rattle.lrc_text.specs.Each.{each};
 
+use crate::counts::Counts;
 use crate::part::Place;
 use lrc_chart_model::Band;
 use lrc_text::push_number;
 use lrc_trace::act::{Act, Deed};
 use std::alloc::{AllocError, Global};
 
-fn is_arrive(deed: Deed) -> bool
-    ensures { result ≡ is_arrive deed }
-{
-    matches!(deed, Deed::Arrive)
-}
-
-fn is_depart(deed: Deed) -> bool
-    ensures { result ≡ is_depart deed }
-{
-    matches!(deed, Deed::Depart)
-}
-
-// How often a node came to a barrier before a position.
-fn arrives_before(acts: &[Act], node: u8, position: usize) -> u64
-    ensures { result ≡ arrives_before acts.now node position }
-{
-    acts.iter()
-        .take(position)
-        .filter(|act| act.node == node && is_arrive(act.deed))
-        .count() as u64
-}
-
-// How often a node left one.
-fn departs_before(acts: &[Act], node: u8, position: usize) -> u64
-    ensures { result ≡ departs_before acts.now node position }
-{
-    acts.iter()
-        .take(position)
-        .filter(|act| act.node == node && is_depart(act.deed))
-        .count() as u64
-}
-
-// The number of the barrier that the act at a position comes to or leaves; 0 at another deed.
-fn barrier_of(acts: &[Act], position: usize, act: Act) -> u64
-    ensures { result ≡ barrier_of acts.now position act.node act.deed }
+// The number of the barrier that an act comes to or leaves, where the counts are those at its position; 0 at another deed.
+fn barrier_of(counts: &Counts, act: Act) -> u64
+    ensures { (acts : List AnyAct) (position : ℕ) → AreCounts acts position counts.now
+        → result ≡ barrier_of acts position act.node act.deed }
 {
     match act.deed {
-        Deed::Arrive => 1 + arrives_before(acts, act.node, position),
-        Deed::Depart => 1 + departs_before(acts, act.node, position),
+        Deed::Arrive => counts.arrival(act.node),
+        Deed::Depart => counts.departure(act.node),
         _ => 0,
     }
 }
 
-fn barrier_of_act(acts: &[Act], position: usize) -> u64
+fn barrier_of_act(acts: &[Act], counts: &Counts, position: usize) -> u64
+    requires { AreCounts acts.now position counts.now }
     ensures { result ≡ barrier_at acts.now (Some position) }
 {
     match acts.get(position) {
-        Some(act) => barrier_of(acts, position, *act),
+        Some(act) => barrier_of(counts, *act),
         None => 0,
     }
 }
 
-/// Returns the number of the barrier that the act at a position reaches or leaves, or 0 for another deed or no act.
-pub(crate) fn barrier_at(acts: &[Act], act: Option<usize>) -> u64
+/// Returns the number of the barrier that the act at a position reaches or leaves, given the counts there, or 0 for
+/// another deed or no act.
+pub(crate) fn barrier_at(acts: &[Act], counts: &Counts, act: Option<usize>) -> u64
+    requires { AreCountsAt acts.now act counts.now }
     ensures { result ≡ barrier_at acts.now act }
 {
     match act {
-        Some(position) => barrier_of_act(acts, position),
+        Some(position) => barrier_of_act(acts, counts, position),
         None => 0,
     }
 }
@@ -80,8 +54,10 @@ fn barriers(alloc: Global, acts: &[Act], places: &[Place]) -> Result<Vec<u64>, A
     ensures { IfOk result (λ numbers. numbers.items ≡ barriers acts.now places.now) }
 {
     let mut numbers = Vec::new(alloc);
+    let mut counts = Counts::new();
     for place in places {
-        numbers.push(barrier_at(acts, place.act))?;
+        counts.go_to_act(acts, place.act);
+        numbers.push(barrier_at(acts, &counts, place.act))?;
     }
     Ok(numbers)
 }

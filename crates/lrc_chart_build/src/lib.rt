@@ -14,6 +14,7 @@
 mod arrows;
 mod bands;
 mod circles;
+mod counts;
 mod course;
 pub mod laws;
 mod message;
@@ -28,6 +29,7 @@ mod waits;
 mod words;
 
 pub use bands::bands_of;
+pub use counts::Counts;
 pub use course::{Course, Known};
 pub use part::{Part, Place};
 pub use portrait::{MOST_ROWS, PortraitFault, columns_of, portrait_of};

@@ -3,8 +3,10 @@
 ghost use Rattle.std.specs.Prelude.{◌≡◌, ◌++◌, [], IfOk, OnOk, codes, if◌then◌else◌, map};
 ghost use Rattle.lrc_labels.specs.Reading.{label_seen};
 ghost use Rattle.lrc_log.specs.Input.{seen_input};
+ghost use Rattle.lrc_chart_build.specs.Counts.{AreCountsAt};
 ghost use Rattle.lrc_chart_build.specs.Waits.{begins_collection, collects, first_wish, idle_kind, idle_words, kind_by, turn_kind, turn_words, wish_of};
 
+use crate::counts::Counts;
 use crate::course::Course;
 use crate::pages::taken_before;
 use crate::part::Place;
@@ -99,19 +101,21 @@ fn push_idle_words(
     }
 }
 
-/// Returns a description of what a turn does.
+/// Returns a description of what a turn does, given the counts at its act.
 pub(crate) fn turn_words(
     alloc: Global,
     course: &Course<'_>,
+    counts: &Counts,
     place: Place,
     turn: &TurnOf<'_>,
 ) -> Result<Vec<u8>, AllocError>
+    requires { AreCountsAt course.now.known.acts place.act counts.now }
     ensures { IfOk result (λ words. words.items ≡ turn_words course.now place turn.now) }
 {
     let entry = turn.entry;
     let mut words = Vec::new(alloc);
     match entry.turn.act {
-        Some(act) => push_act_words(&mut words, &course.known, place.act, act.deed)?,
+        Some(act) => push_act_words(&mut words, &course.known, counts, place.act, act.deed)?,
         None => {
             let collects = begins_collection(course.turns, place.turn, &entry.input);
             let labels = course.known.labels;

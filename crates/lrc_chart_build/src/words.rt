@@ -1,13 +1,12 @@
 // What is written of an act, but for its time.
 
-ghost use Rattle.std.specs.Prelude.{◌≡◌, ◌++◌, OnOk, map, take};
+ghost use Rattle.std.specs.Prelude.{◌≡◌, ◌++◌, IfOk, OnOk, map, slice_index};
 ghost use Rattle.lrc_labels.specs.Reading.{label_seen};
-ghost use Rattle.lrc_trace.specs.Interval.{closes, interval_at};
-ghost use Rattle.lrc_trace.specs.Run.{count_of};
-ghost use Rattle.std.specs.Prelude.{IfOk, slice_index};
+ghost use Rattle.lrc_chart_build.specs.Counts.{AreCountsAt};
 ghost use Rattle.lrc_chart_build.specs.Words.{access_words, act_closes, act_place_text, act_words, deed_kind, deed_words, lock_words, place_words};
 
 use crate::bands::barrier_at;
+use crate::counts::{Counts, closes_interval};
 use crate::course::Known;
 use lrc_chart_model::Kind;
 use lrc_labels::label::Label;
@@ -65,16 +64,18 @@ fn push_deed_words(
     }
 }
 
-/// Adds the deed of the act at a position, in words.
+/// Adds the deed of the act at a position, in words, given the counts there.
 pub fn push_act_words(
     text: &mut Vec<u8>,
     known: &Known<'_>,
+    counts: &Counts,
     position: Option<usize>,
     deed: Deed,
 ) -> Result<(), AllocError>
+    requires { AreCountsAt known.now.acts position counts.now }
     ensures { OnOk result (text.new.items ≡ text.old.items ++ act_words known.now position deed) }
 {
-    let barrier = barrier_at(known.acts, position);
+    let barrier = barrier_at(known.acts, counts, position);
     push_deed_words(text, known.labels, barrier, deed)
 }
 
@@ -89,12 +90,6 @@ pub fn deed_kind(deed: Deed) -> Kind
     }
 }
 
-fn closes_interval(deed: Deed) -> bool
-    ensures { result ≡ closes deed }
-{
-    matches!(deed, Deed::Acquire(_) | Deed::Release(_) | Deed::Arrive)
-}
-
 /// Returns whether an act closes an interval.
 pub fn act_closes(act: Option<Act>) -> bool
     ensures { result ≡ act_closes act }
@@ -103,23 +98,6 @@ pub fn act_closes(act: Option<Act>) -> bool
         Some(act) => closes_interval(act.deed),
         None => false,
     }
-}
-
-// How many intervals a node closed before a position.
-fn closed_before(acts: &[Act], node: u8, position: usize) -> u64
-    ensures { result ≡ count_of closes node (take position acts.now) }
-{
-    acts.iter()
-        .take(position)
-        .filter(|act| act.node == node && closes_interval(act.deed))
-        .count() as u64
-}
-
-// The interval of a node's act at a position.
-fn interval_at(acts: &[Act], node: u8, position: usize) -> u64
-    ensures { result ≡ interval_at acts.now node position }
-{
-    1 + closed_before(acts, node, position)
 }
 
 /// Returns the line at a position, or 0 if there is none.
@@ -140,20 +118,21 @@ fn push_place(text: &mut Vec<u8>, line: u32, interval: u64) -> Result<(), AllocE
     push_number(text, b", interval ", interval)
 }
 
-/// Returns the line and the interval of a node's act at a position.
+/// Returns the line and the interval of a node's act at a position, given the counts there.
 pub fn act_place_text(
     alloc: Global,
     known: &Known<'_>,
+    counts: &Counts,
     node: u8,
     act: Option<usize>,
 ) -> Result<Vec<u8>, AllocError>
+    requires { AreCountsAt known.now.acts act counts.now }
     ensures { IfOk result (λ text. text.items ≡ act_place_text known.now node act) }
 {
     let mut text = Vec::new(alloc);
     if let Some(position) = act {
         let line = line_at(known.lines, position);
-        let interval = interval_at(known.acts, node, position);
-        push_place(&mut text, line, interval)?;
+        push_place(&mut text, line, counts.interval(node))?;
     }
     Ok(text)
 }

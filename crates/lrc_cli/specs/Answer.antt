@@ -56,7 +56,7 @@ use Rattle.lrc_cli_args.specs.declared.choice.OutcomeNumber.{OutcomeNumber}
 use Rattle.lrc_cli_args.specs.declared.choice.Judging.{Judging}
 use Rattle.lrc_cli_args.specs.declared.choice.Tell.{Tell}
 use Rattle.lrc_cli.specs.Events.{IsEventsAnswer}
-use Rattle.lrc_cli.specs.Exact.{HasExactFault, HasExactRunFault, ShowsExactOutcomes, ShowsExactRun}
+use Rattle.lrc_cli.specs.Exact.{HasExactFault, HasExactRunFault, ShowsExactOutcomes, ShowsExactRun, tries_asked}
 use Rattle.lrc_cli_answer.specs.declared.fault.Fault.{Fault}
 use Rattle.lrc_cli_answer.specs.declared.fault.Fault.TheVariants.{Acts, LongActs, NoAct, NoOutcome, TooManyStates, NoMemory}
 use Rattle.lrc_cli_answer.specs.declared.fault.Fault.TheVariants as printout_faults
@@ -95,10 +95,6 @@ ShowsOutcome exploring program places number out status = TellsNumberedRun progr
 -- the text and the status are what is said of every order
 abbrev pub ShowsOrders : Exploring → Wording → Program → (places : List ℕ) → List ℕ → ℕ → Type 0
 ShowsOrders exploring wording program places out status = Explores wording program exploring.nodes.count places exploring.outcomes out status
-
--- how many runs at random are tried, if any are
-abbrev pub tries_asked : Exploring → Option ℕ
-tries_asked exploring = option_map (λ tries. tries.count) exploring.tries
 
 -- the text lists the outcomes of all lazy runs, and the search met no more states than it may
 abbrev pub ShowsLazyOutcomes : Exploring → Program → List ℕ → ℕ → Type 0
@@ -316,9 +312,14 @@ IsFaultIn Flat exploring program fault = IsFlatFault exploring.outcome exploring
 IsFaultIn Lazy exploring program fault = IsLazyFault exploring.outcome exploring.outcomes exploring program fault
 IsFaultIn (Exact options) exploring program fault = IsExactFault exploring.outcome exploring.outcomes options exploring program fault
 
--- the fault of a search for the order whose events are asked for
+-- the fault of a search for the order whose events are asked for: of an outcome, by the memory, or of a line
+abbrev pub HasOutcomeEventsFault : Memory → Exploring → Program → (number : ℕ) → Fault → Type 0
+HasOutcomeEventsFault Flat exploring program number fault = HasOutcomeFault exploring program number fault
+HasOutcomeEventsFault Lazy exploring program number fault = HasOutcomeFault exploring program number fault
+HasOutcomeEventsFault (Exact options) exploring program number fault = HasExactRunFault options exploring program number fault
+
 abbrev pub IsEventsFault : Option OutcomeNumber → Exploring → Program → Fault → Type 0
-IsEventsFault (Some outcome) exploring program fault = HasOutcomeFault exploring program outcome.number fault
+IsEventsFault (Some outcome) exploring program fault = HasOutcomeEventsFault exploring.memory exploring program outcome.number fault
 IsEventsFault None exploring program fault = HasLineFault exploring program fault
 
 abbrev pub IsFaultOfSearch : Option Tell → Exploring → Program → Fault → Type 0

@@ -2,12 +2,13 @@
 
 ghost use Rattle.std.specs.Prelude.{◌≡◌, ◌≤◌, IfErr, IfOk};
 ghost use Rattle.lrc_text.specs.Parts.{whole_text};
-ghost use Rattle.lrc_cli.specs.Answer.{HasLineFault, HasOutcomeFault, IsEventsFault};
-ghost use Rattle.lrc_cli.specs.Events.{IsEventsAnswer, ShowsLineOf, ShowsOutcomeEvents, line_of};
+ghost use Rattle.lrc_cli.specs.Answer.{HasLineFault, HasOutcomeEventsFault, HasOutcomeFault, IsEventsFault};
+ghost use Rattle.lrc_cli.specs.Events.{IsEventsAnswer, ShowsEventsIn, ShowsLineOf, ShowsOutcomeEvents, line_of};
 
+use crate::exact::one_exact_run_as_events;
 use lrc_cli_answer::fault::Fault;
 use lrc_cli_answer::printout::{Printout, in_one};
-use lrc_cli_args::choice::{Exploring, Tell};
+use lrc_cli_args::choice::{Exploring, Memory, Tell};
 use lrc_explore_events_text::outcome::outcome_shown;
 use lrc_explore_events_text::told::{Line, line_shown};
 use lrc_orders::search::ExploreFault;
@@ -26,8 +27,30 @@ pub(crate) fn events_of(
     ensures err { IfErr result (IsEventsFault exploring.now.outcome exploring.now program.now) }
 {
     match exploring.outcome {
-        Some(outcome) => outcome_events(alloc, exploring, program, outcome.number),
+        Some(outcome) => events_in_memory(alloc, exploring, program, outcome.number),
         None => line_events(alloc, exploring, program, tell),
+    }
+}
+
+// Events along a run, in the memory that is asked for, with the outcome of this number.
+fn events_in_memory(
+    alloc: Global,
+    exploring: &Exploring<'_>,
+    program: &Program,
+    number: u64,
+) -> Result<Printout, Fault>
+    requires { 1 ≤ number }
+    ensures ok { IfOk result (λ printout. ShowsEventsIn exploring.now.memory exploring.now
+        program.now number (whole_text printout.parts.items) printout.status) }
+    ensures err { IfErr result (HasOutcomeEventsFault exploring.now.memory exploring.now
+        program.now number) }
+{
+    match exploring.memory {
+        Memory::Flat => outcome_events(alloc, exploring, program, number),
+        Memory::Lazy => outcome_events(alloc, exploring, program, number),
+        Memory::Exact(options) => {
+            one_exact_run_as_events(alloc, exploring, options, program, number)
+        }
     }
 }
 

@@ -1,8 +1,8 @@
 // What the program answers to the command `explore`.
 
-ghost use Rattle.std.specs.Prelude.{◌≡◌, ◌≤◌, ◌⊎◌, IfErr, IfOk, None};
+ghost use Rattle.std.specs.Prelude.{◌≤◌, ◌⊎◌, IfErr, IfOk, None};
 ghost use Rattle.lrc_cli.specs.Answer.{HasFindingsFault, HasLazyFault, HasLazyRunFault, HasLineFault, HasOrdersFault, HasOutcomeFault, IsAnswerTo, IsExactAnswer, IsExactFault, IsExploration, IsFault, IsFaultIn, IsFlatAnswer, IsFlatFault};
-ghost use Rattle.lrc_cli.specs.Answer.{IsLazyAnswer, IsLazyFault, IsSaid, IsSearchFault, Prints, ShowsEnds, ShowsFindings, ShowsLazyOutcomes, ShowsLazyRun, ShowsOrders, ShowsOutcome, tries_asked};
+ghost use Rattle.lrc_cli.specs.Answer.{IsLazyAnswer, IsLazyFault, IsSaid, IsSearchFault, Prints, ShowsEnds, ShowsFindings, ShowsLazyOutcomes, ShowsLazyRun, ShowsOrders, ShowsOutcome};
 ghost use Rattle.lrc_cli_answer.specs.Texts.{IsTextFault, IsTextOf};
 ghost use Rattle.lrc_explain_waits.specs.Traps.{wording_of};
 ghost use Rattle.lrc_program.specs.declared.Program.{Program as AnyProgram};
@@ -10,7 +10,7 @@ ghost use Rattle.lrc_text.specs.Parts.{whole_text};
 ghost use Rattle.lrc_cli_args.specs.declared.choice.Choice.TheVariants.{Explore};
 
 use crate::events::events_of;
-use crate::exact::{all_exact_runs, one_exact_run};
+use crate::exact::{all_exact_runs, one_exact_run, tries_of};
 use crate::reading::{exploring_for, read};
 use lrc_cli_answer::fault::Fault;
 use lrc_cli_answer::printout::{Printout, in_one};
@@ -333,16 +333,6 @@ fn all_lazy_runs(
         Err(ExploreFault::TooMany) => Err(Fault::TooManyStates(most)),
         Err(ExploreFault::NoMemory) => Err(Fault::NoMemory),
         Err(ExploreFault::BadNodes) => unreachable!(),
-    }
-}
-
-// How many runs at random are tried, if any are.
-fn tries_of(exploring: &Exploring<'_>) -> Option<u32>
-    ensures { result ≡ tries_asked exploring.now }
-{
-    match exploring.tries {
-        Some(tries) => Some(tries.count),
-        None => None,
     }
 }
 

@@ -266,10 +266,10 @@ IsPlainMemory word (Exact options) = ⊥
 abbrev pub IsNoPlainMemory : Text → Type 0
 IsNoPlainMemory word = (word ≢ codes "flat") × (word ≢ codes "lazy")
 
--- whether runs at random may be asked for: with the list of the lazy outcomes
+-- whether runs at random may be asked for: with the list of the lazy or of the exact outcomes
 abbrev pub takes_tries : Memory → (outcomes : Bool) → (outcome : Option ℕ) → Bool
 takes_tries Flat outcomes outcome = false
-takes_tries (Exact options) outcomes outcome = false
+takes_tries (Exact options) outcomes outcome = outcomes && is_none outcome
 takes_tries Lazy outcomes outcome = outcomes && is_none outcome
 
 -- whether a word says that rows of quiet acts are left out; without one they are not
@@ -422,11 +422,11 @@ IsTell word tells.Stuck = word ≡ Some (codes "stuck")
 IsTell word tells.Trap = word ≡ Some (codes "trap")
 IsTell word tells.End = word ≡ Some (codes "end")
 
--- events are of one order of the flat memory: none are shown of a list of outcomes
+-- events are of one order of the flat memory, or of one outcome of the exact memory: none are shown of a list of outcomes
 abbrev pub takes_events : Memory → (outcomes : Bool) → (outcome : Option ℕ) → Bool
 takes_events Flat outcomes outcome = not outcomes || is_some outcome
 takes_events Lazy outcomes outcome = false
-takes_events (Exact options) outcomes outcome = false
+takes_events (Exact options) outcomes outcome = is_some outcome
 
 -- of an outcome there is one order, and an order that can no longer end is looked for only where ends are asked for
 abbrev pub takes_tell : Tell → (outcome : Option ℕ) → (ends : Bool) → Bool

@@ -231,7 +231,7 @@ pub struct Exploring<'w> {
     /// The outcome for which a run is shown, instead of the list of all outcomes.
     pub outcome: Option<OutcomeNumber>,
     /// The number of runs in random orders that are searched for the listed outcomes, if any. It comes only with the
-    /// list of lazy outcomes.
+    /// list of lazy or of exact outcomes.
     pub tries: Option<Tries>,
     /// Whether no race is looked for, so that programs that race are searched for stuck orders and traps too. It does not
     /// come with outcomes, nor where a memory is named.
@@ -239,7 +239,8 @@ pub struct Exploring<'w> {
     /// Whether it is asked whether every order can end. It does not come with outcomes, nor where a memory is named.
     pub ends: bool,
     /// The order whose events are shown in place of all lines, if events are asked for. They come neither with the list of
-    /// outcomes nor with lazy memory, and with one outcome only as those of the first order.
+    /// outcomes nor with lazy memory, with exact memory only of one outcome, and with one outcome only as those of the first
+    /// order.
     pub events: Option<Tell>,
 }
 

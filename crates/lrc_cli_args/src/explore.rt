@@ -119,13 +119,15 @@ fn order_named(word: &str) -> Result<Tell, Misfit>
     }
 }
 
-// Whether events may be asked for: of one order of the flat memory, and not of a list of outcomes.
+// Whether events may be asked for: of one order of the flat memory, and not of a list of outcomes, or of one outcome of the
+// exact memory.
 fn takes_events(memory: Memory, outcomes: bool, outcome: Option<u64>) -> bool
     ensures { result ≡ takes_events memory outcomes outcome }
 {
     match memory {
         Memory::Flat => !outcomes || outcome.is_some(),
-        Memory::Lazy | Memory::Exact(_) => false,
+        Memory::Lazy => false,
+        Memory::Exact(_) => outcome.is_some(),
     }
 }
 
@@ -201,12 +203,12 @@ fn memory_named(word: &str) -> Result<Memory, Misfit>
     }
 }
 
-// Whether runs at random may be asked for: with the list of the lazy outcomes.
+// Whether runs at random may be asked for: with the list of the lazy or the exact outcomes.
 fn takes_tries(memory: Memory, outcomes: bool, outcome: Option<u64>) -> bool
     ensures { result ≡ takes_tries memory outcomes outcome }
 {
     match memory {
-        Memory::Flat | Memory::Exact(_) => false,
-        Memory::Lazy => outcomes && outcome.is_none(),
+        Memory::Flat => false,
+        Memory::Lazy | Memory::Exact(_) => outcomes && outcome.is_none(),
     }
 }

@@ -45,7 +45,7 @@ const BAD_EXACT_OPTION: &str =
     "the arguments '--page <WORDS>' and '--collect <N>' cannot be used without '--memory exact'";
 
 const BAD_TRIES: &str =
-    "the argument '--tries <T>' is of '--memory lazy --outcomes' alone, and not of '--outcome <K>'";
+    "the argument '--tries <T>' is of '--outcomes' with '--memory lazy' or '--memory exact' alone, and not of '--outcome <K>'";
 
 const BAD_IGNORED_RACES: &str =
     "the argument '--ignore-races' cannot be used with '--outcomes', '--outcome <K>' or '--memory <MEMORY>'";
@@ -56,7 +56,7 @@ const BAD_ENDS: &str =
 const BAD_EXPLORE_FORM: &str = "invalid value for '--as <FORM>': it is events";
 
 const BAD_EVENTS: &str =
-    "the argument '--as events' cannot be used with '--outcomes' without '--outcome <K>', or with '--memory lazy' or '--memory exact'";
+    "the argument '--as events' cannot be used with '--outcomes' or '--memory exact' without '--outcome <K>', or with '--memory lazy'";
 
 const BAD_TOLD_ORDER: &str = "invalid value for '--tell <ORDER>': it is stuck, trap or end";
 

@@ -96,7 +96,7 @@ const ENDS_HELP: &str =
     "Tells too whether every order can end, so that no node waits for what can no longer come";
 
 const EXPLORE_FORM_HELP: &str =
-    "events: in place of all lines, prints the events by which `sim --events` makes a run that follows the order told, the first if several are. Not with the list of outcomes, or `--memory lazy` or `exact`";
+    "events: in place of all lines, prints the events by which `sim --events` makes a run that follows the order told, the first if several are. Not with the list of outcomes, or `--memory lazy`; with `--memory exact` only of `--outcome`";
 
 const TELL_HELP: &str =
     "With `--as events`: which order they are of: stuck, trap, or end, which goes with `--ends`; not with `--outcome`. Left out, the first that is told";
@@ -108,7 +108,7 @@ const MEMORY_HELP: &str =
     "Whose runs there are: flat (every order over one flat memory), lazy (every run of any memory that keeps lazy reading), or exact (the runs of this memory, with the pages of `--page` and the collections of `--collect`, which go with it alone). Races are the same by all";
 
 const TRIES_HELP: &str =
-    "With the outcomes of the lazy memory: plays so many runs at random, of the seeds 0, 1, .., and names the least seed whose run has an outcome: 1 to 1000000";
+    "With the outcomes of the lazy or the exact memory: plays so many runs at random, of the seeds 0, 1, .., and names the least seed whose run has an outcome: 1 to 1000000";
 
 const ACTS_HELP: &str =
     "A file of acts, in place of FILE; `-` is standard input. It goes with `--nodes` and `--page` alone, and `--nodes` left out is one more than the greatest that acts";

@@ -1,7 +1,8 @@
 -- What is told of the outcomes of exact runs.
 use Rattle.std.proofs.Common.{◌≡◌, ℕ, List, ◌++◌, get_or, length, map, sym, subst, ◌∙◌, ap, ap₂}
-use Rattle.std.specs.Prelude.{◌↔◌, Some}
+use Rattle.std.specs.Prelude.{◌↔◌, Option, Some, None}
 use Rattle.std.specs.List.{IsDistinct}
+use Rattle.std.proofs.lemmas.List.{length-replicate}
 use Rattle.std.proofs.lemmas.Option.{same_Some, slice_get-get_or, slice_get_within}
 use Rattle.lrc_program.specs.declared.Program.{Program}
 use Rattle.lrc_trace.specs.declared.act.Act.{Act}
@@ -10,13 +11,15 @@ use Rattle.lrc_orders.specs.contracts.outcomes.OutcomePartialEq.TheImpl.{eq-valu
 use Rattle.lrc_orders.specs.Outcome.{HasOutcome}
 use Rattle.lrc_explore_text.specs.OutcomeRun.{IsNumberedAt}
 use Rattle.lrc_lazy_text.specs.declared.listed.ToldOutcome.{ToldOutcome}
+use Rattle.lrc_protocol.specs.Node.{OptionsRecord}
 use Rattle.lrc_lazy_text.specs.Listed.{AreToldOf, marked_lines, told_pair}
 use Rattle.lrc_lazy_text.proofs.Sorting.{marked_text}
 use Rattle.lrc_exact.specs.Rule.{Shape}
 use Rattle.lrc_exact_outcomes.specs.Outcome.{IsExactOutcome}
 use Rattle.lrc_exact_search.specs.declared.search.Met.{Met}
 use Rattle.lrc_exact_search.specs.Searching.{AreRunsOf, HasRunAt}
-use Rattle.lrc_exact_text.specs.Listed.{AreExactOutcomes, ListsExactOutcomes, exact_head, no_seeds}
+use Rattle.lrc_exact_seeds.specs.Seeds.{AreSeedsFor}
+use Rattle.lrc_exact_text.specs.Listed.{AreExactOutcomes, ListsExactOutcomes, exact_head}
 use Rattle.lrc_exact_text.specs.One.{IsNumberedExactRun}
 
 -- the search finds exactly the outcomes, each once
@@ -51,10 +54,16 @@ numbered_at program shape outcomes runs are sound number place at own any there 
     (numbered program shape outcomes runs are sound number place at r)
 
 -- the text of all lines behind the first
-pub listed : (nodes : ℕ) (outcomes : List Outcome) (told : List ToldOutcome) (head out : List ℕ) → AreToldOf nodes outcomes (no_seeds outcomes) told
-    → head ≡ exact_head (length outcomes) → out ≡ head ++ marked_lines told → ListsExactOutcomes nodes outcomes out
-listed nodes outcomes told head out are is_head whole = record {
+pub listed : (nodes : ℕ) (outcomes : List Outcome) (seeds : List (Option ℕ)) (told : List ToldOutcome) (head out : List ℕ) → AreToldOf nodes outcomes seeds told
+    → head ≡ exact_head (length outcomes) → out ≡ head ++ marked_lines told → ListsExactOutcomes nodes outcomes seeds out
+listed nodes outcomes seeds told head out are is_head whole = record {
   told = map told_pair told;
   are = are;
   whole = whole ∙ ap₂ (λ (h m : List ℕ). h ++ m) is_head (marked_text told);
 }
+
+-- where runs are tried or not, there is a seed for each outcome, or none
+pub seeds_long : (program : Program) (nodes : ℕ) (options : OptionsRecord) (tries : Option ℕ) (outcomes : List Outcome) (seeds : List (Option ℕ))
+    → AreSeedsFor program nodes options tries outcomes seeds → length seeds ≡ length outcomes
+seeds_long program nodes options (Some tries) outcomes seeds are = are.count
+seeds_long program nodes options None outcomes seeds are = ap (λ (l : List (Option ℕ)). length l) are ∙ length-replicate {A = Option ℕ} (length outcomes) None

@@ -47,8 +47,8 @@ pub fn exact_run_told(
     }
 }
 
-// The acts of an exact run that has the outcome with this number, if there are as many.
-fn run_of(
+/// Returns the acts of an exact run that has the outcome with this number, if there are as many.
+pub(crate) fn run_of(
     alloc: Global,
     program: &Program,
     layout: Layout,

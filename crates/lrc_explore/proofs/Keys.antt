@@ -1,5 +1,5 @@
 -- Keys that are put to those that were found.
-use Rattle.std.proofs.Common.{◌≡◌, ℕ, zero, suc, ◌+◌, ◌<◌, ◌≤◌, List, [], ◌∷◌, ◌++◌, Bool, true, false, inl, inr, length, get_or, map, take, refl, sym, ap, ◌∙◌, subst, arith, add-one}
+use Rattle.std.proofs.Common.{◌≡◌, ℕ, ◌+◌, ◌<◌, ◌≤◌, List, [], ◌∷◌, ◌++◌, Bool, true, false, inl, inr, length, map, refl, sym, ap, ◌∙◌, subst, arith}
 use Rattle.std.specs.Prelude.{All, Some, slice_get, if◌then◌else◌}
 use Rattle.std.proofs.lemmas.Bool.{cases_lt, cases_eq}
 use Rattle.std.proofs.lemmas.List.{length-map, length_push}
@@ -13,7 +13,7 @@ use Rattle.lrc_orders_table.specs.declared.rows.Rows.{Rows}
 use Rattle.lrc_exec.specs.declared.state.State.{State}
 use Rattle.lrc_orders.specs.Kept.{Grows, IsAddedAt}
 use Rattle.lrc_orders_table.specs.Rows.{IsRowAt, IsRowPlace, WidensRows, row_count}
-use Rattle.lrc_orders.specs.Notes.{notes_of, notes_with}
+use Rattle.lrc_orders.specs.Notes.{notes_of}
 use Rattle.lrc_exec.specs.States.{plain_at, IsCopy, IsStateOf}
 use Rattle.lrc_orders.proofs.Keeping.{grows_again, grows_not, stands_on}
 use Rattle.lrc_orders.proofs.Searching.{copy_same, copy_state}
@@ -38,18 +38,7 @@ use Rattle.lrc_orders_live.proofs.Alike.{takes_once}
 use Rattle.lrc_orders_live.proofs.Like.{like_alike, like_back, like_is, like_on, like_same}
 use Rattle.lrc_orders_table.proofs.Forgotten.{all_forgot}
 use Rattle.lrc_explore.proofs.MeansOf.{table_distinct}
-use Rattle.lrc_explore.proofs.Reaching.{Further, further, notes_onward, notes_start}
-
--- one act more
-noted_next : (acts : List Act) (i : ℕ) (d : Act) (notes : List Act) → i < length acts
-    → notes_on notes (take (suc i) acts) ≡ notes_with (notes_on notes (take i acts)) (get_or acts i d)
-noted_next [] i d notes lt = absurd (omega arith)
-noted_next (x ∷ xs) zero d notes lt = refl
-noted_next (x ∷ xs) (suc i) d notes lt = noted_next xs i d (notes_with notes x) (omega arith)
-
-pub noted_more : (acts : List Act) (i : ℕ) (d : Act) (notes : List Act) → i < length acts
-    → notes_on notes (take (i + 1) acts) ≡ notes_with (notes_on notes (take i acts)) (get_or acts i d)
-noted_more acts i d notes lt = ap (λ n. notes_on notes (take n acts)) (add-one i) ∙ noted_next acts i d notes lt
+use Rattle.lrc_explore.proofs.Reaching.{Further, further, notes_onward}
 
 -- ---- copies
 
@@ -198,9 +187,7 @@ module _ (task : Task) (state : State) (acts : List Act) (key : Noted) (s : Sett
   made = sym s.made
 
   start_noted : task.noting ≡ true → notes_of task.flat.nodes s.acts ≡ key.notes.items
-  start_noted e =
-      notes_start task.program.now task.flat.nodes s.acts s.settles.there (beginning s.acts s.settles.there s.settles.settles)
-      ∙ ap (notes_on []) made ∙ sym (k.noted e)
+  start_noted e = ap (notes_of task.flat.nodes) made ∙ sym (k.noted e)
 
   pub start_reached : IsReached task key
   start_reached = record {

@@ -1,6 +1,7 @@
 pub mod Reaching
 pub mod MeansOf
 pub mod Keys
+pub mod NoteLists
 pub mod Stepping
 pub mod Trapping
 pub mod Seeking

@@ -1,5 +1,5 @@
 -- States that were reached, and what they are of the program.
-use Rattle.std.proofs.Common.{◌≡◌, ℕ, zero, suc, List, [], ◌∷◌, ◌++◌, length, refl, sym, ap, ◌∙◌, arith, append_assoc, append-nil}
+use Rattle.std.proofs.Common.{◌≡◌, ℕ, List, [], ◌∷◌, ◌++◌, length, sym, ap, ◌∙◌, arith, append_assoc, append-nil}
 use Rattle.std.specs.Prelude.{Some}
 use Rattle.std.proofs.lemmas.Option.{some_pair_parts}
 use Rattle.lrc_program.specs.declared.Program.{Program}
@@ -11,7 +11,7 @@ use Rattle.lrc_consistency_laws.specs.Racing.{HasNoRace}
 use Rattle.lrc_orders.specs.declared.noted.Noted.{Noted}
 use Rattle.lrc_orders_table.specs.declared.rows.Rows.{Rows}
 use Rattle.lrc_orders_table.specs.Rows.{row_count}
-use Rattle.lrc_orders.specs.Notes.{notes_from, notes_of}
+use Rattle.lrc_orders.specs.Notes.{notes_of}
 use Rattle.lrc_exec.specs.States.{plain_at}
 use Rattle.lrc_orders.specs.Stuck.{GetsStuck, IsStuck}
 use Rattle.lrc_orders.specs.Verdict.{NeverStuck}
@@ -62,10 +62,6 @@ notes_run nodes (node ∷ order) machine final before acts size run =
     ∙ ap (λ n. notes_on n b.more.0) (notes_more nodes before act (omega (arith, within, size)))
     ∙ ap (notes_on (notes_of nodes before)) (sym is)
 
-notes_none : (count first : ℕ) → notes_from first count [] ≡ []
-notes_none zero first = refl
-notes_none (suc count) first = notes_none count (suc first)
-
 module _ (program : Program) (nodes : ℕ) where
   -- a run from the beginning in two parts
   record Parted (more : List Act) : Type 0 where
@@ -91,11 +87,6 @@ module _ (program : Program) (nodes : ℕ) where
   notes_onward acts more machine state =
       let p = parted acts more (plain_start program nodes) (threads_at_start program nodes) (nodes_of_acts (acts ++ more)) machine (state_run state) in
       notes_run nodes p.order p.mid p.final acts more p.size p.run
-
-  pub notes_start : (acts : List Act) (machine : Plain) → IsSettledState program nodes acts machine → notes_of nodes acts ≡ notes_on [] acts
-  notes_start acts machine state =
-      notes_run nodes (nodes_of_acts acts) (plain_start program nodes) machine [] acts (threads_at_start program nodes) (state_run state)
-      ∙ ap (λ n. notes_on n acts) (notes_none nodes 0)
 
 -- ---- a step further
 

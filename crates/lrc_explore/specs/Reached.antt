@@ -170,7 +170,7 @@ pub record IsKeyOf (task : Task) (state : State) (acts : List Act) (key : Noted)
   pub counted : IsCounted key.state
   pub alike : AreLike (plain_at task.flat key.state) (plain_at task.flat state)
   pub bare_spots : All (λ spot. forgot task.live.items spot ≡ spot) key.state.spots.items
-  pub noted : task.noting ≡ true → key.notes.items ≡ notes_on [] acts
+  pub noted : task.noting ≡ true → key.notes.items ≡ notes_of task.flat.nodes acts
   pub bare : task.noting ≡ false → key.notes.items ≡ []
 
 -- some place keeps it

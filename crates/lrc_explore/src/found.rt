@@ -7,14 +7,14 @@ ghost use Rattle.lrc_orders_laws.specs.Settling.{IsSettled};
 ghost use Rattle.lrc_orders_settling.specs.declared.step.Step.TheVariants.{Alone, Together};
 ghost use Rattle.lrc_orders_settling.specs.Taking.{IsCounted};
 ghost use Rattle.lrc_explore.specs.Reached.{CannotTake, HasTakenTo, IsKeyOf, IsTask, SettlesStart};
-ghost use Rattle.lrc_orders_table.specs.Nexts.{notes_on};
+ghost use Rattle.lrc_orders.specs.Notes.{notes_of};
 ghost use Rattle.lrc_explore.specs.Answers.{IsFault, IsLongFault};
 ghost use Rattle.lrc_explore.specs.Traps.{first_step};
 
+use crate::notes::notes_of;
 use crate::task::{Found, Origin, Task};
 use lrc_exec::state::State;
 use lrc_orders::noted::Noted;
-use lrc_orders::notes::note;
 use lrc_orders::search::ExploreFault;
 use lrc_orders::traps::has_trap;
 use lrc_orders_live::forget_dead;
@@ -140,33 +140,21 @@ fn key_of(alloc: Global, task: &Task<'_>, state: State, acts: &[Act]) -> Result<
     let mut state = state;
     count(&task.flat, &mut state)?;
     forget_dead(&task.flat, &task.live, &mut state);
-    let notes = notes_of(alloc, task, acts)?;
+    let notes = notes_if_kept(alloc, task, acts)?;
     Ok(Noted { state, notes })
 }
 
 // The notes of acts, if notes are kept, and else none.
-fn notes_of(alloc: Global, task: &Task<'_>, acts: &[Act]) -> Result<Vec<Act>, AllocError>
+fn notes_if_kept(alloc: Global, task: &Task<'_>, acts: &[Act]) -> Result<Vec<Act>, AllocError>
     ensures noted { IfOk result (λ all. task.now.noting ≡ true
-        → all.items ≡ notes_on [] acts.now) }
+        → all.items ≡ notes_of task.now.flat.nodes acts.now) }
     ensures bare { IfOk result (λ all. task.now.noting ≡ false → all.items ≡ []) }
 {
-    let mut all = Vec::new(alloc);
     if !task.noting {
-        return Ok(all);
+        return Ok(Vec::new(alloc));
     }
-    note_all(&mut all, acts)?;
+    let all = notes_of(alloc, task.flat.nodes, acts)?;
     Ok(all)
-}
-
-// Notes several acts.
-#[tactic(auto, using(crate::proofs::Keys::noted_more))]
-fn note_all(notes: &mut Vec<Act>, acts: &[Act]) -> Result<(), AllocError>
-    ensures { OnOk result (notes.new.items ≡ notes_on notes.old.items acts.now) }
-{
-    for act in acts {
-        note(notes, *act)?;
-    }
-    Ok(())
 }
 
 // The first step in which a node traps, where this one is next.

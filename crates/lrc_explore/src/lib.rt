@@ -6,6 +6,7 @@ pub mod answers;
 pub mod ended;
 pub mod found;
 pub mod laws;
+mod notes;
 pub mod seek;
 pub mod task;
 pub mod told;

@@ -1,4 +1,5 @@
 pub mod Acquired
+pub mod Closed
 pub mod Derived
 pub mod Known
 pub mod Learns

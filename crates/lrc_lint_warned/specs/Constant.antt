@@ -1,5 +1,5 @@
 -- Constants: expressions without a name, `me` and `nodes` that have a value.
-use Rattle.std.specs.Prelude.{ℕ, ◌==◌, Bool, false, Option, Some, None}
+use Rattle.std.specs.Prelude.{ℕ, ◌==◌, ◌&&◌, Bool, true, false, Option, Some, None}
 use Rattle.lrc_program.specs.Statements.{Expression, number, private, me, nodes, binary}
 use Rattle.lrc_exec.specs.Meaning.{combined}
 
@@ -10,6 +10,14 @@ constant_of (private k) = None
 constant_of me = None
 constant_of nodes = None
 constant_of (binary left o right) = combined o (constant_of left) (constant_of right)
+
+-- whether an expression has no name, no `me` and no `nodes`
+abbrev pub is_closed : Expression → Bool
+is_closed (number n) = true
+is_closed (private k) = false
+is_closed me = false
+is_closed nodes = false
+is_closed (binary left o right) = is_closed left && is_closed right
 
 -- whether a value is there, and is this one
 abbrev pub is_value : Option ℕ → ℕ → Bool

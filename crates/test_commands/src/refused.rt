@@ -178,11 +178,12 @@ const REFUSED_SEARCHES: &[Row] = &[
     ("explore a.tm --ignore-races --memory exact", Wanted::Usage),
     ("explore a.tm --memory exact --as events", Wanted::Usage),
     (
-        "explore a.tm --memory exact --outcome 1 --as events",
+        "explore a.tm --memory exact --outcomes --as events",
         Wanted::Usage,
     ),
+    ("explore a.tm --memory exact --tries 5", Wanted::Usage),
     (
-        "explore a.tm --memory exact --outcomes --tries 5",
+        "explore a.tm --memory exact --outcomes --outcome 1 --tries 5",
         Wanted::Usage,
     ),
     ("explore a.tm --outcomes --tries 5", Wanted::Usage),

@@ -136,6 +136,22 @@ const SEARCHES: &[Row] = &[
         }),
     ),
     (
+        "explore a.tm --memory exact --outcomes --tries 5",
+        Wanted::Explore(Search {
+            memory: Sought::Exact(Size::Words64, 0),
+            tries: Some(5),
+            ..LISTED
+        }),
+    ),
+    (
+        "explore a.tm --memory exact --outcome 1 --as events",
+        Wanted::Explore(Search {
+            memory: Sought::Exact(Size::Words64, 0),
+            outcome: Some(1),
+            ..EVENTS
+        }),
+    ),
+    (
         "explore a.tm --memory=exact --outcomes --collect 1000000",
         Wanted::Explore(Search {
             memory: Sought::Exact(Size::Words64, 1_000_000),

@@ -2,9 +2,12 @@
 
 use crate::checks::passes;
 use lrc_exact_judge::layout::Layout;
+use lrc_exact_text::events::exact_events_told;
 use lrc_exact_text::listed::exact_outcomes_told;
 use lrc_exact_text::one::exact_run_told;
 use lrc_lang::parse;
+use lrc_page::Size;
+use lrc_setting::setting::{Nodes, Setting, Steps};
 use std::alloc::Global;
 
 /// How the exact memory of two nodes is laid out.
@@ -12,6 +15,15 @@ const PAIR: Layout = Layout {
     nodes: 2,
     page_words: 64,
     collect: 0,
+};
+
+/// What the runs of two nodes are made with.
+const SETTING: Setting = Setting {
+    nodes: Nodes { count: 2 },
+    steps: Steps { count: 1_000_000 },
+    collect: 0,
+    size: Size::Words64,
+    first: 0,
 };
 
 /// A program of which no order races, and whose orders may spin for ever.
@@ -22,11 +34,11 @@ const SPINS: &[u8] =
 const RACES: &[u8] = b"words 2; locks 0; [me] = 1; x = [1 - me]; print x;";
 
 /// Whether the outcomes of a program are told by this text.
-fn is_told(alloc: Global, text: &[u8], wanted: &[u8]) -> bool {
+fn is_told(alloc: Global, text: &[u8], tries: Option<u32>, wanted: &[u8]) -> bool {
     let Ok(program) = parse(alloc, text) else {
         return false;
     };
-    match exact_outcomes_told(alloc, &program, PAIR, 1000) {
+    match exact_outcomes_told(alloc, &program, &SETTING, 1000, tries) {
         Ok(parts) => {
             let mut rest = wanted;
             for part in &parts {
@@ -62,15 +74,49 @@ fn outcomes_told(rt: HostRuntime) {
     let spins = is_told(
         alloc,
         SPINS,
+        None,
         b"outcomes 1 in all exact runs\nnode 0 ended / node 1 prints 42 / node 1 ended\n",
     );
     passes(&rt, if spins { None } else { Some("spins") });
     let races = is_told(
         alloc,
         RACES,
+        None,
         b"outcomes 1 in all exact runs\nnode 0 prints 0 / node 0 ended / node 1 prints 0 / node 1 ended\n",
     );
     passes(&rt, if races { None } else { Some("races") });
+    let seeded = is_told(
+        alloc,
+        RACES,
+        Some(2),
+        b"outcomes 1 in all exact runs\nnode 0 prints 0 / node 0 ended / node 1 prints 0 / node 1 ended # seed 0\n",
+    );
+    passes(&rt, if seeded { None } else { Some("seeded") });
+}
+
+/// A program whose two outcomes are told apart by which node acquires first.
+const LOCKS: &[u8] = b"words 2; locks 1; [me] = 1; acquire 0; x = [1 - me]; release 0; print x;";
+
+#[test]
+fn events_told(rt: HostRuntime) {
+    let alloc = rt.alloc();
+    let Ok(program) = parse(alloc, LOCKS) else {
+        return passes(&rt, Some("text"));
+    };
+    let told = exact_events_told(alloc, &program, &SETTING, 1000, 2);
+    let are = match &told {
+        Ok(Some(text)) => {
+            text.as_slice()
+                == b"run 0\nrun 1\nrun 1\ndeliver 0\ndeliver 0\ndeliver 0\nrun 1\nrun 1\nrun 1\nrun 1\nrun 0\ndeliver 0\ndeliver 0\ndeliver 0\nrun 0\ndeliver 0\ndeliver 0\nrun 0\nrun 0\nrun 0\n"
+        }
+        _ => false,
+    };
+    passes(&rt, if are { None } else { Some("events") });
+    let none = matches!(
+        exact_events_told(alloc, &program, &SETTING, 1000, 3),
+        Ok(None)
+    );
+    passes(&rt, if none { None } else { Some("no events") });
 }
 
 #[test]
