@@ -1,5 +1,6 @@
 -- What is told of a text, by what was found in it.
-use Rattle.std.proofs.Common.{◌≡◌, ◌⊎◌, ℕ, List, map, Option, Some, None, MatchOption, Result, Ok, Err, IfOk, subst, inl, inr}
+use Rattle.std.proofs.Common.{◌≡◌, ◌⊎◌, ℕ, List, [], ◌∷◌, ◌++◌, Vec, map, Option, Some, None, MatchOption, Result, Ok, Err, IfOk, ap, sym, subst, ◌∙◌, append-nil, append_assoc, inl, inr}
+use Rattle.std.specs.declared.alloc.Global.{Global}
 use Rattle.std.specs.Option.{option_map}
 use Rattle.lrc_text.specs.Parts.{whole_text}
 use Rattle.lrc_lint_fault.specs.declared.linted.Linted.{Linted}
@@ -18,6 +19,7 @@ use Rattle.lrc_named_written.specs.declared.written.Written.{Written}
 use Rattle.lrc_named_written.specs.declared.written.Written.TheVariants as written
 use Rattle.lrc_named.specs.Lines.{lines_of}
 use Rattle.lrc_named.specs.Named.{IsFaultless}
+use Rattle.lrc_named_index_hint.specs.Line.{IsIndexHint}
 use Rattle.lrc_named_lint_core.specs.Told.{IsFaulty, told_of}
 use Rattle.lrc_named_lint_names.specs.Told.{TellsFault}
 use Rattle.lrc_named_linted.specs.Linted.{IsSound, TellsNamed}
@@ -45,13 +47,30 @@ abbrev pub IsAnswer : List ℕ → List ℕ → Option Linted → Type 0
 IsAnswer file text told =
     MatchOption told (IsSound text) (λ linted. TellsNamed file text (whole_text linted.parts.items) × (linted.status ≡ 1))
 
+-- parts, with one more behind them
+pub one_part_more : (parts : List (Vec ℕ Global)) (line : Vec ℕ Global) → whole_text (parts ++ line ∷ []) ≡ whole_text parts ++ line.items
+one_part_more [] line = append-nil line.items
+one_part_more (part ∷ parts) line =
+    ap (λ l. part.items ++ l) (one_part_more parts line) ∙ sym (append_assoc part.items (whole_text parts) line.items)
+
 -- of the first fault of the names
-pub name_told : (file text : List ℕ) (tokens : List Located) (tree : NamedTree) (fault : Fault) (linted : Linted) → IsNamed text tokens tree
-    → IsFirstOf (λ f. IsFaultOf tree f) (Some fault) → TellsFault file text tokens tree fault (whole_text linted.parts.items) → linted.status ≡ 1
-    → TellsNamed file text (whole_text linted.parts.items) × (linted.status ≡ 1)
-name_told file text tokens tree fault linted parsed first tells is = (
-  inr (inl (record { tokens = tokens; tree = tree; fault = fault; has = record { parsed = parsed; first = first }; tells = tells })),
-  is,
+pub name_told : (file text : List ℕ) (tokens : List Located) (tree : NamedTree) (fault : Fault) (first all : Linted) (line : List ℕ) → IsNamed text tokens tree
+    → IsFirstOf (λ f. IsFaultOf tree f) (Some fault) → TellsFault file text tokens tree fault (whole_text first.parts.items) → first.status ≡ 1
+    → IsIndexHint fault.kind tree fault.at line → whole_text all.parts.items ≡ whole_text first.parts.items ++ line → all.status ≡ first.status
+    → TellsNamed file text (whole_text all.parts.items) × (all.status ≡ 1)
+name_told file text tokens tree fault first all line parsed is_first tells is hint behind same = (
+  inr (inl (record {
+    tokens = tokens;
+    tree = tree;
+    fault = fault;
+    has = record { parsed = parsed; first = is_first };
+    told = whole_text first.parts.items;
+    tells = tells;
+    line = line;
+    hint = hint;
+    is = behind;
+  })),
+  same ∙ is,
 )
 
 -- the names have no fault

@@ -1,5 +1,5 @@
 -- What is told of a text that is read as a named program.
-use Rattle.std.specs.Prelude.{◌≡◌, ◌⊎◌, ℕ, Some, List, get_or}
+use Rattle.std.specs.Prelude.{◌≡◌, ◌⊎◌, ℕ, Some, List, ◌++◌, get_or}
 use Rattle.lrc_named_tokens.specs.Token.{Located}
 use Rattle.lrc_named_tree.specs.Tree.{NamedTree}
 use Rattle.lrc_named_names.specs.Names.{Declared}
@@ -13,6 +13,7 @@ use Rattle.lrc_named.specs.Lines.{lines_of}
 use Rattle.lrc_named.specs.Named.{IsFaultless}
 use Rattle.lrc_named_lint.specs.Told.{TellsText}
 use Rattle.lrc_named_lint_names.specs.Told.{TellsFault}
+use Rattle.lrc_named_index_hint.specs.Line.{IsIndexHint}
 use Rattle.lrc_named_lint_core.specs.Told.{core_long_lines, excess_lines, nowhere}
 
 -- the text is this named program, and this is its first fault
@@ -20,13 +21,17 @@ pub record HasFirstFault (text : List ℕ) (tokens : List Located) (tree : Named
   pub parsed : IsNamed text tokens tree
   pub first : IsFirstOf (λ f. IsFaultOf tree f) (Some fault)
 
--- this is told of the first fault of its names
+-- this is told of the first fault of its names, and behind it, of an index that is out of range, its value and its size
 pub record TellsNames (file text printed : List ℕ) : Type 0 where
   pub tokens : List Located
   pub tree : NamedTree
   pub fault : Fault
   pub has : HasFirstFault text tokens tree fault
-  pub tells : TellsFault file text tokens tree fault printed
+  pub told : List ℕ
+  pub tells : TellsFault file text tokens tree fault told
+  pub line : List ℕ
+  pub hint : IsIndexHint fault.kind tree fault.at line
+  pub is : printed ≡ told ++ line
 
 -- the core is over a limit, or too long, and this is told of it
 abbrev pub TellsCoreOf : (file text printed : List ℕ) → List Located → NamedTree → List Declared → Type 0

@@ -1,6 +1,6 @@
 // What is told of a text that is read as a named program.
 
-ghost use Rattle.std.specs.Prelude.{◌≡◌, IfOk, MatchOption, map};
+ghost use Rattle.std.specs.Prelude.{◌≡◌, ◌++◌, IfOk, MatchOption, map};
 ghost use Rattle.lrc_text.specs.Parts.{whole_text};
 ghost use Rattle.lrc_named_check.specs.Program.{IsClean};
 ghost use Rattle.lrc_named_expression_faults.specs.Fault.{IsFirstOf};
@@ -16,10 +16,11 @@ use lrc_named_check::names_of;
 use lrc_named_expression_faults::fault::Fault;
 use lrc_named_faults::layout::Layout;
 use lrc_named_faults::values::Found;
+use lrc_named_index_hint::index_hint;
 use lrc_named_lint::lint_text_fault;
 use lrc_named_lint_core::lint_core_fault;
 use lrc_named_lint_names::lint_name_fault;
-use lrc_named_parse::parse;
+use lrc_named_parse::{Parsed, parse};
 use lrc_named_tokens::token::Located;
 use lrc_named_tree::tree::NamedProgram;
 use lrc_named_written::core_text;
@@ -45,7 +46,10 @@ fn lint_parsed(alloc: Global, file: &[u8], text: &[u8]) -> Result<Option<Linted>
         × (linted.status ≡ 1))) }
 {
     match parse(alloc, text) {
-        Ok(parsed) => lint_program(alloc, file, text, &parsed.tokens, &parsed.program),
+        Ok(parsed) => {
+            let Parsed { program, tokens } = parsed;
+            lint_program(alloc, file, text, &tokens, program)
+        }
         Err(_) => Err(AllocError),
     }
 }
@@ -55,17 +59,18 @@ fn lint_program(
     file: &[u8],
     text: &[u8],
     tokens: &[Located<'_>],
-    program: &NamedProgram<'_>,
+    program: NamedProgram<'_>,
 ) -> Result<Option<Linted>, AllocError>
-    requires { IsNamed text.now (map located_of tokens.now) (program_of program.now) }
+    requires { IsNamed text.now (map located_of tokens.now) (program_of program) }
     ensures { IfOk result (λ told. MatchOption told (IsSound text.now)
         (λ linted. TellsNamed file.now text.now (whole_text linted.parts.items)
         × (linted.status ≡ 1))) }
 {
-    match names_of(alloc, program)? {
-        Found::Bad(fault) => lint_names(alloc, file, text, tokens, program, fault),
-        Found::Good(layout) => lint_core(alloc, file, text, tokens, program, &layout),
-    }
+    let fault = match names_of(alloc, &program)? {
+        Found::Bad(fault) => fault,
+        Found::Good(layout) => return lint_core(alloc, file, text, tokens, &program, &layout),
+    };
+    lint_names(alloc, file, text, tokens, program, fault)
 }
 
 // What is told of the first fault of the names.
@@ -74,16 +79,28 @@ fn lint_names(
     file: &[u8],
     text: &[u8],
     tokens: &[Located<'_>],
-    program: &NamedProgram<'_>,
+    program: NamedProgram<'_>,
     fault: Fault,
 ) -> Result<Option<Linted>, AllocError>
-    requires parsed { IsNamed text.now (map located_of tokens.now) (program_of program.now) }
-    requires first { IsFirstOf (λ f. IsFaultOf (program_of program.now) f) (Some fault) }
+    requires parsed { IsNamed text.now (map located_of tokens.now) (program_of program) }
+    requires first { IsFirstOf (λ f. IsFaultOf (program_of program) f) (Some fault) }
     ensures { IfOk result (λ told. MatchOption told (IsSound text.now)
         (λ linted. TellsNamed file.now text.now (whole_text linted.parts.items)
         × (linted.status ≡ 1))) }
 {
-    Ok(Some(lint_name_fault(alloc, file, text, tokens, program, fault)?))
+    let linted = lint_name_fault(alloc, file, text, tokens, &program, fault)?;
+    let line = index_hint(alloc, program, fault)?;
+    Ok(Some(with_line(linted, line)?))
+}
+
+// The answer, with a line behind it.
+fn with_line(mut linted: Linted, line: Vec<u8>) -> Result<Linted, AllocError>
+    ensures parts { IfOk result (λ all. whole_text all.parts.items
+        ≡ whole_text linted.parts.items ++ line.items) }
+    ensures status { IfOk result (λ all. all.status ≡ linted.status) }
+{
+    linted.parts.push(line)?;
+    Ok(linted)
 }
 
 // What is told of the core.

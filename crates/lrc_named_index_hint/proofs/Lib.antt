@@ -1,0 +1,9 @@
+pub mod Always
+pub mod Behind
+pub mod Declared
+pub mod Earlier
+pub mod Finding
+pub mod Growing
+pub mod Lines
+pub mod Ordered
+pub mod Standing

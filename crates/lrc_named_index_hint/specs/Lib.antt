@@ -1,0 +1,4 @@
+pub mod Line
+pub mod Out
+pub mod Over
+pub mod Spots

@@ -1,0 +1,2 @@
+shared grid[2][8];
+grid[1][8] = 1;
