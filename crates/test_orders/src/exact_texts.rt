@@ -97,6 +97,10 @@ fn outcomes_told(rt: HostRuntime) {
 /// A program whose two outcomes are told apart by which node acquires first.
 const LOCKS: &[u8] = b"words 2; locks 1; [me] = 1; acquire 0; x = [1 - me]; release 0; print x;";
 
+/// The events by which the nodes make the run with its second outcome.
+const EVENTS: &[u8] =
+    b"run 0\nrun 1\nrun 1\ndeliver 0\ndeliver 0\ndeliver 0\nrun 1\nrun 1\nrun 1\nrun 1\nrun 0\ndeliver 0\ndeliver 0\ndeliver 0\nrun 0\ndeliver 0\ndeliver 0\nrun 0\nrun 0\nrun 0\n";
+
 #[test]
 fn events_told(rt: HostRuntime) {
     let alloc = rt.alloc();
@@ -105,10 +109,7 @@ fn events_told(rt: HostRuntime) {
     };
     let told = exact_events_told(alloc, &program, &SETTING, 1000, 2);
     let are = match &told {
-        Ok(Some(text)) => {
-            text.as_slice()
-                == b"run 0\nrun 1\nrun 1\ndeliver 0\ndeliver 0\ndeliver 0\nrun 1\nrun 1\nrun 1\nrun 1\nrun 0\ndeliver 0\ndeliver 0\ndeliver 0\nrun 0\ndeliver 0\ndeliver 0\nrun 0\nrun 0\nrun 0\n"
-        }
+        Ok(Some(text)) => text.as_slice() == EVENTS,
         _ => false,
     };
     passes(&rt, if are { None } else { Some("events") });
