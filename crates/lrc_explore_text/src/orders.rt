@@ -22,7 +22,7 @@ use lrc_acts_text::acts_part;
 use lrc_exec::code::Code;
 use lrc_exec::plain::plain_run;
 use lrc_explain_waits::{Wording, stuck_part};
-use lrc_explore_less::answers::{explore, findings};
+use lrc_explore_less::answers::{Explored, Searched, explore, findings};
 use lrc_lines::walks::lines_of_acts;
 use lrc_orders::search::{ExploreFault, Findings, Verdict};
 use lrc_program::Program;
@@ -48,9 +48,13 @@ pub(crate) fn orders_told(
     ensures too_many { IfErr result (λ fault. fault ≡ ExploreFault.TooMany
         → MetTooMany program.now nodes most false true) }
 {
-    let verdict = explore(alloc, program, nodes, most)?;
-    let printout = verdict_told(alloc, wording, program, lines, nodes as u8, &verdict)?;
-    Ok(printout)
+    match explore(alloc, program, nodes, most)? {
+        Explored::Told(verdict) => {
+            let printout = verdict_told(alloc, wording, program, lines, nodes as u8, &verdict)?;
+            Ok(printout)
+        }
+        Explored::Many(_) => Err(ExploreFault::TooMany),
+    }
 }
 
 /// Returns what is printed of stuck orders and of traps of a program, whether or not an order races. The lines of nodes
@@ -71,9 +75,13 @@ pub fn findings_told(
     ensures too_many { IfErr result (λ fault. fault ≡ ExploreFault.TooMany
         → MetTooMany program.now nodes most false false) }
 {
-    let found = findings(alloc, program, nodes, most)?;
-    let printout = found_told(alloc, b"", wording, program, lines, nodes as u8, &found)?;
-    Ok(printout)
+    match findings(alloc, program, nodes, most)? {
+        Searched::All(found) => {
+            let printout = found_told(alloc, b"", wording, program, lines, nodes as u8, &found)?;
+            Ok(printout)
+        }
+        Searched::Many(_) => Err(ExploreFault::TooMany),
+    }
 }
 
 fn verdict_told(
