@@ -14,7 +14,7 @@ use lrc_lang::fault::FaultKind;
 use lrc_lang::kind::Kind;
 use lrc_lang::positions::Located;
 use lrc_lang::token::{Keyword, Lexeme, Sign, Token};
-use lrc_lint_lines::kind::{has, has_all};
+use lrc_lint_lines::kind::{has, has_all, phrase, unquoted};
 use lrc_lint_lines::{operand_kinds, operator_kinds, statement_kinds};
 
 /// The first fault of a text.
@@ -292,43 +292,11 @@ fn is_digit(byte: u8) -> bool
 pub fn keyword_text(keyword: Keyword) -> &'static [u8]
     ensures { result.now ≡ keyword_text keyword }
 {
-    match keyword {
-        Keyword::Words => b"words",
-        Keyword::Locks => b"locks",
-        Keyword::Acquire => b"acquire",
-        Keyword::Release => b"release",
-        Keyword::Barrier => b"barrier",
-        Keyword::Print => b"print",
-        Keyword::If => b"if",
-        Keyword::Else => b"else",
-        Keyword::While => b"while",
-        Keyword::Me => b"me",
-        Keyword::Nodes => b"nodes",
-    }
+    unquoted(phrase(Kind::Keyword(keyword)))
 }
 
 fn sign_text(sign: Sign) -> &'static [u8]
     ensures { result.now ≡ sign_text sign }
 {
-    match sign {
-        Sign::Semicolon => b";",
-        Sign::Assign => b"=",
-        Sign::OpenBracket => b"[",
-        Sign::CloseBracket => b"]",
-        Sign::OpenBrace => b"{",
-        Sign::CloseBrace => b"}",
-        Sign::OpenParenthesis => b"(",
-        Sign::CloseParenthesis => b")",
-        Sign::Plus => b"+",
-        Sign::Minus => b"-",
-        Sign::Star => b"*",
-        Sign::Slash => b"/",
-        Sign::Percent => b"%",
-        Sign::Equal => b"==",
-        Sign::NotEqual => b"!=",
-        Sign::Less => b"<",
-        Sign::LessOrEqual => b"<=",
-        Sign::Greater => b">",
-        Sign::GreaterOrEqual => b">=",
-    }
+    unquoted(phrase(Kind::Sign(sign)))
 }
