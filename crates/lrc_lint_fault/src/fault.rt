@@ -1,7 +1,7 @@
 // A fault, with what stands around it.
 
 ghost use Rattle.std.specs.Prelude.{◌≡◌, ◌↔◌, drop, IsTrue};
-ghost use Rattle.lrc_lang.specs.Lexemes.{keyword_text, sign_text};
+ghost use Rattle.lrc_lang.specs.Lexemes.{sign_text};
 ghost use Rattle.lrc_lang.specs.Parser.View.{lexeme_of};
 ghost use Rattle.lrc_lang.specs.Token.{finish, token};
 ghost use Rattle.std.specs.Option.{option_map};
@@ -12,6 +12,7 @@ ghost use Rattle.lrc_lint_fault.specs.Spelled.{digits_of, is_digit, spelled};
 
 use lrc_lang::fault::FaultKind;
 use lrc_lang::kind::Kind;
+use lrc_lang::lexer::spelling_of;
 use lrc_lang::positions::Located;
 use lrc_lang::token::{Keyword, Lexeme, Sign, Token};
 use lrc_lint_lines::kind::{has, has_all, phrase, unquoted};
@@ -252,7 +253,7 @@ pub fn spelling<'t>(text: &'t [u8], located: Located<'t>) -> &'t [u8]
 {
     match located.lexeme {
         Lexeme::Token(Token::Name(name)) => name,
-        Lexeme::Token(Token::Keyword(keyword)) => keyword_text(keyword),
+        Lexeme::Token(Token::Keyword(keyword)) => spelling_of(keyword),
         Lexeme::Token(Token::Sign(sign)) => sign_text(sign),
         Lexeme::Token(Token::Number(_)) => digits_from(text, located.offset as usize),
         Lexeme::Token(Token::End) | Lexeme::BadByte | Lexeme::BadNumber => b"",
@@ -286,13 +287,6 @@ fn is_digit(byte: u8) -> bool
     ensures { result ≡ is_digit byte }
 {
     byte >= b'0' && byte <= b'9'
-}
-
-/// Returns the spelling of a keyword.
-pub fn keyword_text(keyword: Keyword) -> &'static [u8]
-    ensures { result.now ≡ keyword_text keyword }
-{
-    unquoted(phrase(Kind::Keyword(keyword)))
 }
 
 fn sign_text(sign: Sign) -> &'static [u8]
