@@ -26,3 +26,4 @@ pub mod Front
 pub mod Going
 pub mod Following
 pub mod Steps
+pub mod Flats
