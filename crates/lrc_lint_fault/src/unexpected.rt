@@ -166,9 +166,7 @@ fn keyword_set<'t>(fault: &Fault<'t>) -> Option<Hint<'t>>
     ensures { words_of result ≡ keyword_set_row (seen_of fault.now) }
 {
     let keyword = fault.keyword_before()?;
-    Hint::Keyword(spelling_of(keyword)).only_if(
-        fault.is(Sign::Assign) && fault.may_begin_operand(),
-    )
+    Hint::Keyword(spelling_of(keyword)).only_if(fault.is(Sign::Assign) && fault.may_begin_operand())
 }
 
 // Where a statement may stand.
