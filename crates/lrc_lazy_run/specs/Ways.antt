@@ -8,13 +8,15 @@ use Rattle.lrc_exec.specs.declared.spot.Flat.{Flat}
 use Rattle.lrc_exec.specs.Flat.{IsCodeOf}
 use Rattle.lrc_exec.specs.Plain.{plain_start}
 use Rattle.lrc_exec.specs.Spots.{IsFlat}
+use Rattle.lrc_orders.specs.declared.search.ExploreFault.{ExploreFault}
+use Rattle.lrc_orders.specs.declared.search.ExploreFault.TheVariants.{BadNodes, TooMany}
 use Rattle.lrc_orders.specs.Notes.{notes_of}
 use Rattle.lrc_exec.specs.States.{machine_begun, plain_at}
 use Rattle.lrc_lazy.specs.Lazy.{IsLazyOutcome}
 use Rattle.lrc_lazy.specs.Standing.{CanMake, Stands}
 use Rattle.lrc_lazy_search.specs.declared.state.LazyState.{LazyState}
 use Rattle.lrc_lazy_search.specs.contracts.state.LazyStatePartialEq.TheImpl.{eq-value}
-use Rattle.lrc_lazy_search.specs.Searching.{AreReached, HasKey, IsFresh, Steps}
+use Rattle.lrc_lazy_search.specs.Searching.{AreReached, HasKey, IsFresh, MeetsMore, Steps}
 use Rattle.lrc_lazy_run.specs.declared.sought.Sought.{Sought}
 use Rattle.lrc_lazy_run.specs.declared.ways.Origin.{Origin}
 use Rattle.lrc_lazy_run.specs.declared.ways.Ways.{Ways}
@@ -65,11 +67,16 @@ pub record AreKeptIn (sought : Sought) (keys : List LazyState) (origins : List O
 abbrev pub AreKept : Sought → Ways → Type 0
 AreKept sought ways = AreKeptIn sought ways.states.keys ways.origins.items ways.settled.items
 
--- so they are, and there are no more than one past the most
+-- so they are for a task, and there are no more than one past the most
 pub record AreWays (sought : Sought) (ways : Ways) : Type 0 where
+  pub task : IsSought sought
   pub kept : AreKept sought ways
   pub few : length ways.states.keys ≤ sought.most + 1
   pub small : length ways.states.keys < 2 ^ 63
+
+-- The search for the task may fail so: it has nodes, and it meets too many states only where lazy runs lead to more than the most.
+abbrev pub MayFail : Sought → ExploreFault → Type 0
+MayFail sought fault = (fault ≢ BadNodes) × (fault ≡ TooMany → MeetsMore sought.program.now sought.flat.nodes sought.most)
 
 -- a node can do this at the state at a place
 abbrev pub CanMakeAt : Flat → List LazyState → (place node : ℕ) → Deed → Type 0

@@ -9,10 +9,9 @@ use lrc_trace::act::{Act, Deed};
 use std::alloc::{AllocError, Global};
 
 impl Ways {
-    ghost use Rattle.std.specs.Prelude.{◌≡◌, ◌≢◌, ◌<◌, ◌≤◌, ℕ, IfErr, IfOk, OnOk, length, option_map};
+    ghost use Rattle.std.specs.Prelude.{◌<◌, ℕ, IfErr, IfOk, OnOk, length};
     ghost use Rattle.lrc_orders.specs.Kept.{Grows};
-    ghost use Rattle.lrc_lazy_search.specs.Searching.{MeetsMore};
-    ghost use Rattle.lrc_lazy_run.specs.Ways.{AreWays, CanMakeAt, CanMakeIfAny, HasAllStepsAt, IsEndFor, IsEndIfFound, IsSought};
+    ghost use Rattle.lrc_lazy_run.specs.Ways.{AreWays, CanMakeAt, CanMakeIfAny, HasAllStepsAt, IsEndFor, IsEndIfFound, MayFail};
 
     /// Returns the place of a state at which no node can act and that has these notes, or nothing if no lazy run has
     /// them. It is the first such state to which steps lead, which is tested and not proved. It gives up with `TooMany`
@@ -23,14 +22,11 @@ impl Ways {
         sought: &Sought<'_>,
         notes: &[Act],
     ) -> Result<Option<usize>, ExploreFault>
-        requires sought { IsSought sought.now }
         requires ways { AreWays sought.now self.old }
         requires none { length self.old.settled.items < length self.old.states.keys }
         ensures ways { OnOk result (AreWays sought.now self.new) }
         ensures found { IfOk result (IsEndFor sought.now self.new.states.keys notes.now) }
-        ensures nodes { IfErr result (λ fault. fault ≢ ExploreFault.BadNodes) }
-        ensures too_many { IfErr result (λ fault. fault ≡ ExploreFault.TooMany
-            → MeetsMore sought.now.program.now sought.now.flat.nodes sought.now.most) }
+        ensures fails { IfErr result (MayFail sought.now) }
     {
         match self.find_by_steps(alloc, sought, notes)? {
             Some(place) => Ok(Some(place)),
@@ -45,14 +41,11 @@ impl Ways {
         sought: &Sought<'_>,
         notes: &[Act],
     ) -> Result<Option<usize>, ExploreFault>
-        requires sought { IsSought sought.now }
         requires ways { AreWays sought.now self.old }
         requires none { length self.old.settled.items < length self.old.states.keys }
         ensures ways { OnOk result (AreWays sought.now self.new) }
         ensures found { IfOk result (IsEndIfFound sought.now self.new.states.keys notes.now) }
-        ensures nodes { IfErr result (λ fault. fault ≢ ExploreFault.BadNodes) }
-        ensures too_many { IfErr result (λ fault. fault ≡ ExploreFault.TooMany
-            → MeetsMore sought.now.program.now sought.now.flat.nodes sought.now.most) }
+        ensures fails { IfErr result (MayFail sought.now) }
     {
         self.settle(alloc, sought, 0)?;
         let mut next = 0;
@@ -74,13 +67,10 @@ impl Ways {
         sought: &Sought<'_>,
         notes: &[Act],
     ) -> Result<Option<usize>, ExploreFault>
-        requires sought { IsSought sought.now }
         requires ways { AreWays sought.now self.old }
         ensures ways { OnOk result (AreWays sought.now self.new) }
         ensures found { IfOk result (IsEndFor sought.now self.new.states.keys notes.now) }
-        ensures nodes { IfErr result (λ fault. fault ≢ ExploreFault.BadNodes) }
-        ensures too_many { IfErr result (λ fault. fault ≡ ExploreFault.TooMany
-            → MeetsMore sought.now.program.now sought.now.flat.nodes sought.now.most) }
+        ensures fails { IfErr result (MayFail sought.now) }
     {
         let mut place = 0;
         while place < self.states.len() {
@@ -100,16 +90,13 @@ impl Ways {
         sought: &Sought<'_>,
         place: usize,
     ) -> Result<(), ExploreFault>
-        requires sought { IsSought sought.now }
         requires ways { AreWays sought.now self.old }
         requires within { place < length self.old.states.keys }
         ensures ways { OnOk result (AreWays sought.now self.new) }
         ensures grows { OnOk result (Grows self.old.states.keys self.new.states.keys) }
         ensures all { OnOk result ((node : ℕ) → HasAllStepsAt sought.now.flat self.new.states.keys
             place node) }
-        ensures nodes { IfErr result (λ fault. fault ≢ ExploreFault.BadNodes) }
-        ensures too_many { IfErr result (λ fault. fault ≡ ExploreFault.TooMany
-            → MeetsMore sought.now.program.now sought.now.flat.nodes sought.now.most) }
+        ensures fails { IfErr result (MayFail sought.now) }
     {
         for node in 0..sought.flat.nodes as usize {
             self.add_of(alloc, sought, place, node)?;
@@ -125,15 +112,12 @@ impl Ways {
         place: usize,
         node: usize,
     ) -> Result<(), ExploreFault>
-        requires sought { IsSought sought.now }
         requires ways { AreWays sought.now self.old }
         requires within { place < length self.old.states.keys }
         ensures ways { OnOk result (AreWays sought.now self.new) }
         ensures grows { OnOk result (Grows self.old.states.keys self.new.states.keys) }
         ensures all { OnOk result (HasAllStepsAt sought.now.flat self.new.states.keys place node) }
-        ensures nodes { IfErr result (λ fault. fault ≢ ExploreFault.BadNodes) }
-        ensures too_many { IfErr result (λ fault. fault ≡ ExploreFault.TooMany
-            → MeetsMore sought.now.program.now sought.now.flat.nodes sought.now.most) }
+        ensures fails { IfErr result (MayFail sought.now) }
     {
         let deeds = self.deeds_at(alloc, sought, place, node)?;
         for index in 0..deeds.len() {
@@ -150,15 +134,12 @@ impl Ways {
         sought: &Sought<'_>,
         place: usize,
     ) -> Result<(), ExploreFault>
-        requires sought { IsSought sought.now }
         requires ways { AreWays sought.now self.old }
         requires within { place < length self.old.states.keys }
         requires room { length self.old.settled.items < length self.old.states.keys }
         ensures ways { OnOk result (AreWays sought.now self.new) }
         ensures grows { OnOk result (Grows self.old.states.keys self.new.states.keys) }
-        ensures nodes { IfErr result (λ fault. fault ≢ ExploreFault.BadNodes) }
-        ensures too_many { IfErr result (λ fault. fault ≡ ExploreFault.TooMany
-            → MeetsMore sought.now.program.now sought.now.flat.nodes sought.now.most) }
+        ensures fails { IfErr result (MayFail sought.now) }
     {
         let mut at = place;
         while let Some((node, deed)) = self.free_act(alloc, sought, at)? {
@@ -177,7 +158,6 @@ impl Ways {
         sought: &Sought<'_>,
         place: usize,
     ) -> Result<Option<(usize, Deed)>, AllocError>
-        requires sought { IsSought sought.now }
         requires ways { AreWays sought.now self.now }
         requires within { place < length self.now.states.keys }
         ensures { IfOk result (CanMakeIfAny sought.now.flat self.now.states.keys place) }
@@ -198,13 +178,10 @@ impl Ways {
         sought: &Sought<'_>,
         place: usize,
     ) -> Result<(), ExploreFault>
-        requires sought { IsSought sought.now }
         requires ways { AreWays sought.now self.old }
         requires within { place < length self.old.states.keys }
         ensures ways { OnOk result (AreWays sought.now self.new) }
-        ensures nodes { IfErr result (λ fault. fault ≢ ExploreFault.BadNodes) }
-        ensures too_many { IfErr result (λ fault. fault ≡ ExploreFault.TooMany
-            → MeetsMore sought.now.program.now sought.now.flat.nodes sought.now.most) }
+        ensures fails { IfErr result (MayFail sought.now) }
     {
         match self.reader(alloc, sought, place)? {
             Some(node) => self.read_each(alloc, sought, place, node),
@@ -219,7 +196,6 @@ impl Ways {
         sought: &Sought<'_>,
         place: usize,
     ) -> Result<Option<usize>, AllocError>
-        requires sought { IsSought sought.now }
         requires ways { AreWays sought.now self.now }
         requires within { place < length self.now.states.keys }
     {
@@ -239,13 +215,10 @@ impl Ways {
         place: usize,
         node: usize,
     ) -> Result<(), ExploreFault>
-        requires sought { IsSought sought.now }
         requires ways { AreWays sought.now self.old }
         requires within { place < length self.old.states.keys }
         ensures ways { OnOk result (AreWays sought.now self.new) }
-        ensures nodes { IfErr result (λ fault. fault ≢ ExploreFault.BadNodes) }
-        ensures too_many { IfErr result (λ fault. fault ≡ ExploreFault.TooMany
-            → MeetsMore sought.now.program.now sought.now.flat.nodes sought.now.most) }
+        ensures fails { IfErr result (MayFail sought.now) }
     {
         let deeds = self.deeds_at(alloc, sought, place, node)?;
         let mut last = None;
@@ -266,13 +239,10 @@ impl Ways {
         sought: &Sought<'_>,
         place: usize,
     ) -> Result<(), ExploreFault>
-        requires sought { IsSought sought.now }
         requires ways { AreWays sought.now self.old }
         requires within { place < length self.old.states.keys }
         ensures ways { OnOk result (AreWays sought.now self.new) }
-        ensures nodes { IfErr result (λ fault. fault ≢ ExploreFault.BadNodes) }
-        ensures too_many { IfErr result (λ fault. fault ≡ ExploreFault.TooMany
-            → MeetsMore sought.now.program.now sought.now.flat.nodes sought.now.most) }
+        ensures fails { IfErr result (MayFail sought.now) }
     {
         for node in 0..sought.flat.nodes as usize {
             let deeds = self.deeds_at(alloc, sought, place, node)?;
@@ -296,15 +266,12 @@ impl Ways {
         node: usize,
         deed: Deed,
     ) -> Result<(), ExploreFault>
-        requires sought { IsSought sought.now }
         requires ways { AreWays sought.now self.old }
         requires within { place < length self.old.states.keys }
         requires can { CanMakeAt sought.now.flat self.old.states.keys place node deed }
         ensures ways { OnOk result (AreWays sought.now self.new) }
         ensures grows { OnOk result (Grows self.old.states.keys self.new.states.keys) }
-        ensures nodes { IfErr result (λ fault. fault ≢ ExploreFault.BadNodes) }
-        ensures too_many { IfErr result (λ fault. fault ≡ ExploreFault.TooMany
-            → MeetsMore sought.now.program.now sought.now.flat.nodes sought.now.most) }
+        ensures fails { IfErr result (MayFail sought.now) }
     {
         match self.step(alloc, sought, place, node, deed)? {
             Some(next) => self.settle(alloc, sought, next),
@@ -319,13 +286,10 @@ impl Ways {
         sought: &Sought<'_>,
         place: usize,
     ) -> Result<(), ExploreFault>
-        requires sought { IsSought sought.now }
         requires ways { AreWays sought.now self.old }
         requires within { place < length self.old.states.keys }
         ensures ways { OnOk result (AreWays sought.now self.new) }
-        ensures nodes { IfErr result (λ fault. fault ≢ ExploreFault.BadNodes) }
-        ensures too_many { IfErr result (λ fault. fault ≡ ExploreFault.TooMany
-            → MeetsMore sought.now.program.now sought.now.flat.nodes sought.now.most) }
+        ensures fails { IfErr result (MayFail sought.now) }
     {
         match self.departed(alloc, sought, place)? {
             Some(at) => self.settle(alloc, sought, at),
@@ -340,15 +304,12 @@ impl Ways {
         sought: &Sought<'_>,
         place: usize,
     ) -> Result<Option<usize>, ExploreFault>
-        requires sought { IsSought sought.now }
         requires ways { AreWays sought.now self.old }
         requires within { place < length self.old.states.keys }
         ensures ways { OnOk result (AreWays sought.now self.new) }
         ensures found { IfOk result (λ at. IfSome at (λ at. (at < length self.new.states.keys)
             × (length self.new.settled.items < length self.new.states.keys))) }
-        ensures nodes { IfErr result (λ fault. fault ≢ ExploreFault.BadNodes) }
-        ensures too_many { IfErr result (λ fault. fault ≡ ExploreFault.TooMany
-            → MeetsMore sought.now.program.now sought.now.flat.nodes sought.now.most) }
+        ensures fails { IfErr result (MayFail sought.now) }
     {
         let mut at = None;
         for node in 0..sought.flat.nodes as usize {

@@ -24,11 +24,11 @@ pub struct Ways {
 }
 
 impl Ways {
-    ghost use Rattle.std.specs.Prelude.{◌≡◌, ◌≢◌, ◌<◌, ◌↔◌, ℕ, IfOk, IfErr, OnOk, IsTrue, Some, length, slice_get};
+    ghost use Rattle.std.specs.Prelude.{◌≡◌, ◌<◌, ◌↔◌, ℕ, IfOk, IfErr, OnOk, IsTrue, Some, length, slice_get};
     ghost use Rattle.lrc_trace.specs.declared.act.Deed.{Deed as DeedType};
     ghost use Rattle.lrc_orders.specs.Kept.{Grows};
-    ghost use Rattle.lrc_lazy_search.specs.Searching.{HasKey, IsReached, MeetsMore};
-    ghost use Rattle.lrc_lazy_run.specs.Ways.{AreKept, AreWays, CanMakeAt, ComesFrom, HasNotesAt, HasStepAt, IsEndWith, IsFound, IsPut, IsSought, IsStillAt, LeadTo};
+    ghost use Rattle.lrc_lazy_search.specs.Searching.{HasKey, IsReached};
+    ghost use Rattle.lrc_lazy_run.specs.Ways.{AreKept, AreWays, CanMakeAt, ComesFrom, HasNotesAt, HasStepAt, IsEndWith, IsFound, IsPut, IsSought, IsStillAt, LeadTo, MayFail};
 
     /// Returns the beginning of the program as the only state. It fails if memory runs out.
     pub fn begin(alloc: Global, sought: &Sought<'_>) -> Result<Ways, AllocError>
@@ -62,7 +62,6 @@ impl Ways {
         place: usize,
         node: usize,
     ) -> Result<Vec<Deed>, AllocError>
-        requires sought { IsSought sought.now }
         requires ways { AreWays sought.now self.now }
         requires within { place < length self.now.states.keys }
         ensures sound { IfOk result (λ deeds. (k : ℕ) (deed : DeedType)
@@ -85,7 +84,6 @@ impl Ways {
         node: usize,
         deed: Deed,
     ) -> Result<Option<usize>, ExploreFault>
-        requires sought { IsSought sought.now }
         requires ways { AreWays sought.now self.old }
         requires within { place < length self.old.states.keys }
         requires can { CanMakeAt sought.now.flat self.old.states.keys place node deed }
@@ -95,9 +93,7 @@ impl Ways {
         ensures has { OnOk result (HasStepAt sought.now.flat self.new.states.keys place node deed) }
         ensures found { IfOk result (IsFound sought.now.most self.old.states.keys
             self.new.states.keys) }
-        ensures nodes { IfErr result (λ fault. fault ≢ ExploreFault.BadNodes) }
-        ensures too_many { IfErr result (λ fault. fault ≡ ExploreFault.TooMany
-            → MeetsMore sought.now.program.now sought.now.flat.nodes sought.now.most) }
+        ensures fails { IfErr result (MayFail sought.now) }
     {
         let mut next = self.states.as_slice()[place].after(alloc, &sought.flat, node, deed)?;
         next.renew(alloc, &sought.flat)?;
@@ -160,7 +156,6 @@ impl Ways {
         place: usize,
         notes: &[Act],
     ) -> Result<bool, AllocError>
-        requires sought { IsSought sought.now }
         requires ways { AreWays sought.now self.now }
         requires within { place < length self.now.states.keys }
         ensures { IfOk result (λ ends. IsTrue ends
@@ -177,7 +172,6 @@ impl Ways {
         sought: &Sought<'_>,
         place: usize,
     ) -> Result<bool, AllocError>
-        requires sought { IsSought sought.now }
         requires ways { AreWays sought.now self.now }
         requires within { place < length self.now.states.keys }
         ensures { IfOk result (λ still. IsTrue still
@@ -207,7 +201,6 @@ impl Ways {
         sought: &Sought<'_>,
         place: usize,
     ) -> Result<Vec<Act>, AllocError>
-        requires sought { IsSought sought.now }
         requires ways { AreWays sought.now self.now }
         requires within { place < length self.now.states.keys }
         ensures { IfOk result (λ acts. LeadTo sought.now self.now.states.keys acts.items place) }

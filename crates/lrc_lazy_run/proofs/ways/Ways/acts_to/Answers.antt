@@ -36,7 +36,7 @@ loop-at-preserved c =
     let comes = kept.come at stood.0 c.index-origin.result.now c.loop-at-test.true stood.1 there in
     record {
       within = slice_get_within keys c.index-origin.result.now.parent comes.parent comes.there;
-      leads = leads_back sought keys at c.args.place c.loop-at.acts.items c.push.new.self.items c.index-origin.result.now stood.0 c.requires.sought stood.1 comes
+      leads = leads_back sought keys at c.args.place c.loop-at.acts.items c.push.new.self.items c.index-origin.result.now stood.0 c.requires.ways.task stood.1 comes
           c.in_ok-push.ensures.items i.leads;
     }
 

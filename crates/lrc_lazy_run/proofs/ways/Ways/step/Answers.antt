@@ -16,7 +16,7 @@ after-requires-clause-fit c =
     let keys = c.args.self.now.states.keys in
     let key = c.index-as_slice-place.result in
     let there = item_in keys c.as_slice.result.now c.args.place key c.as_slice.ensures.keys c.requires.within c.index-as_slice-place.is in
-    reached_fit sought.program.now sought.flat key c.args.place c.requires.sought.words (c.requires.ways.kept.reached c.args.place key there)
+    reached_fit sought.program.now sought.flat key c.args.place c.requires.ways.task.words (c.requires.ways.kept.reached c.args.place key there)
 
 pub after-requires-clause-can : goal.after-requires-clause-can
 after-requires-clause-can c =
@@ -40,7 +40,7 @@ after-requires-clause-node c =
     let key = c.index-as_slice-place.result in
     let there = item_in keys c.as_slice.result.now c.args.place key c.as_slice.ensures.keys c.requires.within c.index-as_slice-place.is in
     can_below sought.flat key c.args.node c.args.deed
-    (reached_fit sought.program.now sought.flat key c.args.place c.requires.sought.words (c.requires.ways.kept.reached c.args.place key there)) (c.requires.can key there)
+    (reached_fit sought.program.now sought.flat key c.args.place c.requires.ways.task.words (c.requires.ways.kept.reached c.args.place key there)) (c.requires.can key there)
 
 pub overflow_cast-act : goal.overflow_cast-act
 overflow_cast-act c =
@@ -49,8 +49,8 @@ overflow_cast-act c =
     let key = c.index-as_slice-place.result in
     let there = item_in keys c.as_slice.result.now c.args.place key c.as_slice.ensures.keys c.requires.within c.index-as_slice-place.is in
     let below = can_below sought.flat key c.args.node c.args.deed
-    (reached_fit sought.program.now sought.flat key c.args.place c.requires.sought.words (c.requires.ways.kept.reached c.args.place key there)) (c.requires.can key there) in
-    omega (arith, below, c.requires.sought.few)
+    (reached_fit sought.program.now sought.flat key c.args.place c.requires.ways.task.words (c.requires.ways.kept.reached c.args.place key there)) (c.requires.can key there) in
+    omega (arith, below, c.requires.ways.task.few)
 
 pub put-requires-clause-reached : goal.put-requires-clause-reached
 put-requires-clause-reached c =
@@ -60,7 +60,7 @@ put-requires-clause-reached c =
     let there = item_in keys c.as_slice.result.now c.args.place key c.as_slice.ensures.keys c.requires.within c.index-as_slice-place.is in
     let reached = c.requires.ways.kept.reached c.args.place key there in
     reached_more (omega (arith, c.requires.within))
-    (reached_next sought.program.now sought.flat c.requires.sought.words c.requires.sought.locks key c.renew.new.self c.args.place reached
+    (reached_next sought.program.now sought.flat c.requires.ways.task.words c.requires.ways.task.locks key c.renew.new.self c.args.place reached
     (record {
       node = c.args.node;
       deed = c.args.deed;
@@ -69,7 +69,7 @@ put-requires-clause-reached c =
       valid = c.in_ok-next.ensures.state;
       goes = renewed still c.in_ok-renew.ensures.fresh;
     })
-    (c.in_ok-renew.ensures.neat (c.in_ok-next.ensures.neat reached.neat)) (c.in_ok-renew.ensures.left c.requires.sought.some))
+    (c.in_ok-renew.ensures.neat (c.in_ok-next.ensures.neat reached.neat)) (c.in_ok-renew.ensures.left c.requires.ways.task.some))
 
 pub put-requires-clause-comes : goal.put-requires-clause-comes
 put-requires-clause-comes c =
@@ -80,6 +80,7 @@ put-requires-clause-comes c =
 
 pub returns-clause-ways : goal.returns-clause-ways
 returns-clause-ways c = record {
+  task = c.requires.ways.task;
   kept = c.in_ok-added.ensures.kept;
   few = omega (arith, c.if-len-sought.false, c.len.ensures.len);
   small = omega (arith, c.len.ensures.len, c.len.ensures.small);
@@ -107,8 +108,10 @@ returns-clause-found c =
     found_few c.args.sought.now.most c.args.self.now.states.keys c.put.new.self.states.keys c.in_ok-added.added c.in_ok-added.ensures.found
     (omega (arith, c.if-len-sought.false, c.len.ensures.len))
 
-pub returns-then-len-sought-clause-too_many : goal.returns-then-len-sought-clause-too_many
-returns-then-len-sought-clause-too_many c = λ _.
-    let new = c.put.new.self in
-    meets_more c.args.sought.now new.states.keys new.origins.items new.settled.items c.requires.sought c.in_ok-added.ensures.kept
-    (omega (arith, c.if-len-sought.true, c.len.ensures.len))
+pub returns-then-len-sought-clause-fails : goal.returns-then-len-sought-clause-fails
+returns-then-len-sought-clause-fails c =
+    let new = c.put.new.self in (
+      λ same. cc,
+      λ _. meets_more c.args.sought.now new.states.keys new.origins.items new.settled.items c.requires.ways.task c.in_ok-added.ensures.kept
+          (omega (arith, c.if-len-sought.true, c.len.ensures.len)),
+    )
