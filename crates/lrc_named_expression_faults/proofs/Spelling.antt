@@ -1,5 +1,5 @@
 -- The places of names, from the last name to the first.
-use Rattle.std.proofs.Common.{◌≡◌, ◌<◌, ◌≤◌, ◌+◌, ◌-◌, ◌||◌, ℕ, zero, suc, Bool, true, false, cond, ltb, List, [], ◌∷◌, Bor, map, length, drop, take, get_or, refl, sym, ap, subst, ◌∙◌, arith, add-one}
+use Rattle.std.proofs.Common.{◌≡◌, ◌<◌, ◌≤◌, ◌+◌, ◌-◌, ◌||◌, ℕ, zero, suc, Bool, true, false, cond, ltb, List, [], ◌∷◌, Bor, map, length, drop, take, get_or, refl, sym, ap, ◌∙◌, arith, add-one}
 use Rattle.std.specs.Prelude.{Option, Some, None, is_some}
 use Rattle.std.specs.HashMap as hash
 use Rattle.std.specs.HashMap.{HashMap}
@@ -10,7 +10,7 @@ use Rattle.std.proofs.lemmas.Bool.{le-ltb, lt-ltb}
 use Rattle.lrc_named_tree.specs.declared.tree.Name as code_name
 use Rattle.lrc_named_tree.specs.View.{named_of}
 use Rattle.lrc_named_constants.specs.Well.{bytes_of, is_among}
-use Rattle.lrc_named_expression_faults.specs.Spelled.{ArePlaces, is_spelled}
+use Rattle.lrc_named_expression_faults.specs.Spelled.{is_spelled}
 
 -- the same of the names from the one at i on
 abbrev pub ArePlacesFrom : {S : Type 0} → ℕ → List code_name.Name → HashMap (Bor (List ℕ)) ℕ S → Type 0

@@ -8,7 +8,6 @@ ghost use Rattle.lrc_named_constants.specs.Constant.{names_of};
 ghost use Rattle.lrc_named_constants.specs.View.{known_of};
 ghost use Rattle.lrc_named_constants.specs.Well.{bytes_of, is_among};
 ghost use Rattle.lrc_named_expression_faults.specs.Scope.{is_shared, lock_sizes, sense_of, shared_sizes, undeclared_sense};
-ghost use Rattle.lrc_named_expression_faults.specs.View.{scope_of, sense_seen};
 
 use crate::extent::Extent;
 use crate::spelled::Spelled;
@@ -30,6 +29,8 @@ pub enum Sense<'t, 'n, 'p> {
 }
 
 impl<'t> Sense<'t, '_, '_> {
+    ghost use Rattle.lrc_named_expression_faults.specs.View.{sense_seen};
+
     /// Returns the sizes of a shared item; nothing else has any.
     pub fn shared_sizes(self) -> &'t [u32]
         ensures { result.now ≡ shared_sizes (sense_seen self.entry) }
@@ -116,6 +117,8 @@ fn count_of(declared: &[Declared<'_, '_>]) -> usize
 }
 
 impl<'t, 'n, 'p> Scope<'t, 'n, 'p> {
+    ghost use Rattle.lrc_named_expression_faults.specs.View.{scope_of, sense_seen};
+
     /// Returns how many names are declared before it.
     pub fn count(&self) -> usize
         ensures { result ≡ length (declared_of self.now.names.now) }
