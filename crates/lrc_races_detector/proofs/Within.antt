@@ -1,5 +1,5 @@
 -- One row is put in place of another, and what is within another stays so.
-use Rattle.std.proofs.Common.{◌≡◌, ◌≢◌, ℕ, ◌<◌, ◌≤◌, List, [], length, set, inl, inr, sym, subst, ◌∙◌, ap, arith}
+use Rattle.std.proofs.Common.{◌≡◌, ◌≢◌, ℕ, ◌<◌, ◌≤◌, List, length, set, inl, inr, sym, subst, ◌∙◌, ap, arith}
 use Rattle.std.specs.Prelude.{Option, Some, None, Bool, true, max, slice_get, slice_index}
 use Rattle.std.specs.Bool.{OnTrue}
 use Rattle.std.proofs.lemmas.Bool.{cases_eq}
@@ -111,7 +111,7 @@ pub marked_within : (before after : List Vector) (within : List (Option ℕ)) (a
 marked_within before after within at value put others holds still may old h one other is thread apart =
     let (so, le) = subst (λ (b : Bool). OnTrue b ((holds ≡ true) × (slice_index (row_in before at) at ≤ value))) h may in
     let was = old so one other is thread apart in
-    let grown : IsGrown before after at = record { here = put_more (row_in before at) (row_in after at) at value put le; others = others; } in
+    let grown : IsGrown before after at = record { here = put_more (row_in before at) (row_in after at) at value put le; others = others } in
     let more = grows before after at grown other thread in
     elim (cases_eq one at) [
       | inl same ↦

@@ -129,7 +129,9 @@ impl Clocks {
     fn is_within(&self, one: usize, other: usize) -> bool
         ensures { OnTrue result (IsWithin self.now.rows.items one other) }
     {
-        if self.holds && let Some(kept) = other_of(self.within.as_slice(), one) {
+        if self.holds
+            && let Some(kept) = other_of(self.within.as_slice(), one)
+        {
             return kept == other;
         }
         false

@@ -1,7 +1,6 @@
 -- The row is a copy of the other.
-use Rattle.std.proofs.Common.{◌≡◌, ◌≤◌, ℕ, set, sym, ◌∙◌, ap, arith}
+use Rattle.std.proofs.Common.{◌≡◌, set, ◌∙◌, ap, arith}
 use Rattle.std.specs.Prelude.{slice_index}
-use Rattle.lrc_races_detector.specs.Vectors.{held}
 use Rattle.lrc_races_detector.specs.Within.{row_in}
 use Rattle.lrc_races_detector.proofs.Within.{set_here, set_others, set_grown, begun_within}
 use Rattle.lrc_races_detector.proofs.clocks.Clocks.begin.Goals as goal
