@@ -1,8 +1,11 @@
 -- What is declared is sound, and the parameters vary.
-use Rattle.std.proofs.Common.{[], false, map, ap, subst, ◌∙◌}
+use Rattle.std.proofs.Common.{false, map, ap, subst, ◌∙◌}
 use Rattle.std.specs.Prelude.{IfOk}
+use Rattle.lrc_named_tree.specs.View.{named_of}
 use Rattle.lrc_named_names.specs.View.{declared_of}
 use Rattle.lrc_named_constants.specs.View.{known_of}
+use Rattle.lrc_named_constants.specs.Well.{bytes_of}
+use Rattle.lrc_named_faults.specs.Declarations.{varying}
 use Rattle.lrc_named_faults.proofs.Laid.{laid_out_is_sound}
 use Rattle.lrc_named_index_hint.specs.Over.{IsFound, IsOneOver}
 use Rattle.lrc_named_index_hint.specs.Spots.{spot_seen}
@@ -14,7 +17,11 @@ one_over-requires-clause-table c = laid_out_is_sound c.args.layout.now c.require
 pub returns : goal.returns
 returns c =
     let table = declared_of c.args.layout.now.names in
+    let own = map named_of c.args.parameters.now in
     let spots = map spot_seen c.args.spots.now in
     subst (λ l. IfOk c.one_over.result
-    (λ found. IsFound (λ v s. IsOneOver (record { declared = table; known = l; assigned = []; constant = false }) spots v s) found))
-    (ap (map known_of) c.deref-2.ensures.value ∙ c.in_ok-known.ensures) c.one_over.ensures
+    (λ found. IsFound (λ v s. IsOneOver (record { declared = table; known = varying own; assigned = bytes_of (map named_of l); constant = false }) spots v s) found))
+    c.none-none.ensures
+    (subst (λ l. IfOk c.one_over.result
+    (λ found. IsFound (λ v s. IsOneOver (record { declared = table; known = l; assigned = bytes_of (map named_of c.none-none.result.names.now); constant = false }) spots v s) found))
+    (ap (map known_of) c.deref-2.ensures.value ∙ c.in_ok-known.ensures) c.one_over.ensures)

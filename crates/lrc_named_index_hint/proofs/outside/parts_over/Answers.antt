@@ -18,4 +18,4 @@ returns c =
     let spots = map spot_seen c.args.spots.now in
     subst (λ l. IfOk c.one_over.result
     (λ found. IsFound (λ v s. IsOneOver (record { declared = table; known = []; assigned = bytes_of l; constant = false }) spots v s) found))
-    (ap (map named_of) c.deref-2.ensures.value ∙ c.in_ok-assigned.ensures) c.one_over.ensures
+    (ap (map named_of) (c.in_ok-assigned.ensures ∙ c.deref.ensures.value) ∙ c.in_ok-set.ensures) c.one_over.ensures
