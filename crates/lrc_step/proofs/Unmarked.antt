@@ -10,7 +10,10 @@ use Rattle.std.proofs.lemmas.List.Folds.{list_all-append}
 use Rattle.std.proofs.lemmas.Str.Parse.{digit_at}
 use Rattle.std.specs.Str.Parse.{AllDigits}
 use Rattle.lrc_judge.specs.declared.lanes.Pair.{Pair}
-use Rattle.lrc_step.specs.Lines.{HasNoMarkup, IsPairOfWords, comma_text, group_text, lines_part, pair_text, pairs_text, quoted, quoted_at, quoted_each, text_part}
+use Rattle.lrc_explain.specs.declared.site.Site.{Site}
+use Rattle.lrc_step.specs.declared.rivals.Rival.{Rival}
+use Rattle.lrc_step.specs.Lines.{HasNoMarkup, IsPairOfWords, IsRivalOfWords, IsSiteOfWords, access_text, comma_text, group_site_text, group_text, lines_part}
+use Rattle.lrc_step.specs.Lines.{pair_text, pairs_text, quoted, quoted_at, quoted_each, rival_at, rival_text, rivals_text, site_text, text_part}
 use Rattle.lrc_step.specs.Spelling.{byte_text, control_text, digit_of, spelled}
 use Rattle.lrc_step.proofs.Read.{by_choice}
 
@@ -119,6 +122,43 @@ pairs_unmarked pairs few = each_unmarked IsPairOfWords pair_text pair_unmarked 0
 pub group_unmarked : (group : Option ℕ) → IfSome group (λ number. number < 2 ^ 64) → AreUnmarked (group_text group)
 group_unmarked None few = refl
 group_unmarked (Some number) few = number_unmarked number few
+
+access_unmarked : (line : ℕ) (writes : Bool) → line < 2 ^ 64 → AreUnmarked (access_text line writes)
+access_unmarked line true few =
+    both (codes "{\"line\":" ++ decimal line) (codes ",\"kind\":\"write\"}") (both (codes "{\"line\":") (decimal line) refl (number_unmarked line few)) refl
+access_unmarked line false few =
+    both (codes "{\"line\":" ++ decimal line) (codes ",\"kind\":\"read\"}") (both (codes "{\"line\":") (decimal line) refl (number_unmarked line few)) refl
+
+pub site_unmarked : (site : Site) → IsSiteOfWords site → AreUnmarked (site_text site)
+unfolding site_text
+site_unmarked site few =
+    let first = access_text site.line site.writes in
+    let then = access_text site.later_line site.later_writes in
+    both (codes ",\"of\":[" ++ first ++ codes "," ++ then) (codes "]")
+    (both (codes ",\"of\":[" ++ first ++ codes ",") then
+    (both (codes ",\"of\":[" ++ first) (codes ",")
+    (both (codes ",\"of\":[") first refl (access_unmarked site.line site.writes few.0)) refl)
+    (access_unmarked site.later_line site.later_writes few.1)) refl
+
+pub group_site_unmarked : (site : Option Site) → IfSome site IsSiteOfWords → AreUnmarked (group_site_text site)
+group_site_unmarked None few = refl
+group_site_unmarked (Some site) few = site_unmarked site few
+
+rival_unmarked : (rival : Option Rival) → IfSome rival IsRivalOfWords → AreUnmarked (rival_text rival)
+unfolding rival_text
+rival_unmarked None few = refl
+rival_unmarked (Some rival) few =
+    both (codes "{\"act\":" ++ decimal rival.act ++ site_text rival.site) (codes "}")
+    (both (codes "{\"act\":" ++ decimal rival.act) (site_text rival.site)
+    (both (codes "{\"act\":") (decimal rival.act) refl (number_unmarked rival.act few.0))
+    (site_unmarked rival.site few.1)) refl
+
+pub rivals_unmarked : (rivals : List (Option Rival)) → All (λ rival. IfSome rival IsRivalOfWords) rivals → AreUnmarked (rivals_text rivals)
+rivals_unmarked rivals few =
+    each_unmarked (λ (rival : Option Rival). IfSome rival IsRivalOfWords) rival_at
+    (λ (node : ℕ) (rival : Option Rival) (small : IfSome rival IsRivalOfWords).
+    both (comma_text node) (rival_text rival) (comma_unmarked node) (rival_unmarked rival small))
+    0 rivals (recursion_from_All (λ (rival : Option Rival). IfSome rival IsRivalOfWords) rivals few)
 
 byte_told : (byte : ℕ) → is_unmarked byte ≡ true → (byte ≢ 60) × (byte ≢ 62) × (byte ≢ 38)
 byte_told byte is = (grind (arith, nat_tests), grind (arith, nat_tests), grind (arith, nat_tests))

@@ -23,7 +23,7 @@ function readRun(text) {
     const part = JSON.parse(line);
     if ("turn" in part) run.turns.push({ ...part, act: part.act && readAct(part.act) });
     else if ("race" in part) run.races.push(part);
-    else if ("why" in part) run.why.set(part.why, part.lines);
+    else if ("why" in part) run.why.set(part.why, part);
     else Object.assign(run, part);
   }
   run.source = [...run.text.replace(/\n$/, "").split("\n"), "# end"];
@@ -47,19 +47,14 @@ function goesOn({ explain, moments }) {
 }
 
 /** Races with acts that are not shown, by the reasons: moment 0 stands for those before the part, none for those behind it. */
-function racesBeyond({ why, explain, momentOfAct, turns }) {
-  const heads = explain.filter(line => line.startsWith("race line"));
-  return [...why].flatMap(([position, lines]) => lines.flatMap(line => {
-    const [, act, node, place, kind] = /^  races with act (\d+), node (\d+), line (\d+): (\w+)/.exec(line) ?? [];
-    if (!act || momentOfAct.has(+act)) return [];
+function racesBeyond({ why, races, momentOfAct, turns }) {
+  const groups = new Map(races.map(({ race, of }) => [JSON.stringify(of), race]));
+  return [...why].flatMap(([position, { races: rivals }]) => rivals.flatMap((rival, node) => {
+    if (!rival || momentOfAct.has(rival.act)) return [];
     const moment = momentOfAct.get(position);
-    const own = turns[moment - 1].act;
-    const [there, here] = [`line ${place} ${kind}`, `line ${own.line} ${own.kind}`];
-    const isBefore = +act < position;
-    const head = isBefore ? `race ${there}, ${here}:` : `race ${here}, ${there}:`;
-    const race = heads.findIndex(other => other.startsWith(head)) + 1;
-    const beyond = { node: +node, act: { word: own.word, line: +place } };
-    return [{ race: race || null, pair: isBefore ? [0, moment] : [moment, Infinity], beyond }];
+    const isBefore = rival.act < position;
+    const beyond = { node, act: { word: turns[moment - 1].act.word, line: rival.of[isBefore ? 0 : 1].line } };
+    return [{ race: groups.get(JSON.stringify(rival.of)) ?? null, pair: isBefore ? [0, moment] : [moment, Infinity], beyond }];
   }));
 }
 
@@ -335,7 +330,7 @@ function counts() {
   const among = begins => run.explain.filter(line => begins.test(line)).length;
   const isRaced = (_, moment) => run.pairs.some(({ pair }) => pair[1] === moment || pair[1] === Infinity && pair[0] === moment);
   return [
-    counted(among(/^race line /), "group of races", "groups of races", run.moments.findIndex(isRaced)),
+    counted(run.races.filter(({ race }) => race !== null).length, "group of races", "groups of races", run.moments.findIndex(isRaced)),
     counted(among(/^node \d+ trapped /), "trap", "traps", run.moments.findIndex(({ turn }) => turn?.act?.kind === "trap")),
     counted(among(/^deadlock: /), "deadlock", "deadlocks", run.goesOn ? 0 : lastMoment),
   ].filter(part => part);
@@ -505,7 +500,7 @@ function notices({ state, before }) {
 }
 
 function drawStory(turn, flight) {
-  const why = reasonFirst(run.why.get(turn?.act?.position)?.slice(1) ?? []);
+  const why = reasonFirst(run.why.get(turn?.act?.position)?.lines.slice(1) ?? []);
   const flying = flight.slice(-12).map(message => messageItem(message, { fresh: message.sent === at && turn }));
   const more = flight.length > 12 ? [make("li", {}, `${flight.length - 12} more`)] : [];
   regions.why.replaceChildren(
