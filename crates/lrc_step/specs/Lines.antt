@@ -32,17 +32,9 @@ text_part text = codes ",\"text\":" ++ quoted text ++ codes "}\n"
 abbrev pub program_line : (name text : List ℕ) → List ℕ
 program_line name text = codes "{\"program\":" ++ quoted name ++ text_part text
 
--- what ends a line with a list of texts
-unfoldable pub lines_part : List (List ℕ) → List ℕ
-lines_part lines = quoted_each lines ++ codes "]}\n"
-
 -- the lines of what a command prints: what stands before each line feed and behind the one before
 abbrev pub lines_in : List ℕ → List (List ℕ)
 lines_in printed = let pieces = cut (divides LineFeed) printed in take (length pieces - 1) pieces
-
--- the run with reasons, by its lines
-abbrev pub explain_line : List (List ℕ) → List ℕ
-explain_line lines = codes "{\"explain\":[" ++ lines_part lines
 
 -- an access: the line of the program's text that it is of, and whether it writes
 abbrev pub access_text : (line : ℕ) → (writes : Bool) → List ℕ
@@ -105,7 +97,7 @@ document lines = opening ++ lines ++ closing
 
 -- the lines of a run: the program, the states, the run with reasons, its races, and the reasons of its acts
 abbrev pub run_lines : (name text states explained races reasons : List ℕ) → List ℕ
-run_lines name text states explained races reasons = program_line name text ++ states ++ explain_line (lines_in explained) ++ races ++ reasons
+run_lines name text states explained races reasons = program_line name text ++ states ++ explained ++ races ++ reasons
 
 -- bytes with none of the signs that markup begins with, ends with, or names signs by
 abbrev pub HasNoMarkup : List ℕ → Type 0

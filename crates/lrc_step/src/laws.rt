@@ -4,7 +4,9 @@ ghost use Rattle.std.specs.Prelude.{◌≡◌, ◌<◌, ◌^◌, ◌++◌, ℕ, 
 ghost use Rattle.lrc_judge.specs.declared.lanes.Pair.{Pair};
 ghost use Rattle.lrc_explain.specs.declared.site.Site.{Site};
 ghost use Rattle.lrc_step.specs.declared.rivals.Rival.{Rival};
-ghost use Rattle.lrc_step.specs.Lines.{HasNoMarkup, IsPairOfWords, IsRivalOfWords, IsSiteOfWords, explain_line, program_line, race_line, why_line};
+ghost use Rattle.lrc_step.specs.declared.end_lines.End.{End};
+ghost use Rattle.lrc_step.specs.EndLines.{AreWords, IsEndOfWords, explain_line};
+ghost use Rattle.lrc_step.specs.Lines.{HasNoMarkup, IsPairOfWords, IsRivalOfWords, IsSiteOfWords, program_line, race_line, why_line};
 ghost use Rattle.lrc_step.specs.Reading.{ended, plain, reads};
 ghost use Rattle.lrc_step.specs.Spelling.{spelled};
 
@@ -18,7 +20,10 @@ pub fn spelled_texts_are_read_back()
 /// holds the data.
 pub fn lines_have_no_markup()
     ensures program { (name text : List ℕ) → HasNoMarkup (program_line name text) }
-    ensures explain { (lines : List (List ℕ)) → HasNoMarkup (explain_line lines) }
+    ensures explain { (lines : List (List ℕ)) (ends : List End) (circles : List (List ℕ))
+        → All IsEndOfWords ends
+        → All AreWords circles
+        → HasNoMarkup (explain_line lines ends circles) }
     ensures why { (position : ℕ) (lines : List (List ℕ)) (rivals : List (Option Rival))
         → position < 2 ^ 64
         → All (λ rival. IfSome rival IsRivalOfWords) rivals

@@ -1,7 +1,7 @@
 // The lines of a run's data that are not its states.
 
 ghost use Rattle.std.specs.Prelude.{◌≡◌, ◌++◌, IfOk, OnOk, map};
-ghost use Rattle.lrc_step.specs.Lines.{access_text, comma_text, explain_line, group_site_text, group_text, lines_in, lines_part, pair_text, pairs_text, program_line, quoted_at, quoted_each};
+ghost use Rattle.lrc_step.specs.Lines.{access_text, comma_text, group_site_text, group_text, lines_in, pair_text, pairs_text, program_line, quoted_at, quoted_each};
 ghost use Rattle.lrc_step.specs.Lines.{race_line, rival_at, rival_text, rivals_text, site_text, text_part, why_line};
 
 use crate::rivals::Rival;
@@ -39,25 +39,16 @@ pub fn push_program_line(text: &mut Vec<u8>, name: &[u8], program: &[u8]) -> Res
     push_text_part(text, program)
 }
 
-#[tactic(auto, unfolding(crate::specs::Lines::lines_part))]
-fn push_lines_part(alloc: Global, text: &mut Vec<u8>, printed: &[u8]) -> Result<(), AllocError>
-    ensures { OnOk result (text.new.items ≡ text.old.items ++ lines_part (lines_in printed.now)) }
-{
-    let lines = lines_in(alloc, printed)?;
-    push_quoted_each(text, &lines)?;
-    text.extend_from_slice(b"]}\n")
-}
-
-/// Adds the line about the run with reasons, from the output of `explain`.
-pub fn push_explain_line(
+/// Adds the lines of what a command prints, between their quotation marks, with commas between them.
+pub(crate) fn push_printed(
     alloc: Global,
     text: &mut Vec<u8>,
     printed: &[u8],
 ) -> Result<(), AllocError>
-    ensures { OnOk result (text.new.items ≡ text.old.items ++ explain_line (lines_in printed.now)) }
+    ensures { OnOk result (text.new.items ≡ text.old.items ++ quoted_each (lines_in printed.now)) }
 {
-    text.extend_from_slice(b"{\"explain\":[")?;
-    push_lines_part(alloc, text, printed)
+    let lines = lines_in(alloc, printed)?;
+    push_quoted_each(text, &lines)
 }
 
 /// Adds the line that says why the act at a position is as it is, from the output of `why`, and the acts that race with
@@ -74,8 +65,7 @@ pub fn push_why_line(
 {
     push_number(text, b"{\"why\":", position as u64)?;
     text.extend_from_slice(b",\"lines\":[")?;
-    let lines = lines_in(alloc, printed)?;
-    push_quoted_each(text, &lines)?;
+    push_printed(alloc, text, printed)?;
     text.extend_from_slice(b"],\"races\":[")?;
     push_rivals(text, rivals)?;
     text.extend_from_slice(b"]}\n")
@@ -205,8 +195,8 @@ fn push_quoted_at(text: &mut Vec<u8>, place: usize, line: &[u8]) -> Result<(), A
     push_quoted(text, line)
 }
 
-// Adds a comma before each but the first of a list.
-fn push_comma(text: &mut Vec<u8>, place: usize) -> Result<(), AllocError>
+/// Adds a comma before each but the first of a list.
+pub(crate) fn push_comma(text: &mut Vec<u8>, place: usize) -> Result<(), AllocError>
     ensures { OnOk result (text.new.items ≡ text.old.items ++ comma_text place) }
 {
     if place == 0 {

@@ -87,7 +87,8 @@ const OF_RACING: &[&[u8]] = &[
     b"\n",
     br##"{"explain":["node 0 ended","node 1 ended","race line 4 write, line 7 write: 1","##,
     br##""  word 0: node 0 interval 1 act 2 writes 1, node 1 interval 1 act 3 writes 3","race line 5 write, line 8 read: 1","##,
-    br##""  word 1: node 0 interval 1 act 4 writes 2, node 1 interval 1 act 5 reads 0 (last written 2)","first race at act 3"]}"##,
+    br##""  word 1: node 0 interval 1 act 4 writes 2, node 1 interval 1 act 5 reads 0 (last written 2)","first race at act 3"],"##,
+    br##""ends":[{"end":"ended","line":11,"prints":0},{"end":"ended","line":11,"prints":0}],"deadlocks":[]}"##,
     b"\n",
     br##"{"race":1,"pairs":[],"of":[{"line":4,"kind":"write"},{"line":7,"kind":"write"}]}"##,
     b"\n",
@@ -155,7 +156,7 @@ const OF_MARKUP: &[&[u8]] = &[
     br##""manager":{"done":0,"arrived":[],"clean":null},"pages":[{"page":0,"copy":"written","words":{"0":"1"},"twin":{},"##,
     br##""since":null,"lacks":[],"keeper":0,"base":null}],"intervals":[],"collected":[0],"sent":[0],"taken":[0]}}"##,
     b"\n",
-    br##"{"explain":["node 0 ended"]}"##,
+    br##"{"explain":["node 0 ended"],"ends":[{"end":"ended","line":4,"prints":0}],"deadlocks":[]}"##,
     b"\n",
 ];
 

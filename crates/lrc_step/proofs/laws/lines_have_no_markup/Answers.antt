@@ -1,6 +1,7 @@
 use Rattle.std.proofs.Common.{◌++◌, codes, decimal, refl}
-use Rattle.lrc_step.specs.Lines.{explain_line, group_site_text, group_text, lines_part, pairs_text, program_line, quoted, quoted_each, race_line, rivals_text, text_part, why_line}
-use Rattle.lrc_step.proofs.Unmarked.{both, group_site_unmarked, group_unmarked, lines_part_unmarked, no_markup, number_unmarked, pairs_unmarked, quoted_each_unmarked, quoted_unmarked, rivals_unmarked, text_part_unmarked}
+use Rattle.lrc_step.specs.EndLines.{circles_text, ends_text, explain_line}
+use Rattle.lrc_step.specs.Lines.{group_site_text, group_text, pairs_text, program_line, quoted, quoted_each, race_line, rivals_text, text_part, why_line}
+use Rattle.lrc_step.proofs.Unmarked.{both, circles_unmarked, ends_unmarked, group_site_unmarked, group_unmarked, no_markup, number_unmarked, pairs_unmarked, quoted_each_unmarked, quoted_unmarked, rivals_unmarked, text_part_unmarked}
 use Rattle.lrc_step.proofs.laws.lines_have_no_markup.Goals as goal
 
 pub returns-clause-program : goal.returns-clause-program
@@ -9,8 +10,15 @@ returns-clause-program c = λ name text. no_markup (program_line name text)
     (both (codes "{\"program\":") (quoted name) refl (quoted_unmarked name)) (text_part_unmarked text))
 
 pub returns-clause-explain : goal.returns-clause-explain
-returns-clause-explain c = λ lines. no_markup (explain_line lines)
-    (both (codes "{\"explain\":[") (lines_part lines) refl (lines_part_unmarked lines))
+returns-clause-explain c = λ lines ends circles few small. no_markup (explain_line lines ends circles)
+    (both (codes "{\"explain\":[" ++ quoted_each lines ++ codes "],\"ends\":[" ++ ends_text ends ++ codes "],\"deadlocks\":[" ++ circles_text circles) (codes "]}\n")
+    (both (codes "{\"explain\":[" ++ quoted_each lines ++ codes "],\"ends\":[" ++ ends_text ends ++ codes "],\"deadlocks\":[") (circles_text circles)
+    (both (codes "{\"explain\":[" ++ quoted_each lines ++ codes "],\"ends\":[" ++ ends_text ends) (codes "],\"deadlocks\":[")
+    (both (codes "{\"explain\":[" ++ quoted_each lines ++ codes "],\"ends\":[") (ends_text ends)
+    (both (codes "{\"explain\":[" ++ quoted_each lines) (codes "],\"ends\":[")
+    (both (codes "{\"explain\":[") (quoted_each lines) refl (quoted_each_unmarked lines)) refl)
+    (ends_unmarked ends few)) refl)
+    (circles_unmarked circles small)) refl)
 
 pub returns-clause-why : goal.returns-clause-why
 returns-clause-why c = λ position lines rivals few small. no_markup (why_line position lines rivals)
