@@ -3,7 +3,6 @@
 ghost use Rattle.std.specs.Prelude.{◌≡◌, ◌≢◌, IfErr, IfOk, option_map, is_some, Bool, false, true};
 ghost use Rattle.lrc_exec.specs.Nodes.{AreNodes};
 ghost use Rattle.lrc_explore.specs.Answers.{IsAnswer, MetTooMany};
-ghost use Rattle.lrc_explore_ends.specs.Answers.{GoesThrough, IsEndAnswer};
 ghost use Rattle.lrc_explore_text.specs.Ends.{ends_status};
 ghost use Rattle.lrc_explore_text.specs.Orders.{findings_status};
 ghost use Rattle.lrc_orders.specs.Verdict.{AreFindings, EndsInRace, FindsNoRace};
@@ -12,7 +11,7 @@ ghost use Rattle.lrc_explore_events_text.specs.Shows.{ShowsCauses, ShowsFound, S
 use crate::showing::{events_shown, order_shown};
 use lrc_explore_causes::told::race_told;
 use lrc_explore_ends::answers::{EndVerdict, explore_ends};
-use lrc_explore_less::answers::{explore, findings};
+use lrc_explore_less::answers::{Explored, Searched, explore, findings};
 use lrc_explore_text::orders::acts_of;
 use lrc_orders::search::{ExploreFault, Findings, Verdict};
 use lrc_program::Program;
@@ -66,9 +65,13 @@ pub fn line_shown(
     if races {
         return verdict_shown(alloc, program, nodes, most, line);
     }
-    let found = findings(alloc, program, nodes, most)?;
-    let shown = found_shown(alloc, program, nodes as u8, &found, &None, line)?;
-    Ok(shown)
+    match findings(alloc, program, nodes, most)? {
+        Searched::All(found) => {
+            let shown = found_shown(alloc, program, nodes as u8, &found, &None, line)?;
+            Ok(shown)
+        }
+        Searched::Many(_) => Err(ExploreFault::TooMany),
+    }
 }
 
 // The same, where ends are asked for.
@@ -87,30 +90,17 @@ fn ends_shown(
     ensures too_many { IfErr result (λ fault. fault ≡ ExploreFault.TooMany
         → MetTooMany program.now nodes most false races) }
 {
-    let verdict = explore_ends(alloc, program, nodes, most, races)?;
-    let shown = end_verdict_shown(alloc, program, nodes as u8, races, &verdict, line)?;
-    Ok(shown)
-}
-
-fn end_verdict_shown(
-    alloc: Global,
-    program: &Program,
-    nodes: u8,
-    races: bool,
-    verdict: &EndVerdict,
-    line: Line,
-) -> Result<Shown, AllocError>
-    requires nodes { AreNodes nodes }
-    requires verdict { IsEndAnswer program.now nodes races verdict.now }
-    ensures shows { IfOk result (λ shown.
-        ShowsLine program.now nodes races true line shown.text.items shown.status) }
-    ensures through { IfOk result (λ shown. shown.status ≢ 3 → GoesThrough verdict.now) }
-{
-    match verdict {
+    match explore_ends(alloc, program, nodes, most, races)? {
         EndVerdict::Through(found) => {
-            found_shown(alloc, program, nodes, &found.besides, &found.lost, line)
+            let count = nodes as u8;
+            let shown = found_shown(alloc, program, count, &found.besides, &found.lost, line)?;
+            Ok(shown)
         }
-        EndVerdict::Racy { order } => race_shown(alloc, program, nodes, order, line),
+        EndVerdict::Racy { order } => {
+            let shown = race_shown(alloc, program, nodes as u8, &order, line)?;
+            Ok(shown)
+        }
+        EndVerdict::Many(_) => Err(ExploreFault::TooMany),
     }
 }
 
@@ -129,9 +119,13 @@ fn verdict_shown(
     ensures too_many { IfErr result (λ fault. fault ≡ ExploreFault.TooMany
         → MetTooMany program.now nodes most false true) }
 {
-    let verdict = explore(alloc, program, nodes, most)?;
-    let shown = of_verdict(alloc, program, nodes as u8, &verdict, line)?;
-    Ok(shown)
+    match explore(alloc, program, nodes, most)? {
+        Explored::Told(verdict) => {
+            let shown = of_verdict(alloc, program, nodes as u8, &verdict, line)?;
+            Ok(shown)
+        }
+        Explored::Many(_) => Err(ExploreFault::TooMany),
+    }
 }
 
 fn of_verdict(

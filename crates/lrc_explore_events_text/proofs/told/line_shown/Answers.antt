@@ -2,6 +2,7 @@ use Rattle.std.proofs.Common.{◌≡◌, ◌∙◌, IfOk, false, refl, subst, sy
 use Rattle.std.specs.Prelude.{IfErr}
 use Rattle.lrc_orders.specs.declared.search.ExploreFault.TheVariants.{TooMany}
 use Rattle.lrc_explore.specs.Answers.{MetTooMany}
+use Rattle.lrc_explore_less.specs.Met.{IsSearched}
 use Rattle.lrc_explore_events_text.specs.Shows.{ShowsLine, free}
 use Rattle.lrc_explore_events_text.proofs.told.line_shown.Goals as goal
 
@@ -19,8 +20,16 @@ returns-then-races-clause-shows c =
 pub found_shown-requires-clause-end : goal.found_shown-requires-clause-end
 found_shown-requires-clause-end c = (false, refl)
 
-pub returns-clause-shows : goal.returns-clause-shows
-returns-clause-shows c =
+pub found_shown-requires-clause-found : goal.found_shown-requires-clause-found
+found_shown-requires-clause-found c = subst (IsSearched c.args.program.now c.args.nodes c.args.most) c.in-All.is c.in_ok-found.ensures.findings
+
+pub returns-in-Many-clause-too_many : goal.returns-in-Many-clause-too_many
+returns-in-Many-clause-too_many c =
+    let is = (subst (IsSearched c.args.program.now c.args.nodes c.args.most) c.in-Many.is c.in_ok-found.ensures.findings).0 in
+    subst (λ b. TooMany ≡ TooMany → MetTooMany c.args.program.now c.args.nodes c.args.most false b) (sym c.if-races.false) (λ e. is.search)
+
+pub returns-in-All-clause-shows : goal.returns-in-All-clause-shows
+returns-in-All-clause-shows c =
     let shown = c.in_ok-shown.shown in
     subst (λ b. ShowsLine c.args.program.now c.args.nodes c.args.races b c.args.line shown.text.items shown.status) (sym c.if-ends.false)
     (free (λ is. let never : true ≡ false = sym is ∙ c.if-races.false in cc) (c.in_ok-shown.ensures false refl))
