@@ -5,6 +5,7 @@ ghost use Rattle.lrc_explain_waits.specs.Traps.{wording_of};
 ghost use Rattle.lrc_text.specs.Parts.{whole_text};
 ghost use Rattle.lrc_exec.specs.Nodes.{AreNodes};
 ghost use Rattle.lrc_explore.specs.Answers.{FitsSettled, MetTooMany};
+ghost use Rattle.lrc_explore.specs.Met.{ComputesTooLong};
 ghost use Rattle.lrc_consistency_laws.specs.Racing.{HasNoRace};
 ghost use Rattle.lrc_explore_ends.specs.Answers.{AreEndFindings};
 ghost use Rattle.lrc_explore_text.specs.Met.{IsTold, TellsMet};
@@ -43,6 +44,8 @@ pub fn explored_ends(
     ensures nodes { IfErr result (λ fault. fault ≢ ExploreFault.BadNodes) }
     ensures too_many { IfErr result (λ fault. fault ≡ ExploreFault.TooMany
         → MetTooMany program.now nodes most false races) }
+    ensures too_long { IfErr result (λ fault. fault ≡ ExploreFault.TooMany
+        → ComputesTooLong program.now nodes most) }
 {
     match explore_ends(alloc, program, nodes, most, races)? {
         EndVerdict::Through(found) => {

@@ -1,8 +1,9 @@
 // What is printed of every order of a program.
 
-ghost use Rattle.std.specs.Prelude.{◌≡◌, ◌≢◌, IfErr, IfOk, map};
+ghost use Rattle.std.specs.Prelude.{◌≡◌, ◌≢◌, IfErr, IfOk, false, map};
 ghost use Rattle.lrc_explain_waits.specs.Traps.{wording_of};
 ghost use Rattle.lrc_exec.specs.Nodes.{AreNodes};
+ghost use Rattle.lrc_explore.specs.Met.{ComputesTooLong};
 ghost use Rattle.lrc_explore_text.specs.Explored.{Explores, MeetsMany, MeetsTooMany};
 ghost use Rattle.lrc_explore_text.specs.Met.{IsTold};
 
@@ -53,6 +54,8 @@ pub fn explored(
     ensures nodes { IfErr result (λ fault. fault ≢ ExploreFault.BadNodes) }
     ensures too_many { IfErr result (λ fault. fault ≡ ExploreFault.TooMany
         → MeetsTooMany program.now nodes most outcomes) }
+    ensures too_long { IfErr result (λ fault. fault ≡ ExploreFault.TooMany → outcomes ≡ false
+        → ComputesTooLong program.now nodes most) }
 {
     if outcomes {
         let printout = outcomes_told(alloc, program, nodes, most)?;

@@ -7,6 +7,7 @@ ghost use Rattle.lrc_text.specs.Parts.{whole_text};
 ghost use Rattle.lrc_exec.specs.Plain.{plain};
 ghost use Rattle.lrc_exec.specs.Nodes.{AreNodes};
 ghost use Rattle.lrc_explore.specs.Answers.{IsAnswer, MetTooMany};
+ghost use Rattle.lrc_explore.specs.Met.{ComputesTooLong};
 ghost use Rattle.lrc_orders.specs.Stuck.{GetsStuck};
 ghost use Rattle.lrc_orders.specs.Traps.{NeverTraps, NodeTraps};
 ghost use Rattle.lrc_orders.specs.Verdict.{AreFindings, EndsInRace, FindsNoRace, NeverStuck, TellsStuck, TellsTrap};
@@ -17,8 +18,8 @@ ghost use Rattle.lrc_explore_text.specs.Orders.{SaysStuck, SaysTrap, TellsFindin
 ghost use Rattle.lrc_explore_text.specs.Sections.{TellsBehind, section_text};
 
 use crate::explored::{Printout, Told};
-use crate::met::met_told;
 use crate::last_races::races_at;
+use crate::met::met_told;
 use crate::trapped::trapped_part;
 use lrc_acts_text::acts_part;
 use lrc_exec::code::Code;
@@ -49,6 +50,8 @@ pub(crate) fn orders_told(
     ensures nodes { IfErr result (λ fault. fault ≢ ExploreFault.BadNodes) }
     ensures too_many { IfErr result (λ fault. fault ≡ ExploreFault.TooMany
         → MetTooMany program.now nodes most false true) }
+    ensures too_long { IfErr result (λ fault. fault ≡ ExploreFault.TooMany
+        → ComputesTooLong program.now nodes most) }
 {
     match explore(alloc, program, nodes, most)? {
         Explored::Told(verdict) => {
@@ -79,6 +82,8 @@ pub fn findings_told(
     ensures nodes { IfErr result (λ fault. fault ≢ ExploreFault.BadNodes) }
     ensures too_many { IfErr result (λ fault. fault ≡ ExploreFault.TooMany
         → MetTooMany program.now nodes most false false) }
+    ensures too_long { IfErr result (λ fault. fault ≡ ExploreFault.TooMany
+        → ComputesTooLong program.now nodes most) }
 {
     match findings(alloc, program, nodes, most)? {
         Searched::All(found) => {

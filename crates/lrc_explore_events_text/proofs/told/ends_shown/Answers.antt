@@ -29,6 +29,13 @@ returns-in-Racy-clause-shows c =
     let e = c.in_ok-shown-in-Racy.ensures in
     subst (ShowsLine c.args.program.now c.args.nodes c.args.races true c.args.line shown.text.items) (sym e.status) (racy _ is.0 is.1 e.shows)
 
-pub returns-in-Many-clause-too_many : goal.returns-in-Many-clause-too_many
-returns-in-Many-clause-too_many c = λ e.
-    (subst (IsEndAnswer c.args.program.now c.args.nodes c.args.most c.args.races) c.in-Many.is c.in_ok-found.ensures.answer).search
+pub met_shown-requires-clause-gave : goal.met_shown-requires-clause-gave
+met_shown-requires-clause-gave c =
+    (c.args.most, c.args.races, subst (IsEndAnswer c.args.program.now c.args.nodes c.args.most c.args.races) c.in-Many.is c.in_ok-found.ensures.answer)
+
+pub returns-in-Many-clause-shows : goal.returns-in-Many-clause-shows
+returns-in-Many-clause-shows c = record {
+  met = c.in-Many.met;
+  gave = subst (IsEndAnswer c.args.program.now c.args.nodes c.args.most c.args.races) c.in-Many.is c.in_ok-found.ensures.answer;
+  shows = c.in_ok-text.ensures;
+}

@@ -1,5 +1,6 @@
 use Rattle.std.proofs.Common.{subst, sym}
 use Rattle.std.specs.Prelude.{false, map, not, true}
+use Rattle.std.proofs.lemmas.Result.{IfErr-weaker}
 use Rattle.lrc_explain_waits.specs.Traps.{wording_of}
 use Rattle.lrc_text.specs.Parts.{whole_text}
 use Rattle.lrc_explore_text.proofs.Telling.{gives_up, of_orders, of_outcomes}
@@ -19,3 +20,6 @@ returns-else-outcomes-clause-ok c =
 pub returns-else-outcomes-clause-too_many : goal.returns-else-outcomes-clause-too_many
 returns-else-outcomes-clause-too_many c =
     gives_up c.args.program.now c.args.nodes c.args.most c.args.outcomes c.orders_told.result false c.if-outcomes.false c.orders_told.ensures.too_many
+
+pub returns-else-outcomes-clause-too_long : goal.returns-else-outcomes-clause-too_long
+returns-else-outcomes-clause-too_long c = IfErr-weaker c.orders_told.result _ _ (λ fault long e none. long e) c.orders_told.ensures.too_long

@@ -1,5 +1,5 @@
 use Rattle.std.specs.Prelude.{map}
-use Rattle.lrc_explore.proofs.Met.{stuck_order_met, trap_order_met}
+use Rattle.lrc_explore.proofs.ManyStates.{stuck_order_met, trap_order_met}
 use Rattle.lrc_explore_text.specs.Sections.{section_text}
 use Rattle.lrc_explore_text.proofs.met.met_told.Goals as goal
 
