@@ -29,11 +29,11 @@ use Rattle.lrc_explore.proofs.Seeking.{has_more_settled}
 -- one more state at which the program is not stuck
 pub nowhere_on : (task : Task) (all : Rows) (place : ℕ) (key : Noted) → IsRowAt all place key → AreNowhereStuck task all place → (stuck : Bool)
     → (IsTrue stuck ↔ IsStuck (plain_at task.flat key.state)) → stuck ≡ false → AreNowhereStuck task all (place + 1)
-nowhere_on task all place key there before stuck halted no k other lt at = elim (cases_eq k place) [
+nowhere_on task all place key there was stuck halted e k other lt at = elim (cases_eq k place) [
   | inl same ↦ λ halts.
       let copy = row_copy all place other key (subst (λ n. IsRowAt all n other) same at) there in
-      true≢false (sym (halted.1 (subst IsStuck (copy_same task.flat other.state key.state copy.state) halts)) ∙ no)
-  | inr apart ↦ before k other (omega (arith, lt, apart)) at
+      true≢false (sym (halted.1 (subst IsStuck (copy_same task.flat other.state key.state copy.state) halts)) ∙ e)
+  | inr apart ↦ was k other (omega (arith, lt, apart)) at
 ]
 
 -- ---- of the states that a search has found

@@ -157,9 +157,9 @@ module _ (task : Task) (first old new : Found) (place : ℕ) (races : Bool) (stu
 
   trapless_on : (o : Option Trapping) (t : Option Step) → (is_some o ≡ false → AreRowsTrapless task old.table.rows)
       → KeepsTrapless task old.table.rows new.table.rows (is_some t) → is_some (first_trap o t place) ≡ false → AreRowsTrapless task new.table.rows
-  trapless_on (Some there) t before here no = absurd (true≢false no)
-  trapless_on None (Some taken) before here no = absurd (true≢false no)
-  trapless_on None None before here no = here no (before refl)
+  trapless_on (Some there) t was here e = absurd (true≢false e)
+  trapless_on None (Some taken) was here e = absurd (true≢false e)
+  trapless_on None None was here e = here e (was refl)
 
   pub seeking_on : Seeking task first new (place + 1) races (first_stuck stuck halts place) (first_trap trap step place)
   seeking_on = record {
@@ -277,7 +277,7 @@ exact task all found reached start sound done noting notes =
 -- ---- too many states
 
 -- what a row stands for keeps no value that is dead
-bare_key : (task : Task) (found : Found) (place : ℕ) (key : Noted) → AreFound task found → IsRowAt found.table.rows place key
+pub bare_key : (task : Task) (found : Found) (place : ℕ) (key : Noted) → AreFound task found → IsRowAt found.table.rows place key
     → All (λ (spot : Spot). forgot task.live.items spot ≡ spot) key.state.spots.items
 bare_key task found place key f at =
     let keys = found.table.rows.threads.keys in

@@ -26,7 +26,7 @@ use Rattle.lrc_explore.proofs.Trapping.{was_at}
 -- the start alone
 pub trapless_first : (task : Task) (found : Found) → AreFound task found → row_count found.table.rows ≡ 1 → (traps : Bool) → ShowsStartTrap task traps
     → traps ≡ false → AreRowsTrapless task found.table.rows
-trapless_first task found f one traps shows no k key at =
+trapless_first task found f one traps shows e k key at =
     let within = row_within found.table.rows k key at in
     let zero : k ≡ 0 = omega (arith, within, one) in
     let first = f.first key (subst (λ n. IsRowAt found.table.rows n key) zero at) in
@@ -35,7 +35,7 @@ trapless_first task found f one traps shows no k key at =
       machine = first.1;
       led = beginning first.0 first.1 first.2;
       alike = first.3;
-      trapless = shows.each first.0 first.1 first.2 ∙ no;
+      trapless = shows.each first.0 first.1 first.2 ∙ e;
     }
 
 -- no state was added
@@ -91,11 +91,11 @@ added_only was now put false is k past within = absurd (omega (arith, is, past, 
 -- a step more
 pub keeps_on : (task : Task) (a b c : Rows) (trap : Option Step) (traps : Bool) (step : Step) → KeepsTrapless task a b (is_some trap)
     → KeepsTrapless task b c traps → KeepsTrapless task a c (is_some (first_step trap traps step))
-keeps_on task a b c (Some first) traps step before here no = absurd (true≢false no)
-keeps_on task a b c None true step before here no = absurd (true≢false no)
-keeps_on task a b c None false step before here no calm = here no (before no calm)
+keeps_on task a b c (Some first) traps step was here e calm = absurd (true≢false e)
+keeps_on task a b c None true step was here e calm = absurd (true≢false e)
+keeps_on task a b c None false step was here e calm = here e (was e calm)
 
 pub keeps_first : (task : Task) (a b : Rows) (traps : Bool) (step : Step) → KeepsTrapless task a b traps
     → KeepsTrapless task a b (is_some (first_step None traps step))
-keeps_first task a b true step here no = absurd (true≢false no)
-keeps_first task a b false step here = here
+keeps_first task a b true step here e calm = absurd (true≢false e)
+keeps_first task a b false step here e calm = here e calm

@@ -244,10 +244,10 @@ impl Found {
         let traps = self.begin(alloc, task)?;
         let sought = self.seek(alloc, task, false, traps)?;
         match sought {
-            Sought::Ended(End::Meeting { .. }) => unreachable!(),
-            Sought::Ended(End::Through { stuck, trap }) => {
-                self.findings_told(alloc, task, stuck, trap)
-            }
+            Sought::Ended(end) => match end {
+                End::Meeting { .. } => unreachable!(),
+                End::Through { stuck, trap } => self.findings_told(alloc, task, stuck, trap),
+            },
             Sought::Many { .. } => Err(ExploreFault::TooMany),
         }
     }

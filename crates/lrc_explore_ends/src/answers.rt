@@ -94,11 +94,13 @@ fn search(alloc: Global, task: &Task<'_>, races: bool) -> Result<EndVerdict, Exp
     let traps = found.begin(alloc, task)?;
     let sought = found.seek(alloc, task, races, traps)?;
     match sought {
-        Sought::Ended(End::Meeting { place, p, q }) => race_of(alloc, task, &found, place, p, q),
-        Sought::Ended(End::Through { stuck, trap }) => {
-            let ends = through(alloc, task, found, stuck, trap)?;
-            Ok(EndVerdict::Through(ends))
-        }
+        Sought::Ended(end) => match end {
+            End::Meeting { place, p, q } => race_of(alloc, task, &found, place, p, q),
+            End::Through { stuck, trap } => {
+                let ends = through(alloc, task, found, stuck, trap)?;
+                Ok(EndVerdict::Through(ends))
+            }
+        },
         Sought::Many { stuck, trap } => {
             let met = found.met_told(alloc, task, races, stuck, trap)?;
             Ok(EndVerdict::Many(met))

@@ -299,11 +299,13 @@ impl Less {
         self.begin(alloc, task)?;
         let sought = self.seek(alloc, task, false)?;
         match sought {
-            Sought::Ended(End::Meeting { .. }) => unreachable!(),
-            Sought::Ended(End::Through { stuck, trap }) => {
-                let found = self.findings_told(alloc, task, stuck, trap)?;
-                Ok(Searched::All(found))
-            }
+            Sought::Ended(end) => match end {
+                End::Meeting { .. } => unreachable!(),
+                End::Through { stuck, trap } => {
+                    let found = self.findings_told(alloc, task, stuck, trap)?;
+                    Ok(Searched::All(found))
+                }
+            },
             Sought::Many { stuck, trap } => {
                 let met = self.found.met_told(alloc, task, false, stuck, trap)?;
                 Ok(searched_of(met))

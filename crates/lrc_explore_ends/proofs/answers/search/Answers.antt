@@ -19,20 +19,20 @@ race_of-requires-clause-meeting c =
     let task = c.args.task.now in
     let new = c.seek.new.self in
     let races = c.args.races in
-    let at = subst (IsSought task new races) c.in-Ended-Meeting.is c.in_ok-sought.ensures.sought in
-    let end = subst (IsEnd task new races) c.in-Ended-Meeting.field-0-is at in (end.0, end.1, end.2, refl)
+    let at = subst (IsSought task new races) c.in-Ended.is c.in_ok-sought.ensures.sought in
+    let end = subst (IsEnd task new races) c.in-Meeting.is at in (end.0, end.1, end.2, refl)
 
-pub returns-in-Ended-Meeting-clause-answer : goal.returns-in-Ended-Meeting-clause-answer
-returns-in-Ended-Meeting-clause-answer c =
+pub returns-in-Meeting-clause-answer : goal.returns-in-Meeting-clause-answer
+returns-in-Meeting-clause-answer c =
     let task = c.args.task.now in
     let new = c.seek.new.self in
     let races = c.args.races in
-    let at = subst (IsSought task new races) c.in-Ended-Meeting.is c.in_ok-sought.ensures.sought in
-    let end = subst (IsEnd task new races) c.in-Ended-Meeting.field-0-is at in
+    let at = subst (IsSought task new races) c.in-Ended.is c.in_ok-sought.ensures.sought in
+    let end = subst (IsEnd task new races) c.in-Meeting.is at in
     subst (λ (b : Bool). IfOk c.race_of.result (IsTaskEndAnswer task b)) (sym end.3) c.race_of.ensures.answer
 
-pub returns-in-Ended-Meeting-clause-fits : goal.returns-in-Ended-Meeting-clause-fits
-returns-in-Ended-Meeting-clause-fits c =
+pub returns-in-Meeting-clause-fits : goal.returns-in-Meeting-clause-fits
+returns-in-Meeting-clause-fits c =
     let task = c.args.task.now in
     IfOk-weaker c.race_of.result (λ (v : EndVerdict). GoesThrough v → ⊥)
     (λ v. GoesThrough v → FitsSettled task.program.now task.flat.nodes task.most) (λ v no through. absurd (no through)) c.race_of.ensures.racy
@@ -43,7 +43,7 @@ through-requires-clause-all c =
     let new = c.seek.new.self in
     let races = c.args.races in
     let e = c.in_ok-sought.ensures in
-    let end = subst (IsEnd task new races) c.in-Ended-Through.field-0-is (subst (IsSought task new races) c.in-Ended-Through.is e.sought) in
+    let end = subst (IsEnd task new races) c.in-Through.is (subst (IsSought task new races) c.in-Ended.is e.sought) in
     record {
       start = start_grown task c.begin.new.self.table.rows new.table.rows e.more.rows c.in_ok-traps.ensures.start;
       expanded = end.expanded;
@@ -54,31 +54,31 @@ through-requires-clause-through c =
     let task = c.args.task.now in
     let new = c.seek.new.self in
     let races = c.args.races in
-    let at = subst (IsSought task new races) c.in-Ended-Through.is c.in_ok-sought.ensures.sought in
-    through_anyhow task new races c.in-Ended-Through.stuck c.in-Ended-Through.trap (subst (IsEnd task new races) c.in-Ended-Through.field-0-is at)
+    let at = subst (IsSought task new races) c.in-Ended.is c.in_ok-sought.ensures.sought in
+    through_anyhow task new races c.in-Through.stuck c.in-Through.trap (subst (IsEnd task new races) c.in-Through.is at)
 
 pub through-requires-clause-some : goal.through-requires-clause-some
 through-requires-clause-some c =
     within_more c.args.task.now c.begin.new.self c.seek.new.self 0 c.in_ok-traps.ensures.found c.in_ok-sought.ensures.more c.in_ok-traps.ensures.some
 
-pub returns-in-Ended-Through-clause-answer : goal.returns-in-Ended-Through-clause-answer
-returns-in-Ended-Through-clause-answer c =
+pub returns-in-Through-clause-answer : goal.returns-in-Through-clause-answer
+returns-in-Through-clause-answer c =
     let task = c.args.task.now in
     let new = c.seek.new.self in
     let races = c.args.races in
     let e = c.in_ok-sought.ensures in
-    let end = subst (IsEnd task new races) c.in-Ended-Through.field-0-is (subst (IsSought task new races) c.in-Ended-Through.is e.sought) in
+    let end = subst (IsEnd task new races) c.in-Through.is (subst (IsSought task new races) c.in-Ended.is e.sought) in
     let start = start_grown task c.begin.new.self.table.rows new.table.rows e.more.rows c.in_ok-traps.ensures.start in
     (λ looked. no_race task new.table.rows e.found.reached start end.expanded (end.calm looked), c.in_ok-ends.ensures.findings)
 
-pub returns-in-Ended-Through-clause-fits : goal.returns-in-Ended-Through-clause-fits
-returns-in-Ended-Through-clause-fits c = λ through.
+pub returns-in-Through-clause-fits : goal.returns-in-Through-clause-fits
+returns-in-Through-clause-fits c = λ through.
     let task = c.args.task.now in
     let new = c.seek.new.self in
     let races = c.args.races in
     let e = c.in_ok-sought.ensures in
-    let end = subst (IsEnd task new races) c.in-Ended-Through.field-0-is (subst (IsSought task new races) c.in-Ended-Through.is e.sought) in
-    let few = subst (FitsEnd task new) c.in-Ended-Through.field-0-is (subst (FitsSought task new) c.in-Ended-Through.is e.fits) in
+    let end = subst (IsEnd task new races) c.in-Through.is (subst (IsSought task new races) c.in-Ended.is e.sought) in
+    let few = subst (FitsEnd task new) c.in-Through.is (subst (FitsSought task new) c.in-Ended.is e.fits) in
     let start = start_grown task c.begin.new.self.table.rows new.table.rows e.more.rows c.in_ok-traps.ensures.start in
     fits_settled task new.table.rows task.most e.found.reached start end.expanded few
 

@@ -12,7 +12,7 @@ findings_told-requires-clause-all c =
     let task = c.args.task.now in
     let new = c.seek.new.self in
     let e = c.in_ok-sought.ensures in
-    let end = subst (IsEnd task new false) c.in-Ended-Through.field-0-is (subst (IsSought task new false) c.in-Ended-Through.is e.sought) in
+    let end = subst (IsEnd task new false) c.in-Through.is (subst (IsSought task new false) c.in-Ended.is e.sought) in
     record {
       start = start_grown task c.begin.new.self.table.rows new.table.rows e.more.rows c.in_ok-traps.ensures.start;
       expanded = end.expanded;
@@ -22,30 +22,30 @@ pub findings_told-requires-clause-stuck : goal.findings_told-requires-clause-stu
 findings_told-requires-clause-stuck c =
     let task = c.args.task.now in
     let new = c.seek.new.self in
-    let at = subst (IsSought task new false) c.in-Ended-Through.is c.in_ok-sought.ensures.sought in
-    (subst (IsEnd task new false) c.in-Ended-Through.field-0-is at).halted
+    let at = subst (IsSought task new false) c.in-Ended.is c.in_ok-sought.ensures.sought in
+    (subst (IsEnd task new false) c.in-Through.is at).halted
 
 pub findings_told-requires-clause-trap : goal.findings_told-requires-clause-trap
 findings_told-requires-clause-trap c =
     let task = c.args.task.now in
     let new = c.seek.new.self in
-    let at = subst (IsSought task new false) c.in-Ended-Through.is c.in_ok-sought.ensures.sought in
-    (subst (IsEnd task new false) c.in-Ended-Through.field-0-is at).traps
+    let at = subst (IsSought task new false) c.in-Ended.is c.in_ok-sought.ensures.sought in
+    (subst (IsEnd task new false) c.in-Through.is at).traps
 
 pub unreachable-requires : goal.unreachable-requires
 unreachable-requires c =
     let task = c.args.task.now in
     let new = c.seek.new.self in
-    let at = subst (IsSought task new false) c.in-Ended-Meeting.is c.in_ok-sought.ensures.sought in
-    true≢false (sym (subst (IsEnd task new false) c.in-Ended-Meeting.field-0-is at).3)
+    let at = subst (IsSought task new false) c.in-Ended.is c.in_ok-sought.ensures.sought in
+    true≢false (sym (subst (IsEnd task new false) c.in-Meeting.is at).3)
 
-pub returns-in-Ended-Through-clause-fits : goal.returns-in-Ended-Through-clause-fits
-returns-in-Ended-Through-clause-fits c =
+pub returns-in-Through-clause-fits : goal.returns-in-Through-clause-fits
+returns-in-Through-clause-fits c =
     let task = c.args.task.now in
     let new = c.seek.new.self in
     let e = c.in_ok-sought.ensures in
-    let end = subst (IsEnd task new false) c.in-Ended-Through.field-0-is (subst (IsSought task new false) c.in-Ended-Through.is e.sought) in
-    let few = subst (FitsEnd task new) c.in-Ended-Through.field-0-is (subst (FitsSought task new) c.in-Ended-Through.is e.fits) in
+    let end = subst (IsEnd task new false) c.in-Through.is (subst (IsSought task new false) c.in-Ended.is e.sought) in
+    let few = subst (FitsEnd task new) c.in-Through.is (subst (FitsSought task new) c.in-Ended.is e.fits) in
     let start = start_grown task c.begin.new.self.table.rows new.table.rows e.more.rows c.in_ok-traps.ensures.start in
     ok_all c.findings_told.result (λ v. FitsSettled task.program.now task.flat.nodes task.most)
     (λ v. fits_settled task new.table.rows task.most e.found.reached start end.expanded few)

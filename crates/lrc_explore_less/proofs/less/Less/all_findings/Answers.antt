@@ -9,15 +9,15 @@ pub unreachable-requires : goal.unreachable-requires
 unreachable-requires c =
     let task = c.args.task.now in
     let new = c.seek.new.self in
-    let at = subst (IsSought task new false) c.in-Ended-Meeting.is c.in_ok-sought.ensures.sought in
-    true≢false (sym (subst (IsEnd task new false) c.in-Ended-Meeting.field-0-is at).3)
+    let at = subst (IsSought task new false) c.in-Ended.is c.in_ok-sought.ensures.sought in
+    true≢false (sym (subst (IsEnd task new false) c.in-Meeting.is at).3)
 
 pub findings_told-requires-clause-through : goal.findings_told-requires-clause-through
 findings_told-requires-clause-through c =
     let task = c.args.task.now in
     let new = c.seek.new.self in
-    let at = subst (IsSought task new false) c.in-Ended-Through.is c.in_ok-sought.ensures.sought in
-    (subst (IsEnd task new false) c.in-Ended-Through.field-0-is at).0
+    let at = subst (IsSought task new false) c.in-Ended.is c.in_ok-sought.ensures.sought in
+    (subst (IsEnd task new false) c.in-Through.is at).0
 
 pub met_told-requires-clause-many : goal.met_told-requires-clause-many
 met_told-requires-clause-many c = subst (IsSought c.args.task.now c.seek.new.self false) c.in-Many.is c.in_ok-sought.ensures.sought
