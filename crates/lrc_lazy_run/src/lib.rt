@@ -6,6 +6,7 @@
 //! seed whose run has it.
 #![tactic(auto)]
 
+mod along;
 pub mod run;
 pub mod seed;
 pub mod seeds;
