@@ -1,21 +1,23 @@
 -- States to which a deed leads, and acts behind it.
-use Rattle.std.proofs.Common.{◌≡◌, ℕ, ◌+◌, ◌<◌, ◌^◌, List, [], ◌∷◌, ◌++◌, length, refl, sym, subst, ◌∙◌, ap, arith}
-use Rattle.std.specs.Prelude.{Some, slice_get, slice_index}
+use Rattle.std.proofs.Common.{◌≡◌, ℕ, ◌<◌, ◌^◌, List, [], ◌∷◌, ◌++◌, length, sym, subst, ◌∙◌, ap, arith}
+use Rattle.std.specs.Prelude.{Option, Some, None, slice_get, slice_index}
 use Rattle.std.proofs.lemmas.List.{append_assoc}
+use Rattle.std.proofs.lemmas.Option.{same_Some}
+use Rattle.lrc_exec.specs.declared.spot.Flat.{Flat}
 use Rattle.lrc_trace.specs.declared.act.Act.{Act}
 use Rattle.lrc_trace.specs.declared.act.Deed.{Deed}
 use Rattle.lrc_trace.specs.declared.act.Deed.TheVariants.{Arrive}
 use Rattle.lrc_trace.specs.Run.{act_of}
 use Rattle.lrc_exec.specs.States.{IsStateOf, plain_at}
 use Rattle.lrc_orders.proofs.Counting.{step_counts}
-use Rattle.lrc_lazy.specs.Standing.{with_memory}
+use Rattle.lrc_lazy.specs.Standing.{CanMake, with_memory}
 use Rattle.lrc_lazy_search.specs.declared.state.LazyState.{LazyState}
 use Rattle.lrc_lazy_search.specs.Searching.{CountsNoneGone, IsAhead, IsForced, IsFresh, IsNeat, IsReached, Steps, onward, renewed, still}
 use Rattle.lrc_lazy_search.proofs.Adding.{reached_more, reached_next}
 use Rattle.lrc_lazy_search.proofs.Ahead.{ahead_on}
 use Rattle.lrc_lazy_run.specs.declared.sought.Sought.{Sought}
 use Rattle.lrc_lazy_run.specs.declared.ways.Origin.{Origin}
-use Rattle.lrc_lazy_run.specs.Ways.{AreKeptIn, AreWays, ComesFrom, IsAfterAt, IsAlong, IsFree, IsSought, LeadOn, LeadsTo}
+use Rattle.lrc_lazy_run.specs.Ways.{AreWays, CanMakeIfAny, ComesFrom, IsAfterAt, IsAlong, IsFree, IsFreeIfAny, IsSought, LeadOn, LeadsTo}
 use Rattle.lrc_lazy_run.specs.declared.ways.Ways.{Ways}
 use Rattle.lrc_lazy_run.proofs.Leading.{leads_fresh, leads_on}
 
@@ -29,6 +31,13 @@ forced_of sought key node deed free none = record {
   only = free.only;
   no_arrive = none;
 }
+
+-- what a node can do alone it can do
+pub can_of_free : (flat : Flat) (keys : List LazyState) (place : ℕ) (key : LazyState) (found : Option (ℕ × Deed)) → slice_get keys place ≡ Some key
+    → IsFreeIfAny flat key found → CanMakeIfAny flat keys place found
+can_of_free flat keys place key None there free = free
+can_of_free flat keys place key (Some act) there free = λ other at.
+    subst (λ (x : LazyState). CanMake flat.words (plain_at flat x.state) x.knowledge act.0 act.1) (same_Some key other (sym there ∙ at)) free.can
 
 -- no act
 pub along_still : (sought : Sought) (key : LazyState) (acts : List Act) → IsAlong sought key acts key acts

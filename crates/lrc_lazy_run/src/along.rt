@@ -1,17 +1,16 @@
 // Free acts, made one after another from a state on.
 
-ghost use Rattle.std.specs.Prelude.{◌≡◌, ◌∷◌, ◌<◌, ◌^◌, [], ℕ, IfOk, OnOk, true, slice_index};
+ghost use Rattle.std.specs.Prelude.{◌≡◌, ◌<◌, ◌^◌, ℕ, IfOk, OnOk, Some, slice_index};
+ghost use Rattle.lrc_trace.specs.declared.act.Deed.{Deed as DeedType};
 ghost use Rattle.lrc_trace.specs.Run.{act_of};
 ghost use Rattle.lrc_exec.specs.Spots.{IsFlat};
 ghost use Rattle.lrc_exec.specs.States.{IsStateOf};
-ghost use Rattle.lrc_lazy.specs.Swapped.{IsNoAcquire};
 ghost use Rattle.lrc_lazy_search.specs.Fit.{IsFit};
 ghost use Rattle.lrc_lazy_search.specs.Searching.{IsNeat};
-ghost use Rattle.lrc_lazy_run.specs.Ways.{IsAlong, IsFreeIfAny, IsSought};
+ghost use Rattle.lrc_lazy_run.specs.Ways.{IsAlong, IsFree, IsFreeIfAny, IsSought};
 
 use crate::sought::Sought;
 use lrc_exec::spot::Flat;
-use lrc_lazy_known::word::copied;
 use lrc_lazy_search::state::{LONGEST, LazyState, SHORT};
 use lrc_trace::act::{Act, Deed};
 use std::alloc::{AllocError, Global};
@@ -82,10 +81,7 @@ fn step_along(
         _ => {}
     }
     state.make(alloc, &sought.flat, node, deed)?;
-    acts.push(Act {
-        node: node as u8,
-        deed,
-    })?;
+    acts.push(act_by(node, deed))?;
     Ok(true)
 }
 
@@ -100,29 +96,42 @@ pub(crate) fn free_act(
     ensures { IfOk result (IsFreeIfAny flat.now state.now) }
 {
     for node in 0..flat.nodes as usize {
-        let deeds = state.deeds(alloc, flat, node)?;
-        if deeds.len() == 1 && is_free(deeds[0]) {
-            return Ok(Some((node, deeds[0])));
+        if let Some(deed) = free_deed(alloc, flat, state, node)? {
+            return Ok(Some((node, deed)));
         }
     }
     Ok(None)
 }
 
-// Whether such a deed depends on nothing that another node does. A read does where it may give several values.
-fn is_free(deed: Deed) -> bool
-    ensures { result ≡ true → IsNoAcquire deed }
+// What the node can do, where that is one deed alone that depends on nothing that another node does.
+fn free_deed(
+    alloc: Global,
+    flat: &Flat,
+    state: &LazyState,
+    node: usize,
+) -> Result<Option<Deed>, AllocError>
+    requires flat { IsFlat flat.now }
+    requires fit { IsFit flat.now state.now }
+    ensures { IfOk result (λ found. (deed : DeedType) → found ≡ Some deed
+        → IsFree flat.now state.now node deed) }
 {
-    !matches!(deed, Deed::Acquire(_) | Deed::Depart)
+    let deeds = state.deeds(alloc, flat, node)?;
+    if deeds.len() != 1 {
+        return Ok(None);
+    }
+    match deeds[0] {
+        Deed::Acquire(_) | Deed::Depart => Ok(None),
+        deed => Ok(Some(deed)),
+    }
 }
 
-/// Returns an act as the only one of a list. It fails if memory runs out.
-pub(crate) fn one_act(alloc: Global, node: usize, deed: Deed) -> Result<Vec<Act>, AllocError>
+/// Returns the act of a node.
+pub(crate) fn act_by(node: usize, deed: Deed) -> Act
     requires { node < 2 ^ 8 }
-    ensures { IfOk result (λ acts. acts.items ≡ act_of node deed ∷ []) }
+    ensures { result ≡ act_of node deed }
 {
-    let act = Act {
+    Act {
         node: node as u8,
         deed,
-    };
-    copied(alloc, &[act])
+    }
 }

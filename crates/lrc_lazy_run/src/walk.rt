@@ -163,7 +163,6 @@ impl Ways {
         requires within { place < length self.now.states.keys }
         ensures { IfOk result (CanMakeIfAny sought.now.flat self.now.states.keys place) }
     {
-        let _nodes = sought.flat.nodes;
         free_act(alloc, &sought.flat, &self.states.as_slice()[place])
     }
 

@@ -2,7 +2,7 @@
 
 ghost use Rattle.std.specs.Prelude.{◌≡◌, ◌++◌, OnOk, reverse};
 
-use crate::along::{go_along, one_act};
+use crate::along::{act_by, go_along};
 use crate::sought::Sought;
 use indexmap::IndexSet;
 use lrc_lazy_known::word::copied;
@@ -101,7 +101,7 @@ impl Ways {
     {
         let mut next = self.after_at(alloc, sought, place, node, deed)?;
         next.renew(alloc, &sought.flat)?;
-        let acts = one_act(alloc, node, deed)?;
+        let acts = copied(alloc, &[act_by(node, deed)])?;
         let origin = Origin {
             parent: place,
             acts,
@@ -111,8 +111,8 @@ impl Ways {
     }
 
     /// Adds the state after a deed of a node and the free acts behind it, up to an arrive, and returns its place if it is
-    /// new. Where these acts turn for ever, no run ends there, and it adds none. It gives up with `TooMany` if there are
-    /// then more states than the task allows, and fails if memory runs out.
+    /// new. Where it sees that these acts turn for ever, it adds none. It gives up with `TooMany` if there are then more
+    /// states than the task allows, and fails if memory runs out.
     pub fn stride(
         &mut self,
         alloc: Global,
@@ -132,7 +132,7 @@ impl Ways {
         ensures fails { IfErr result (MayFail sought.now) }
     {
         let mut next = self.after_at(alloc, sought, place, node, deed)?;
-        let mut acts = one_act(alloc, node, deed)?;
+        let mut acts = copied(alloc, &[act_by(node, deed)])?;
         let mut spare = self.spare;
         let turns = go_along(alloc, sought, &mut next, &mut acts, &mut spare)?;
         self.spare = spare;

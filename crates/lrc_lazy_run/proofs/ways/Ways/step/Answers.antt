@@ -10,8 +10,8 @@ use Rattle.lrc_lazy_run.proofs.ways.Ways.step.Goals as goal
 pub renew-requires : goal.renew-requires
 renew-requires c = c.in_ok-next.ensures.valid
 
-pub one_act-requires : goal.one_act-requires
-one_act-requires c = omega (arith, c.in_ok-next.ensures.below, c.requires.ways.task.few)
+pub act_by-requires : goal.act_by-requires
+act_by-requires c = omega (arith, c.in_ok-next.ensures.below, c.requires.ways.task.few)
 
 pub keep-requires-clause-reached : goal.keep-requires-clause-reached
 keep-requires-clause-reached c =

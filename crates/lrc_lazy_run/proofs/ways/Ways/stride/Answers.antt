@@ -4,8 +4,8 @@ use Rattle.lrc_lazy_search.proofs.Ahead.{ahead_state}
 use Rattle.lrc_lazy_run.proofs.Along.{comes_of, lead_first, lead_fresh, reached_along, room_after}
 use Rattle.lrc_lazy_run.proofs.ways.Ways.stride.Goals as goal
 
-pub one_act-requires : goal.one_act-requires
-one_act-requires c = omega (arith, c.in_ok-next.ensures.below, c.requires.ways.task.few)
+pub act_by-requires : goal.act_by-requires
+act_by-requires c = omega (arith, c.in_ok-next.ensures.below, c.requires.ways.task.few)
 
 pub go_along-requires-clause-state : goal.go_along-requires-clause-state
 go_along-requires-clause-state c = c.in_ok-next.ensures.valid
