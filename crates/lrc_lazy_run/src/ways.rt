@@ -46,10 +46,8 @@ impl Ways {
         let mut states = IndexSet::new(alloc);
         states.insert_full(first)?;
         let mut origins = Vec::new(alloc);
-        origins.push(Origin {
-            parent: 0,
-            acts: Vec::new(alloc),
-        })?;
+        let acts = Vec::new(alloc);
+        origins.push(Origin { parent: 0, acts })?;
         Ok(Ways {
             states,
             origins,
