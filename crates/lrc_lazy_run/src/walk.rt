@@ -2,6 +2,7 @@
 
 ghost use Rattle.std.specs.Prelude.{◌<◌, IfSome, length};
 
+use crate::along::free_act;
 use crate::sought::Sought;
 use crate::ways::Ways;
 use lrc_orders::search::ExploreFault;
@@ -126,8 +127,8 @@ impl Ways {
         Ok(())
     }
 
-    // From a state on, the lowest node that can make a free act makes it, as long as there is one and the state to
-    // which it leads is new. Steps lead on from where that ends.
+    // From a state on, the lowest node that can make a free act makes it, as long as there is one and each state that is
+    // kept on the way is new. Steps lead on from where that ends.
     fn settle(
         &mut self,
         alloc: Global,
@@ -143,7 +144,7 @@ impl Ways {
     {
         let mut at = place;
         while let Some((node, deed)) = self.free_act(alloc, sought, at)? {
-            match self.step(alloc, sought, at, node, deed)? {
+            match self.stride(alloc, sought, at, node, deed)? {
                 Some(next) => at = next,
                 None => return Ok(()),
             }
@@ -162,13 +163,7 @@ impl Ways {
         requires within { place < length self.now.states.keys }
         ensures { IfOk result (CanMakeIfAny sought.now.flat self.now.states.keys place) }
     {
-        for node in 0..sought.flat.nodes as usize {
-            let deeds = self.deeds_at(alloc, sought, place, node)?;
-            if deeds.len() == 1 && is_free(deeds[0]) {
-                return Ok(Some((node, deeds[0])));
-            }
-        }
-        Ok(None)
+        free_act(alloc, &sought.flat, &self.states.as_slice()[place])
     }
 
     // Adds the states to which steps lead from one of them.
@@ -273,7 +268,7 @@ impl Ways {
         ensures grows { OnOk result (Grows self.old.states.keys self.new.states.keys) }
         ensures fails { IfErr result (MayFail sought.now) }
     {
-        match self.step(alloc, sought, place, node, deed)? {
+        match self.stride(alloc, sought, place, node, deed)? {
             Some(next) => self.settle(alloc, sought, next),
             None => Ok(()),
         }
@@ -325,11 +320,6 @@ impl Ways {
         }
         Ok(at)
     }
-}
-
-// Whether such a deed depends on nothing that another node does. A read does where it may give several values.
-fn is_free(deed: Deed) -> bool {
-    !matches!(deed, Deed::Acquire(_) | Deed::Depart)
 }
 
 // The value that a read gives.

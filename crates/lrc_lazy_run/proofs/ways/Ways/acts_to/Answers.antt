@@ -17,10 +17,11 @@ loop-at-smaller c =
     let kept = c.requires.ways.kept in
     let i = c.loop-at.invariant in
     let at = c.loop-at.at in
+    let origin = c.index-origins-at.result in
     let stood = item_at ways.states.keys at i.within in
     let lt : at < length ways.origins.items = omega (arith, i.within, kept.count) in
-    let there = item_in ways.origins.items ways.origins.items at c.index-origin.result.now refl lt c.index-origin.ensures in
-    (kept.come at stood.0 c.index-origin.result.now c.loop-at-test.true stood.1 there).before
+    let there = item_in ways.origins.items ways.origins.items at origin refl lt c.index-origins-at.is in
+    (kept.come at stood.0 origin c.loop-at-test.true stood.1 there).before
 
 pub loop-at-preserved : goal.loop-at-preserved
 loop-at-preserved c =
@@ -30,14 +31,14 @@ loop-at-preserved c =
     let kept = c.requires.ways.kept in
     let i = c.loop-at.invariant in
     let at = c.loop-at.at in
+    let origin = c.index-origins-at.result in
     let stood = item_at keys at i.within in
     let lt : at < length ways.origins.items = omega (arith, i.within, kept.count) in
-    let there = item_in ways.origins.items ways.origins.items at c.index-origin.result.now refl lt c.index-origin.ensures in
-    let comes = kept.come at stood.0 c.index-origin.result.now c.loop-at-test.true stood.1 there in
+    let there = item_in ways.origins.items ways.origins.items at origin refl lt c.index-origins-at.is in
+    let comes = kept.come at stood.0 origin c.loop-at-test.true stood.1 there in
     record {
-      within = slice_get_within keys c.index-origin.result.now.parent comes.parent comes.there;
-      leads = leads_back sought keys at c.args.place c.loop-at.acts.items c.push.new.self.items c.index-origin.result.now stood.0 c.requires.ways.task stood.1 comes
-          c.in_ok-push.ensures.items i.leads;
+      within = slice_get_within keys origin.parent comes.parent comes.there;
+      leads = leads_back sought keys at c.args.place c.loop-at.acts.items c.push_back.new.acts.items origin stood.0 stood.1 comes c.in_ok-push_back.ensures i.leads;
     }
 
 pub returns : goal.returns
