@@ -1,0 +1,4 @@
+mod Levels
+mod Learning
+mod Closing
+mod Stepping
