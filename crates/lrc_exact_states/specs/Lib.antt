@@ -1,3 +1,4 @@
 pub mod Levels
 pub mod Alike
 pub mod Runs
+pub mod Goes

@@ -73,3 +73,11 @@ IsDecidedDeed shape cap floor run states node Depart =
     (known_by_all shape.nodes shape.nodes (arrived_state run states (departs_before run node (length run)) (length run))) word
     ((here shape run states node).words word)
 IsDecidedDeed shape cap floor run states node deed = Unit {0}
+
+-- A run is level: all nodes know the same, have arrived as often as departed, and each as often as the others. So after a barrier from which
+-- all have departed, and before the next act. From there it may be looked at.
+pub record IsLevel (shape : Shape) (base : Base) (run : List Act) (states : List State) : Type 0 where
+  pub wide : length base.floor ≡ shape.nodes
+  pub knows : (q node : ℕ) → q < shape.nodes → node < shape.nodes → entry (here shape run states q).knows.time node ≡ entry base.floor node
+  pub arrived : (q : ℕ) → q < shape.nodes → arrives_before run q (length run) ≡ base.first
+  pub departed : (q : ℕ) → q < shape.nodes → departs_before run q (length run) ≡ base.first
