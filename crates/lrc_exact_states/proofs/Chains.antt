@@ -3,7 +3,6 @@
 use Rattle.std.proofs.Common.{◌≡◌, ℕ, zero, suc, ◌+◌, ◌<◌, ◌≤◌, List, [], ◌∷◌, length, inl, inr, refl, sym, subst, ap, ◌∙◌, arith}
 use Rattle.std.specs.Prelude.{◌↔◌, ◌-◌, Option, Some, None}
 use Rattle.std.proofs.lemmas.Bool.{cases_lt}
-use Rattle.lrc_program.specs.declared.Program.{Program}
 use Rattle.lrc_trace.specs.declared.act.Act.{Act}
 use Rattle.lrc_trace.specs.Run.{arrives_before, departs_before}
 use Rattle.lrc_time.specs.Time.{entry, weight_of}
@@ -12,7 +11,6 @@ use Rattle.lrc_exact.specs.Memory.{Interval, Rank, Word}
 use Rattle.lrc_exact.specs.Rule.{Knowledge, Shape, State, KeepsExact}
 use Rattle.lrc_exact_states.specs.Levels.{AreChangesAlike, AreLevels, AreRising, Change, IsCapped, exact, much, IsWeightAlike, last_change, no_change, one_change, Levels, Table}
 use Rattle.lrc_exact_states.specs.Alike.{ArriveAlike, IsHandedAlike, handed, known_to_all, IsKnowledgeAlike, IsKnownToAll, IsLow, IsMarkAlike, low, high, IsStateAlike, IsWordAlike}
-use Rattle.lrc_exact_states.specs.Goes.{AreAlike, IsTextAlike}
 use Rattle.lrc_exact_states.specs.Runs.{AreRunsAlike, AreSynchronizedAlike, Base, here, IsAhead}
 use Rattle.lrc_exact_states.proofs.Levels.{capped-then, last-agree}
 
@@ -25,6 +23,10 @@ module _ {cap : ℕ} {f g h : List ℕ} where
   change_then : (x y z : Option Change) → AreChangesAlike cap f g x y → AreChangesAlike cap g h y z → AreChangesAlike cap f h x z
   change_then None None None no_change no_change = no_change
   change_then (Some x) (Some y) (Some z) (one_change e a) (one_change d b) = one_change (d ∙ e) (weight_then a b)
+  change_then None None (Some z) a b = elim b [ ]
+  change_then None (Some y) z a b = elim a [ ]
+  change_then (Some x) None z a b = elim a [ ]
+  change_then (Some x) (Some y) None a b = elim b [ ]
 
   mark_then : (x y z : Option Rank) → IsMarkAlike cap f g x y → IsMarkAlike cap g h y z → IsMarkAlike cap f h x z
   mark_then x y z (low a b) (low c d) = low a d
@@ -197,18 +199,3 @@ module _ (shape : Shape) (cap : ℕ) (base base' base'' : Base) (run run' run'' 
         arrive_then (arrived_state run states (k + base.first) (length run) q) (arrived_state run' states' (k + base'.first) (length run') q)
         (arrived_state run'' states'' (k + base''.first) (length run'') q) (r.arrived k q) (t.arrived k q);
   }
-
-pub alike_then : (program : Program) (shape : Shape) (cap : ℕ) (base base' base'' : Base) (run run' run'' : List Act) (states states' states'' : List State)
-    → AreAlike program shape cap base base' run run' states states' → AreAlike program shape cap base' base'' run' run'' states' states''
-    → AreAlike program shape cap base base'' run run'' states states''
-alike_then program shape cap base base' base'' run run' run'' states states' states'' a b = record {
-  exact = a.exact;
-  exact' = b.exact';
-  text = record {
-    makes = λ n lt more.
-        let x = a.text.makes n lt more in
-        let y = b.text.makes n lt more in (λ m. y.0 (x.0 m), λ m. x.1 (y.1 m));
-    notes = a.text.notes ∙ b.text.notes;
-  };
-  alike = runs_then shape cap base base' base'' run run' run'' states states' states'' a.alike b.alike;
-}

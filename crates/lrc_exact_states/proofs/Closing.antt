@@ -10,7 +10,7 @@ use Rattle.lrc_exact.specs.Memory.{Interval, Rank, Word}
 use Rattle.lrc_exact.specs.Rule.{Knowledge, State, change_of, closed, open_interval}
 use Rattle.lrc_exact_states.specs.Levels.{AreChangesAlike, AreLevels, AreRising, Change, IsCapped, exact, much, IsWeightAlike, last_change, newest, no_change, one_change, Levels, Table}
 use Rattle.lrc_exact_states.specs.Alike.{IsKnowledgeAlike, IsMarkOf, IsOfTable, IsStateAlike, IsWordAlike}
-use Rattle.lrc_exact_states.proofs.Levels.{capped-is, capped-sum, last-agree, last-none, last-one, rising-agree}
+use Rattle.lrc_exact_states.proofs.Levels.{capped-is, capped-refl, capped-sum, last-agree, last-none, last-one, rising-agree}
 
 -- ---- weights
 
@@ -87,7 +87,7 @@ module _ (nodes cap : ℕ) (floor floor' : List ℕ) (wide : length floor ≡ no
         above = omega (arith, x);
         above' = omega (arith, y);
         capped = capped-is ((open_interval state).weight - weight_of floor) ((open_interval state').weight - weight_of floor') (omega (arith, x)) (omega (arith, y))
-            (capped-sum z (exact {number = 1} refl));
+            (capped-sum z (capped-refl cap 1));
       }
 
   module _ (node : ℕ) (state state' : State) (s : StatesAlike state state') (lt : node < nodes)
@@ -236,7 +236,7 @@ module _ (nodes cap : ℕ) (floor floor' : List ℕ) (wide : length floor ≡ no
         let f = ap (entry floor) own in
         let f' = ap (entry floor') own in
         capped-is (b - entry floor q) (b' - entry floor' q) (omega (arith, x, is, f)) (omega (arith, y, is', f'))
-        (capped-sum (levels.counted node a a' at_own) (exact {number = 1} refl))
+        (capped-sum (levels.counted node a a' at_own) (capped-refl cap 1))
 
     pub levels_more : AreLevels cap floor floor' grown grown' more
     levels_more = record {

@@ -19,39 +19,31 @@ applied node (Some change) now = with_change (record { weight = change.weight; n
 lower_by_weight : (a b : Rank) → a.weight < b.weight → is_lower a b ≡ true
 lower_by_weight a b lt = ap (λ p. p || ((a.weight == b.weight) && nat_lt a.node b.node)) (lt-ltb a.weight b.weight lt)
 
--- a heavier change of the same node in place of an earlier one
-over : (node w v : ℕ) (earlier : Change) (now : Word) → earlier.weight < w
-    → with_change (record { weight = w; node = node }) (Some v) (applied node (Some earlier) now)
-    ≡ with_change (record { weight = w; node = node }) (Some v) now
-over node w v earlier now lt = go (replaces (record { weight = earlier.weight; node = node }) now.mark) refl
+-- a heavier change in place of an earlier one
+over : (rank old : Rank) (v u : ℕ) (now : Word) → old.weight < rank.weight
+    → with_change rank (Some v) (with_change old (Some u) now) ≡ with_change rank (Some v) now
+over rank old v u now lt = go (replaces old now.mark) refl
   where
-    abbrev rank : Rank
-    rank = record { weight = w; node = node }
-
-    abbrev old : Rank
-    old = record { weight = earlier.weight; node = node }
+    still : (m : Option Rank) → replaces old m ≡ true → replaces rank m ≡ true
+    still None is = refl
+    still (Some m) is = lower_by_weight m rank (below (nat_lt m.weight old.weight) refl)
+      where
+        below : (b : Bool) → nat_lt m.weight old.weight ≡ b → m.weight < rank.weight
+        below true x = let l = ltb-true m.weight old.weight x in omega (arith, l, lt)
+        below false x = elim (cases_eq m.weight old.weight) [
+          | inl same ↦ omega (arith, same, lt)
+          | inr apart ↦
+              let no : is_lower m old ≡ false =
+              ap₂ (λ p q. p || (q && nat_lt m.node old.node)) x (ne_eqb m.weight old.weight apart) in
+              absurd (both_ways (is_lower m old) no is)
+        ]
 
     go : (b : Bool) → replaces old now.mark ≡ b
-        → with_change rank (Some v) (if b then record { value = earlier.value; mark = Some old } else now) ≡ with_change rank (Some v) now
+        → with_change rank (Some v) (if b then record { value = u; mark = Some old } else now) ≡ with_change rank (Some v) now
     go false e = refl
     go true e =
-        cond-true (is_lower old rank) (record { value = v; mark = Some rank }) (record { value = earlier.value; mark = Some old })
-        (lower_by_weight old rank lt)
+        cond-true (is_lower old rank) (record { value = v; mark = Some rank }) (record { value = u; mark = Some old }) (lower_by_weight old rank lt)
         ∙ sym (cond-true (replaces rank now.mark) (record { value = v; mark = Some rank }) now (still now.mark e))
-      where
-        still : (m : Option Rank) → replaces old m ≡ true → replaces rank m ≡ true
-        still None is = refl
-        still (Some m) is = lower_by_weight m rank (below (nat_lt m.weight earlier.weight) refl)
-          where
-            below : (b : Bool) → nat_lt m.weight earlier.weight ≡ b → m.weight < w
-            below true x = let l = ltb-true m.weight earlier.weight x in omega (arith, l, lt)
-            below false x = elim (cases_eq m.weight earlier.weight) [
-              | inl same ↦ omega (arith, same, lt)
-              | inr apart ↦
-                  let no : is_lower m old ≡ false =
-                  ap₂ (λ p q. p || (q && nat_lt m.node node)) x (ne_eqb m.weight earlier.weight apart) in
-                  absurd (both_ways (is_lower m old) no is)
-            ]
 
 -- the changes of a node whose weights rise come to the last of them
 pub by_last : (node : ℕ) (f : ℕ → Interval) (word first last : ℕ) (now : Word) → AreRising f last
@@ -86,7 +78,7 @@ by_last node f word first (suc last) now rising = elim (cases_lt last first) [
         let k = b.known in
         let r = rising b.index (suc last) (omega (arith, n)) (omega (arith, k)) (omega arith) in
         let w = b.weighs in
-        over node (f (suc last)).weight v c now (omega (arith, r, w))
+        over (record { weight = (f (suc last)).weight; node = node }) (record { weight = c.weight; node = node }) v c.value now (omega (arith, r, w))
 
 -- ---- marks are of intervals that are known
 
@@ -162,8 +154,8 @@ module _ (nodes : ℕ) (made : Table) (had : List ℕ) (news : Knowledge) (is : 
       go : (mark : Option Rank) (c : Option Change) → IsTaken made had news.time q mark → change_by q ≡ c → IsNewer q mark c
       go None c t e = tt
       go (Some mark) None t e = tt
-      go (Some mark) (Some c) (inl (less, m)) e own = absurd (omega (arith, less, own))
-      go (Some mark) (Some c) (inr (i, some, known, weighs)) e own =
+      go (Some mark) (Some c) (inl (less, m)) e = λ own. absurd (omega (arith, less, own))
+      go (Some mark) (Some c) (inr (i, some, known, weighs)) e = λ own.
           let n = is_news q c lt e in
           let new = n.new in
           let heavy = n.weighs in
@@ -185,42 +177,36 @@ module _ (nodes : ℕ) (made : Table) (had : List ℕ) (news : Knowledge) (is : 
 
 -- ---- two runs
 
+-- a low mark gives way
+gives_way : (bound : ℕ) (rank : Rank) (mark : Option Rank) → bound < rank.weight → IsLow bound mark → replaces rank mark ≡ true
+gives_way bound rank None above is = refl
+gives_way bound rank (Some mark) above is = lower_by_weight mark rank (omega (arith, above, is))
+
+same_lt : (w v w' v' : ℕ) → (w < v → w' < v') → (w' < v' → w < v) → nat_lt w v ≡ nat_lt w' v'
+same_lt w v w' v' on back = elim (cases_Bool (nat_lt w v)) [
+  | inl holds ↦ holds ∙ sym (lt-ltb w' v' (on (ltb-true w v holds)))
+  | inr fails ↦ elim (cases_Bool (nat_lt w' v')) [
+    | inr fails' ↦ fails ∙ sym fails'
+    | inl holds' ↦ absurd (both_ways (nat_lt w v) fails (lt-ltb w v (back (ltb-true w' v' holds'))))
+  ]
+]
+
+same_eq : (w v w' v' : ℕ) → (w ≡ v → w' ≡ v') → (w' ≡ v' → w ≡ v) → (w == v) ≡ (w' == v')
+same_eq w v w' v' on back = elim (cases_eq w v) [
+  | inl same ↦ eq-eqb w v same ∙ sym (eq-eqb w' v' (on same))
+  | inr other ↦ ne_eqb w v other ∙ sym (ne_eqb w' v' (λ same'. other (back same')))
+]
+
 module _ {cap : ℕ} {floor floor' : List ℕ} where
-  abbrev base : ℕ
-  base = weight_of floor
-
-  abbrev base' : ℕ
-  base' = weight_of floor'
-
-  -- a low mark gives way
-  gives_way : (bound : ℕ) (rank : Rank) (mark : Option Rank) → bound < rank.weight → IsLow bound mark → replaces rank mark ≡ true
-  gives_way bound rank None above is = refl
-  gives_way bound rank (Some mark) above is = lower_by_weight mark rank (omega (arith, above, is))
-
-  same_lt : (w v w' v' : ℕ) → (w < v → w' < v') → (w' < v' → w < v) → nat_lt w v ≡ nat_lt w' v'
-  same_lt w v w' v' on back = elim (cases_Bool (nat_lt w v)) [
-    | inl yes ↦ yes ∙ sym (lt-ltb w' v' (on (ltb-true w v yes)))
-    | inr no ↦ elim (cases_Bool (nat_lt w' v')) [
-      | inr no' ↦ no ∙ sym no'
-      | inl yes' ↦ absurd (both_ways (nat_lt w v) no (lt-ltb w v (back (ltb-true w' v' yes'))))
-    ]
-  ]
-
-  same_eq : (w v w' v' : ℕ) → (w ≡ v → w' ≡ v') → (w' ≡ v' → w ≡ v) → (w == v) ≡ (w' == v')
-  same_eq w v w' v' on back = elim (cases_eq w v) [
-    | inl same ↦ eq-eqb w v same ∙ sym (eq-eqb w' v' (on same))
-    | inr other ↦ ne_eqb w v other ∙ sym (ne_eqb w' v' (λ same'. other (back same')))
-  ]
-
   replaced_alike : (node : ℕ) (m m' : Option Rank) (c c' : Change) → IsMarkAlike cap floor floor' m m' → IsWeightAlike cap floor floor' c.weight c'.weight
       → IsDecided cap floor' node m' (Some c') → IsNewer node m (Some c) → IsNewer node m' (Some c')
       → replaces (record { weight = c.weight; node = node }) m ≡ replaces (record { weight = c'.weight; node = node }) m'
   replaced_alike node m m' c c' (low is is') w decided new new' =
-      gives_way base (record { weight = c.weight; node = node }) m w.above is
-      ∙ sym (gives_way base' (record { weight = c'.weight; node = node }) m' w.above' is')
+      gives_way (weight_of floor) (record { weight = c.weight; node = node }) m w.above is
+      ∙ sym (gives_way (weight_of floor') (record { weight = c'.weight; node = node }) m' w.above' is')
   replaced_alike node (Some m) (Some m') c c' (high same v) w decided new new' = go decided
     where
-      by_told : (m'.weight < base' + cap) ⊎ (c'.weight < base' + cap)
+      by_told : (m'.weight < weight_of floor' + cap) ⊎ (c'.weight < weight_of floor' + cap)
           → is_lower m (record { weight = c.weight; node = node }) ≡ is_lower m' (record { weight = c'.weight; node = node })
       by_told d =
           let t = told_apart m.weight c.weight m'.weight c'.weight v w d in
@@ -228,7 +214,7 @@ module _ {cap : ℕ} {floor floor' : List ℕ} where
           (same_eq m.weight c.weight m'.weight c'.weight t.same t.same')
           ∙ ap (λ k. nat_lt m'.weight c'.weight || ((m'.weight == c'.weight) && nat_lt k node)) (sym same)
 
-      go : (m'.weight < base' + cap) ⊎ ((c'.weight < base' + cap) ⊎ (m'.node ≡ node))
+      go : (m'.weight < weight_of floor' + cap) ⊎ ((c'.weight < weight_of floor' + cap) ⊎ (m'.node ≡ node))
           → is_lower m (record { weight = c.weight; node = node }) ≡ is_lower m' (record { weight = c'.weight; node = node })
       go (inl d) = by_told (inl d)
       go (inr (inl d)) = by_told (inr d)
@@ -239,6 +225,8 @@ module _ {cap : ℕ} {floor floor' : List ℕ} where
   applied_alike : (node : ℕ) (c c' : Option Change) (x x' : Word) → AreChangesAlike cap floor floor' c c' → IsWordAlike cap floor floor' x x'
       → IsDecided cap floor' node x'.mark c' → IsNewer node x.mark c → IsNewer node x'.mark c' → IsWordAlike cap floor floor' (applied node c x) (applied node c' x')
   applied_alike node None None x x' no_change a decided new new' = a
+  applied_alike node None (Some c') x x' none a decided new new' = elim none [ ]
+  applied_alike node (Some c) None x x' none a decided new new' = elim none [ ]
   applied_alike node (Some c) (Some c') x x' (one_change same w) a decided new new' =
       go (replaces (record { weight = c.weight; node = node }) x.mark) (replaces (record { weight = c'.weight; node = node }) x'.mark)
       (replaced_alike node x.mark x'.mark c c' a.mark w decided new new')

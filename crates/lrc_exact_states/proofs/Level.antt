@@ -19,8 +19,7 @@ use Rattle.lrc_exact.specs.Rule.{Shape, State, KeepsExact, exact_rule, no_interv
 use Rattle.lrc_exact.proofs.LocalRules.{keeps-none, last-cases}
 use Rattle.lrc_exact_states.specs.Levels.{AreLevels, AreChangesAlike, AreRising, Change, IsCapped, exact, last_change, no_change, Levels, Table}
 use Rattle.lrc_exact_states.specs.Alike.{ArriveAlike, IsHandedAlike, handed, known_to_all, IsKnownToAll, IsLow, IsMarkAlike, low, IsMarkOf, IsStateAlike, IsWordAlike}
-use Rattle.lrc_exact_states.specs.Searched.{begun}
-use Rattle.lrc_exact_states.specs.Runs.{AreLight, AreRunsAlike, AreSynchronizedAlike, Base, here, IsAhead, IsLevel}
+use Rattle.lrc_exact_states.specs.Runs.{AreLight, AreRunsAlike, AreSynchronizedAlike, Base, begun, here, IsAhead, IsLevel}
 use Rattle.lrc_exact_states.proofs.Levels.{last-none}
 
 beyond : (time : List ℕ) (q : ℕ) → length time ≤ q → entry time q ≡ 0
@@ -207,8 +206,8 @@ module _ (shape : Shape) (cap : ℕ) (base base' : Base) (run run' : List Act) (
       synchronized = record {
         holds = r.synchronized.holds;
         holds' = r.synchronized.holds';
-        arrives = λ q lt. record { more = 0; one = l.arrived q lt; other = l'.arrived q lt };
-        departs = λ q lt. record { more = 0; one = l.departed q lt; other = l'.departed q lt };
+        arrives = λ q lt. let a = l.arrived q lt in let a' = l'.arrived q lt in record { more = 0; one = omega (arith, a); other = omega (arith, a') };
+        departs = λ q lt. let d = l.departed q lt in let d' = l'.departed q lt in record { more = 0; one = omega (arith, d); other = omega (arith, d') };
       };
       made = r.made;
       made' = r.made';

@@ -46,12 +46,13 @@ module _ (f : ℕ → Interval) (word first : ℕ) where
         let never : ◌≡◌ {A = Option Change} None (Some change) = sym (last-none (suc last) (omega (arith, lt))) ∙ is in
         let impossible : ⊥ = cc in
         absurd impossible
-    | inr le ↦ go le ((f (suc last)).changed word) (sym (last-one last le) ∙ is)
+    | inr le ↦ go le ((f (suc last)).changed word) (sym (last-one last le) ∙ is) (λ e. last-is last change e)
   ]
     where
-      go : first ≤ last → (o : Option ℕ) → newest o (f (suc last)).weight (last_change f word first last) ≡ Some change → IsBy (suc last) change
-      go le None e = later last change (last-is last change e)
-      go le (Some v) e =
+      go : first ≤ last → (o : Option ℕ) → newest o (f (suc last)).weight (last_change f word first last) ≡ Some change
+          → (last_change f word first last ≡ Some change → IsBy last change) → IsBy (suc last) change
+      go le None e before = later last change (before e)
+      go le (Some v) e before =
           let same = same_Some (record { weight = (f (suc last)).weight; value = v }) change e in
           record {
             index = suc last;
@@ -91,25 +92,42 @@ pub capped-is : {cap a b : ℕ} (c d : ℕ) → a ≡ c → b ≡ d → IsCapped
 capped-is c d one two (exact e) = exact (omega (arith, one, two, e))
 capped-is c d one two (much x y) = much (omega (arith, one, x)) (omega (arith, two, y))
 
+-- two weights are told apart alike
+pub record AreToldApart (w v w' v' : ℕ) : Type 0 where
+  pub less : w < v → w' < v'
+  pub less' : w' < v' → w < v
+  pub same : w ≡ v → w' ≡ v'
+  pub same' : w' ≡ v' → w ≡ v
+
+-- so they are where one of them is below the cap
 module _ {cap : ℕ} {floor floor' : List ℕ} where
-  -- two weights are told apart alike, where one of them is below the cap
-  pub record AreToldApart (w v w' v' : ℕ) : Type 0 where
-    pub less : w < v → w' < v'
-    pub less' : w' < v' → w < v
-    pub same : w ≡ v → w' ≡ v'
-    pub same' : w' ≡ v' → w ≡ v
-
-  abbrev base : ℕ
-  base = weight_of floor
-
-  abbrev base' : ℕ
-  base' = weight_of floor'
-
   pub told_apart : (w v w' v' : ℕ) → IsWeightAlike cap floor floor' w w' → IsWeightAlike cap floor floor' v v'
-      → (w' < base' + cap) ⊎ (v' < base' + cap) → AreToldApart w v w' v'
+      → (w' < weight_of floor' + cap) ⊎ (v' < weight_of floor' + cap) → AreToldApart w v w' v'
   told_apart w v w' v' a b d = go a.capped b.capped d
     where
-      go : IsCapped cap (w - base) (w' - base') → IsCapped cap (v - base) (v' - base') → (w' < base' + cap) ⊎ (v' < base' + cap)
+      lower : w' - weight_of floor' ≡ w - weight_of floor → cap ≤ v - weight_of floor → cap ≤ v' - weight_of floor' → w' < weight_of floor' + cap → AreToldApart w v w' v'
+      lower e p q lt =
+          let x = a.above in
+          let x' = a.above' in
+          record {
+            less = λ l. omega (arith, e, p, q, lt, x, x');
+            less' = λ l. omega (arith, e, p, q, lt, x, x');
+            same = λ l. omega (arith, e, p, q, lt, x, x', l);
+            same' = λ l. omega (arith, e, p, q, lt, x, x', l);
+          }
+
+      higher : v' - weight_of floor' ≡ v - weight_of floor → cap ≤ w - weight_of floor → cap ≤ w' - weight_of floor' → v' < weight_of floor' + cap → AreToldApart w v w' v'
+      higher e p q lt =
+          let y = b.above in
+          let y' = b.above' in
+          record {
+            less = λ l. omega (arith, e, p, q, lt, y, y', l);
+            less' = λ l. omega (arith, e, p, q, lt, y, y', l);
+            same = λ l. omega (arith, e, p, q, lt, y, y', l);
+            same' = λ l. omega (arith, e, p, q, lt, y, y', l);
+          }
+
+      go : IsCapped cap (w - weight_of floor) (w' - weight_of floor') → IsCapped cap (v - weight_of floor) (v' - weight_of floor') → (w' < weight_of floor' + cap) ⊎ (v' < weight_of floor' + cap)
           → AreToldApart w v w' v'
       go (exact e) (exact d) less =
           let x = a.above in
@@ -128,28 +146,6 @@ module _ {cap : ℕ} {floor floor' : List ℕ} where
       go (much p q) (exact e) (inr lt) = higher e p q lt
       go (much p q) (much r t) (inl lt) = absurd (omega (arith, q, lt))
       go (much p q) (much r t) (inr lt) = absurd (omega (arith, t, lt))
-
-      lower : w' - base' ≡ w - base → cap ≤ v - base → cap ≤ v' - base' → w' < base' + cap → AreToldApart w v w' v'
-      lower e p q lt =
-          let x = a.above in
-          let x' = a.above' in
-          record {
-            less = λ l. omega (arith, e, p, q, lt, x, x');
-            less' = λ l. omega (arith, e, p, q, lt, x, x');
-            same = λ l. omega (arith, e, p, q, lt, x, x', l);
-            same' = λ l. omega (arith, e, p, q, lt, x, x', l);
-          }
-
-      higher : v' - base' ≡ v - base → cap ≤ w - base → cap ≤ w' - base' → v' < base' + cap → AreToldApart w v w' v'
-      higher e p q lt =
-          let y = b.above in
-          let y' = b.above' in
-          record {
-            less = λ l. omega (arith, e, p, q, lt, y, y', l);
-            less' = λ l. omega (arith, e, p, q, lt, y, y', l);
-            same = λ l. omega (arith, e, p, q, lt, y, y', l);
-            same' = λ l. omega (arith, e, p, q, lt, y, y', l);
-          }
 
   pub weight-sym : {w w' : ℕ} → IsWeightAlike cap floor floor' w w' → IsWeightAlike cap floor' floor w' w
   weight-sym a = record { above = a.above'; above' = a.above; capped = capped-sym a.capped }

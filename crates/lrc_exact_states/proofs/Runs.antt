@@ -20,7 +20,7 @@ use Rattle.lrc_exact.specs.Memory.{Interval}
 use Rattle.lrc_exact.specs.Rule.{Knowledge, Shape, State, exact_rule, KeepsExact, accessed, acquired, closed, collected, collects, departed, done_alone}
 use Rattle.lrc_exact.specs.Rule.{known_by_all, open_interval, page_of, some_asks, with_learned, with_write}
 use Rattle.lrc_exact.proofs.LocalRules.{keeps-more}
-use Rattle.lrc_exact_judge.proofs.Next.{arrived-own, arrived-rest, before-other, before-own, released-other, released-own}
+use Rattle.lrc_exact_states.proofs.Next.{arrived-own, arrived-rest, before-other, before-own, released-other, released-own}
 use Rattle.lrc_exact_states.specs.Levels.{AreLevels, Levels, Table}
 use Rattle.lrc_exact_states.specs.Alike.{ArriveAlike, IsHandedAlike, handed, known_to_all, IsKnowledgeAlike, IsStateAlike, if_handed}
 use Rattle.lrc_exact_states.specs.Runs.{AreLight, AreRunsAlike, AreSynchronizedAlike, Base, here, IsAhead, IsDecidedDeed}
@@ -30,22 +30,22 @@ use Rattle.lrc_exact_states.proofs.Stepping.{calm_departed, departed_alike, hand
 -- ---- counts, by one act more
 
 module _ (kind : Deed → Bool) (run : List Act) (act : Act) (q : ℕ) where
-  abbrev grown : List Act
-  grown = run ++ act ∷ []
+  abbrev one_longer : List Act
+  one_longer = run ++ act ∷ []
 
-  counted_front : count_of kind q (take (length run) grown) ≡ count_of kind q (take (length run) run)
+  counted_front : count_of kind q (take (length run) one_longer) ≡ count_of kind q (take (length run) run)
   counted_front = ap (count_of kind q) (take-append-le (length run) run (act ∷ []) (omega arith))
 
-  pub counts_more : act.node ≡ q → kind act.deed ≡ true → count_of kind q (take (length grown) grown) ≡ count_of kind q (take (length run) run) + 1
+  pub counts_more : act.node ≡ q → kind act.deed ≡ true → count_of kind q (take (length one_longer) one_longer) ≡ count_of kind q (take (length run) run) + 1
   counts_more own is =
-      ap (λ k. count_of kind q (take k grown)) (length_push run act)
-      ∙ count_of-more kind grown q (length run) act.deed (Does-node own (Does-last run act)) is
+      ap (λ k. count_of kind q (take k one_longer)) (length_push run act)
+      ∙ count_of-more kind one_longer q (length run) act.deed (Does-node own (Does-last run act)) is
       ∙ ap (λ n. n + 1) counted_front
 
-  pub counts_same : (act.node ≡ q → kind act.deed ≡ true → ⊥) → count_of kind q (take (length grown) grown) ≡ count_of kind q (take (length run) run)
+  pub counts_same : (act.node ≡ q → kind act.deed ≡ true → ⊥) → count_of kind q (take (length one_longer) one_longer) ≡ count_of kind q (take (length run) run)
   counts_same other =
-      ap (λ k. count_of kind q (take k grown)) (length_push run act)
-      ∙ count_of-same kind grown q (length run) act.node act.deed (Does-last run act) other
+      ap (λ k. count_of kind q (take k one_longer)) (length_push run act)
+      ∙ count_of-same kind one_longer q (length run) act.node act.deed (Does-last run act) other
       ∙ counted_front
 
 module _ (kind : Deed → Bool) (run run' : List Act) (act : Act) (q first first' : ℕ) where

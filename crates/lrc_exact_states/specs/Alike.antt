@@ -11,7 +11,7 @@ IsLow bound None = Unit {0}
 IsLow bound (Some rank) = rank.weight ≤ bound
 
 -- two marks: neither is met, or both are of one node and of alike weights
-data pub IsMarkAlike (cap : ℕ) (floor floor' : List ℕ) : Option Rank → Option Rank → Type 0 where
+pub data IsMarkAlike (cap : ℕ) (floor floor' : List ℕ) : Option Rank → Option Rank → Type 0 where
   low : {mark mark' : Option Rank} → IsLow (weight_of floor) mark → IsLow (weight_of floor') mark' → IsMarkAlike cap floor floor' mark mark'
   high : {rank rank' : Rank} → rank'.node ≡ rank.node → IsWeightAlike cap floor floor' rank.weight rank'.weight
       → IsMarkAlike cap floor floor' (Some rank) (Some rank')
@@ -69,7 +69,7 @@ IsKnownToAll nodes floor None = Unit {0}
 IsKnownToAll nodes floor (Some state) = (length state.knows.time ≡ nodes) × ((q : ℕ) → entry state.knows.time q ≤ entry floor q)
 
 -- of the last releases of a lock, the states are alike, or neither tells anybody anything
-data pub IsHandedAlike (nodes : ℕ) (made made' : Table) (level : Levels) (floor floor' : List ℕ) : Option State → Option State → Type 0 where
+pub data IsHandedAlike (nodes : ℕ) (made made' : Table) (level : Levels) (floor floor' : List ℕ) : Option State → Option State → Type 0 where
   handed : {state state' : State} → IsKnowledgeAlike nodes made made' level state.knows state'.knows
       → IsHandedAlike nodes made made' level floor floor' (Some state) (Some state')
   known_to_all : {o o' : Option State} → IsKnownToAll nodes floor o → IsKnownToAll nodes floor' o' → IsHandedAlike nodes made made' level floor floor' o o'
@@ -81,7 +81,7 @@ ArriveAlike nodes made made' level (Some state) (Some state') = IsKnowledgeAlike
 ArriveAlike nodes made made' level _ _ = ⊥
 
 -- what was known at all arrives so far, or at none
-data pub IsAllAlike (nodes : ℕ) (made made' : Table) (level : Levels) (knows knows' : Knowledge) : Type 0 where
+pub data IsAllAlike (nodes : ℕ) (made made' : Table) (level : Levels) (knows knows' : Knowledge) : Type 0 where
   some_arrive : IsKnowledgeAlike nodes made made' level knows knows' → IsAllAlike nodes made made' level knows knows'
   no_arrive : length knows.time ≡ nodes → length knows'.time ≡ nodes → ((q : ℕ) → entry knows.time q ≡ 0) → ((q : ℕ) → entry knows'.time q ≡ 0)
       → IsAllAlike nodes made made' level knows knows'

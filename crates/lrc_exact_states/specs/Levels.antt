@@ -4,7 +4,7 @@ use Rattle.lrc_time.specs.Time.{entry, weight_of}
 use Rattle.lrc_exact.specs.Memory.{Interval}
 
 -- two numbers are one, or neither is below the cap
-data pub IsCapped (cap number number' : ℕ) : Type 0 where
+pub data IsCapped (cap number number' : ℕ) : Type 0 where
   exact : number' ≡ number → IsCapped cap number number'
   much : cap ≤ number → cap ≤ number' → IsCapped cap number number'
 
@@ -32,7 +32,7 @@ last_change intervals word first (suc last) =
     else None
 
 -- two such changes, or none in both
-data pub AreChangesAlike (cap : ℕ) (floor floor' : List ℕ) : Option Change → Option Change → Type 0 where
+pub data AreChangesAlike (cap : ℕ) (floor floor' : List ℕ) : Option Change → Option Change → Type 0 where
   no_change : AreChangesAlike cap floor floor' None None
   one_change : {change change' : Change} → change'.value ≡ change.value → IsWeightAlike cap floor floor' change.weight change'.weight
       → AreChangesAlike cap floor floor' (Some change) (Some change')

@@ -1,4 +1,3 @@
 pub mod Levels
 pub mod Alike
 pub mod Runs
-pub mod Goes

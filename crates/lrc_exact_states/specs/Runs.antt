@@ -5,7 +5,7 @@ use Rattle.lrc_trace.specs.declared.act.Deed.{Deed}
 use Rattle.lrc_trace.specs.declared.act.Deed.TheVariants.{Acquire, Depart}
 use Rattle.lrc_trace.specs.Run.{arrives_before, departs_before}
 use Rattle.lrc_trace.specs.Synchronization.{Holds}
-use Rattle.lrc_time.specs.Time.{entry, weight_of}
+use Rattle.lrc_time.specs.Time.{entry, weight_of, zeros}
 use Rattle.lrc_exact.specs.LocalRule.{arrived_state, released_state, state_before}
 use Rattle.lrc_exact.specs.Rule.{Shape, State, KeepsExact, closed, exact_rule, known_by_all}
 use Rattle.lrc_exact_states.specs.Levels.{AreLevels, Levels, Table}
@@ -15,6 +15,10 @@ use Rattle.lrc_exact_states.specs.Alike.{AreDecided, ArriveAlike, IsHandedAlike,
 pub record Base : Type 0 where
   pub floor : List ℕ
   pub first : ℕ
+
+-- before any act
+abbrev pub begun : ℕ → Base
+begun nodes = record { floor = zeros nodes; first = 0 }
 
 -- two counts that differ as two others do
 pub record IsAhead (count count' first first' : ℕ) : Type 0 where
