@@ -28,7 +28,7 @@ weights_capped cap (f ∷ fs) (g ∷ gs) (t ∷ ts) (u ∷ us) a b c each =
       omega (arith, x, p, wf, wt),
       omega (arith, y, r, wg, wu),
       capped-is (weight_of (t ∷ ts) - weight_of (f ∷ fs)) (weight_of (u ∷ us) - weight_of (g ∷ gs)) (omega (arith, x, p, wf, wt)) (omega (arith, y, r, wg, wu))
-      (capped-sum s z),
+          (capped-sum s z),
     )
 weights_capped cap [] (g ∷ gs) t u a b c each = absurd (omega (arith, a, b))
 weights_capped cap (f ∷ fs) [] t u a b c each = absurd (omega (arith, a, b))
@@ -216,9 +216,9 @@ module _ (nodes cap : ℕ) (floor floor' : List ℕ) (wide : length floor ≡ no
     )
     rising_more q b b' (inr (own, is, is')) = (
       subst (λ k. AreRising (grown k) b) (sym own)
-      (subst (λ k. AreRising (grown node) k) (sym is) (rising_new made a (weight_of time) (open_interval state) refl (levels.rising node a a' at_own).0 light)),
+          (subst (λ k. AreRising (grown node) k) (sym is) (rising_new made a (weight_of time) (open_interval state) refl (levels.rising node a a' at_own).0 light)),
       subst (λ k. AreRising (grown' k) b') (sym own)
-      (subst (λ k. AreRising (grown' node) k) (sym is') (rising_new made' a' (weight_of time') (open_interval state') refl (levels.rising node a a' at_own).1 light')),
+          (subst (λ k. AreRising (grown' node) k) (sym is') (rising_new made' a' (weight_of time') (open_interval state') refl (levels.rising node a a' at_own).1 light')),
     )
 
     above_more : (q b b' : ℕ) → more q b b' → (entry floor q ≤ b) × (entry floor' q ≤ b')
@@ -266,7 +266,7 @@ module _ (nodes cap : ℕ) (floor floor' : List ℕ) (wide : length floor ≡ no
       some,
       known_i,
       weighs ∙ ap (λ (k : Interval). k.weight)
-      (sym (made_old node index interval t mark.node i (λ own. let same = ap (entry known) own in omega (arith, known_i, same, le)))),
+          (sym (made_old node index interval t mark.node i (λ own. let same = ap (entry known) own in omega (arith, known_i, same, le)))),
     )
 
     pub state_still : (t t' : State) → StatesAlike t t' → IsStateAlike nodes cap floor floor' grown grown' more t t'

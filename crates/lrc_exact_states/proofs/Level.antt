@@ -176,17 +176,23 @@ module _ (shape : Shape) (cap : ℕ) (base base' : Base) (run run' : List Act) (
 
         first : (p : Option State) → IsKnownToAll nodes base.floor p → IsKnownToAll nodes new.floor p
         first None x = tt
-        first (Some s) (long, below) = (long, λ q. elim (cases_lt q nodes) [
-          | inl lt ↦ let (u, u') = under q lt in let b = below q in omega (arith, u, b)
-          | inr ge ↦ let z = beyond s.knows.time q (omega (arith, long, ge)) in omega (arith, z)
-        ])
+        first (Some s) (long, below) = (
+          long,
+          λ q. elim (cases_lt q nodes) [
+            | inl lt ↦ let (u, u') = under q lt in let b = below q in omega (arith, u, b)
+            | inr ge ↦ let z = beyond s.knows.time q (omega (arith, long, ge)) in omega (arith, z)
+          ],
+        )
 
         second : (p : Option State) → IsKnownToAll nodes base'.floor p → IsKnownToAll nodes new'.floor p
         second None x = tt
-        second (Some s) (long, below) = (long, λ q. elim (cases_lt q nodes) [
-          | inl lt ↦ let (u, u') = under q lt in let b = below q in omega (arith, u', b)
-          | inr ge ↦ let z = beyond s.knows.time q (omega (arith, long, ge)) in omega (arith, z)
-        ])
+        second (Some s) (long, below) = (
+          long,
+          λ q. elim (cases_lt q nodes) [
+            | inl lt ↦ let (u, u') = under q lt in let b = below q in omega (arith, u', b)
+            | inr ge ↦ let z = beyond s.knows.time q (omega (arith, long, ge)) in omega (arith, z)
+          ],
+        )
 
     none_arrived : (k q : ℕ) → ArriveAlike nodes r.made r.made' IsFloor (arrived_state run states (k + new.first) (length run) q)
         (arrived_state run' states' (k + new'.first) (length run') q)

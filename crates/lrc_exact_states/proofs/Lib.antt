@@ -2,7 +2,8 @@ mod Levels
 mod Learning
 mod Closing
 mod Stepping
-mod Next
 mod Runs
 mod Chains
 mod Level
+mod Goes
+mod Searched

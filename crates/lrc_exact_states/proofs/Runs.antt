@@ -20,7 +20,7 @@ use Rattle.lrc_exact.specs.Memory.{Interval}
 use Rattle.lrc_exact.specs.Rule.{Knowledge, Shape, State, exact_rule, KeepsExact, accessed, acquired, closed, collected, collects, departed, done_alone}
 use Rattle.lrc_exact.specs.Rule.{known_by_all, open_interval, page_of, some_asks, with_learned, with_write}
 use Rattle.lrc_exact.proofs.LocalRules.{keeps-more}
-use Rattle.lrc_exact_states.proofs.Next.{arrived-own, arrived-rest, before-other, before-own, released-other, released-own}
+use Rattle.lrc_exact_judge.proofs.Next.{arrived-own, arrived-rest, before-other, before-own, released-other, released-own}
 use Rattle.lrc_exact_states.specs.Levels.{AreLevels, Levels, Table}
 use Rattle.lrc_exact_states.specs.Alike.{ArriveAlike, IsHandedAlike, handed, known_to_all, IsKnowledgeAlike, IsStateAlike, if_handed}
 use Rattle.lrc_exact_states.specs.Runs.{AreLight, AreRunsAlike, AreSynchronizedAlike, Base, here, IsAhead, IsDecidedDeed}
@@ -141,7 +141,6 @@ module _ (nodes first first' : ℕ) where
         let four = a.other in
         omega (arith, few, one, two, three, four);
   }
-
 
 -- ---- what the next act makes of its node's states
 
