@@ -1,0 +1,9 @@
+mod Levels
+mod Learning
+mod Closing
+mod Stepping
+mod Runs
+mod Chains
+mod Level
+mod Goes
+mod Searched
