@@ -8,6 +8,6 @@ loop-interval-preserved c =
     let with_its = with_changes c.args.memory.now.memory in
     let before = map with_its c.loop-interval.yielded in
     c.in_ok-push.ensures.items
-    ∙ ap (λ (l : List StoredInterval). l ++ c.in_ok-with_changes.ok ∷ []) c.loop-interval.invariant
+    ∙ ap (λ (l : List StoredInterval). l ++ c.in_ok-with_changes.field-0 ∷ []) c.loop-interval.invariant
     ∙ ap (λ (s : StoredInterval). before ++ s ∷ []) c.in_ok-with_changes.ensures
     ∙ sym (map-append with_its c.loop-interval.yielded (c.in-Some.interval ∷ []))
