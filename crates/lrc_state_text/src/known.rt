@@ -69,47 +69,9 @@ impl Known {
         self.first_place(stored)
     }
 
-    // Adds an interval to others, unless it was shown with these changes. Returns at which place the next one is likely to
-    // have been shown.
-    fn push_new(
-        &self,
-        found: &mut Vec<StoredInterval>,
-        likely: usize,
-        stored: StoredInterval,
-    ) -> Result<usize, AllocError>
-        ensures { OnOk result (found.new.items
-            ≡ found.old.items ++ not_known self.now (stored ∷ [])) }
-    {
-        match self.place_of(likely, &stored) {
-            Some(place) => Ok(place.saturating_add(1)),
-            None => {
-                found.push(stored)?;
-                Ok(likely)
-            }
-        }
-    }
-
-    /// Returns the intervals of a state that were not shown before, or that have other changes now.
-    pub(crate) fn new_in(
-        &self,
-        alloc: Global,
-        state: &NodeState<'_>,
-    ) -> Result<Vec<StoredInterval>, AllocError>
-        ensures { IfOk result (λ found. found.items
-            ≡ not_known self.now (stored_in state.now.memory)) }
-    {
-        let all = all_stored(alloc, state)?;
-        let mut found = Vec::new(alloc);
-        let mut likely = 0;
-        for stored in all {
-            likely = self.push_new(&mut found, likely, stored)?;
-        }
-        Ok(found)
-    }
-
     // Adds a copy of an interval to others, unless it was shown with these changes. Returns at which place the next one is
     // likely to have been shown.
-    fn push_copy(
+    fn push_new(
         &self,
         found: &mut Vec<StoredInterval>,
         likely: usize,
@@ -138,9 +100,22 @@ impl Known {
         let mut found = Vec::new(alloc);
         let mut likely = 0;
         for stored in all {
-            likely = self.push_copy(&mut found, likely, stored)?;
+            likely = self.push_new(&mut found, likely, stored)?;
         }
         Ok(found)
+    }
+
+    /// Returns the intervals of a state that were not shown before, or that have other changes now.
+    pub(crate) fn new_in(
+        &self,
+        alloc: Global,
+        state: &NodeState<'_>,
+    ) -> Result<Vec<StoredInterval>, AllocError>
+        ensures { IfOk result (λ found. found.items
+            ≡ not_known self.now (stored_in state.now.memory)) }
+    {
+        let all = all_stored(alloc, state)?;
+        self.new_among(alloc, &all)
     }
 
     /// Returns the intervals of a state that were not shown before, or that have other changes now. From then on all that

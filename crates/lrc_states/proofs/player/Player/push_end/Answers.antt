@@ -13,3 +13,8 @@ returns-clause-line c plan world turns l is there =
     on_ok c.extend_from_slice-2.result last
     (λ more. grown_by old (codes ",\"state\":" ++ told) (codes "}\n")
     (grown_by old (codes ",\"state\":") told first (c.in_ok-push_next_state.ensures.line plan world turns l is there)) more)
+
+pub returns-clause-known : goal.returns-clause-known
+returns-clause-known c world l is there =
+    let last : OnOk c.extend_from_slice-2.result (c.extend_from_slice-2.new.self.items ≡ c.push_next_state.new.line.items ++ codes "}\n") = search rules in
+    on_ok c.extend_from_slice-2.result last (λ more. c.in_ok-push_next_state.ensures.known world l is there)
