@@ -113,10 +113,10 @@ impl<'n, 'p> Layout<'n, 'p> {
     }
 
     // What stands in the body of a function with these parameters that is declared next, or its first fault.
-    fn body(
-        &self,
+    fn body<'s>(
+        &'s self,
         alloc: Global,
-        parameters: &Spelled<'_, 'p>,
+        parameters: &'s Spelled<'s, 'p>,
         expression: &Expression<'p>,
     ) -> Result<Found<Extent>, AllocError>
         requires { IsLaidOut self.now }
@@ -138,11 +138,11 @@ impl<'n, 'p> Layout<'n, 'p> {
     }
 
     // The same, the faults of its name and its parameters among them.
-    fn function(
-        &self,
+    fn function<'s>(
+        &'s self,
         alloc: Global,
         name: Name<'p>,
-        parameters: &[Name<'p>],
+        parameters: &'s [Name<'p>],
         expression: &Expression<'p>,
     ) -> Result<Found<Extent>, AllocError>
         requires { IsLaidOut self.now }

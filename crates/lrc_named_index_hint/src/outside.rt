@@ -139,10 +139,10 @@ fn in_body<'p>(
     }
 }
 
-fn body_over<'p>(
+fn body_over<'s, 'p>(
     alloc: Global,
-    layout: &Layout<'_, 'p>,
-    parameters: &[Name<'p>],
+    layout: &'s Layout<'_, 'p>,
+    parameters: &'s [Name<'p>],
     spots: &[Spot<'_, 'p>],
 ) -> Result<Option<Beyond>, AllocError>
     requires { IsLaidOut layout.now }

@@ -3,15 +3,22 @@ use Rattle.std.proofs.Common.{false, map, ap, subst, ◌∙◌}
 use Rattle.std.specs.Prelude.{IfOk}
 use Rattle.lrc_named_tree.specs.View.{expression_of, named_of}
 use Rattle.lrc_named_names.specs.View.{declared_of}
+use Rattle.lrc_named_constants.specs.Constant.{names_of}
 use Rattle.lrc_named_constants.specs.View.{known_of}
 use Rattle.lrc_named_constants.specs.Well.{bytes_of}
 use Rattle.lrc_named_faults.specs.Declarations.{varying}
 use Rattle.lrc_named_faults.specs.Values.{IsBodyFound}
+use Rattle.lrc_named_faults.proofs.Declaring.{varying_names}
 use Rattle.lrc_named_faults.proofs.Laid.{laid_out_is_sound}
 use Rattle.lrc_named_faults.proofs.layout.Layout.body.Goals as goal
 
 pub body-requires-clause-table : goal.body-requires-clause-table
 body-requires-clause-table c = laid_out_is_sound c.args.self.now c.requires
+
+pub invariant_of-scope : goal.invariant_of-scope
+invariant_of-scope c = record {
+  alike = ap names_of (ap (map known_of) c.deref-2.ensures.value ∙ c.in_ok-known.ensures) ∙ varying_names (map named_of c.args.parameters.now.names.now);
+}
 
 pub returns : goal.returns
 returns c =
