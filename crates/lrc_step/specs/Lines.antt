@@ -36,10 +36,13 @@ program_line name text = codes "{\"program\":" ++ quoted name ++ text_part text
 abbrev pub lines_in : List ℕ → List (List ℕ)
 lines_in printed = let pieces = cut (divides LineFeed) printed in take (length pieces - 1) pieces
 
+-- what of an access tells its kind
+abbrev pub kind_text : (writes : Bool) → List ℕ
+kind_text writes = if writes then codes ",\"kind\":\"write\"}" else codes ",\"kind\":\"read\"}"
+
 -- an access: the line of the program's text that it is of, and whether it writes
 abbrev pub access_text : (line : ℕ) → (writes : Bool) → List ℕ
-access_text line writes =
-    codes "{\"line\":" ++ decimal line ++ (if writes then codes ",\"kind\":\"write\"}" else codes ",\"kind\":\"read\"}")
+access_text line writes = codes "{\"line\":" ++ decimal line ++ kind_text writes
 
 -- two accesses that race, the earlier first
 unfoldable pub site_text : Site → List ℕ

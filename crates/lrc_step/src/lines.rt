@@ -1,7 +1,7 @@
 // The lines of a run's data that are not its states.
 
 ghost use Rattle.std.specs.Prelude.{◌≡◌, ◌++◌, IfOk, OnOk, map};
-ghost use Rattle.lrc_step.specs.Lines.{access_text, comma_text, group_site_text, group_text, lines_in, pair_text, pairs_text, program_line, quoted_at, quoted_each};
+ghost use Rattle.lrc_step.specs.Lines.{access_text, comma_text, group_site_text, group_text, kind_text, lines_in, pair_text, pairs_text, program_line, quoted_at, quoted_each};
 ghost use Rattle.lrc_step.specs.Lines.{race_line, rival_at, rival_text, rivals_text, site_text, text_part, why_line};
 
 use crate::rivals::Rival;
@@ -99,15 +99,22 @@ fn push_rival(text: &mut Vec<u8>, rival: Option<Rival>) -> Result<(), AllocError
     text.extend_from_slice(b"}")
 }
 
+// What of an access tells its kind.
+fn kind_text(writes: bool) -> &'static [u8]
+    ensures { result.now ≡ kind_text writes }
+{
+    if writes {
+        b",\"kind\":\"write\"}"
+    } else {
+        b",\"kind\":\"read\"}"
+    }
+}
+
 fn push_access(text: &mut Vec<u8>, line: u32, writes: bool) -> Result<(), AllocError>
     ensures { OnOk result (text.new.items ≡ text.old.items ++ access_text line writes) }
 {
     push_number(text, b"{\"line\":", u64::from(line))?;
-    if writes {
-        text.extend_from_slice(b",\"kind\":\"write\"}")
-    } else {
-        text.extend_from_slice(b",\"kind\":\"read\"}")
-    }
+    text.extend_from_slice(kind_text(writes))
 }
 
 // Adds two accesses that race.

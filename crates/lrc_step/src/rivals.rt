@@ -36,7 +36,7 @@ pub(crate) fn pair_of(position: usize, other: usize) -> Pair
 }
 
 // The node's rival of the act at the position, if it has one.
-fn rival(
+fn rival_of(
     acts: &[Act],
     lines: &[u32],
     order: &Order,
@@ -73,7 +73,7 @@ fn rivals(
 {
     let mut all = Vec::new(alloc);
     for node in 0..nodes {
-        all.push(rival(acts, lines, order, lanes, node, position))?;
+        all.push(rival_of(acts, lines, order, lanes, node, position))?;
     }
     Ok(all)
 }

@@ -31,7 +31,7 @@ loop-place-preserved c =
     let position : ℕ = get_or positions n 0 in
     c.in_ok-push_why_line.ensures
     ∙ ap₂ (λ (l : List ℕ) (r : List (Option Rival)). c.loop-place.text.items ++ why_line position (lines_in l) r)
-    (c.deref.ensures.value ∙ sym here) (c.deref-2.ensures.value ∙ sym those)
+    (c.deref.ensures.value ∙ sym here) (c.deref-in-loop-place.ensures.value ∙ sym those)
     ∙ ap (λ (l : List ℕ). l ++ of n position) c.loop-place.invariant
     ∙ append_assoc old (each of (take n positions)) (of n position)
     ∙ ap (λ (l : List ℕ). old ++ l) (sym (each_more of positions n 0 c.loop-place-test.true))
