@@ -73,7 +73,8 @@ pub fn explore(
         match explore_all(alloc, program, nodes, most) {
             Ok(told) => return Ok(Explored::Told(told)),
             Err(ExploreFault::TooMany) => {}
-            Err(fault) => return Err(fault),
+            Err(ExploreFault::BadNodes) => return Err(ExploreFault::BadNodes),
+            Err(ExploreFault::NoMemory) => return Err(ExploreFault::NoMemory),
         }
     }
     let explored = explore_code(alloc, &code, count, most)?;
@@ -83,7 +84,8 @@ pub fn explore(
     match explore_all(alloc, program, nodes, most) {
         Ok(told) => Ok(Explored::Told(told)),
         Err(ExploreFault::TooMany) => Ok(explored),
-        Err(fault) => Err(fault),
+        Err(ExploreFault::BadNodes) => Err(ExploreFault::BadNodes),
+        Err(ExploreFault::NoMemory) => Err(ExploreFault::NoMemory),
     }
 }
 
@@ -140,7 +142,8 @@ pub fn findings(
         match findings_of_all(alloc, program, nodes, most) {
             Ok(told) => return Ok(Searched::All(told)),
             Err(ExploreFault::TooMany) => {}
-            Err(fault) => return Err(fault),
+            Err(ExploreFault::BadNodes) => return Err(ExploreFault::BadNodes),
+            Err(ExploreFault::NoMemory) => return Err(ExploreFault::NoMemory),
         }
     }
     let searched = findings_of(alloc, &code, count, most)?;
@@ -150,7 +153,8 @@ pub fn findings(
     match findings_of_all(alloc, program, nodes, most) {
         Ok(told) => Ok(Searched::All(told)),
         Err(ExploreFault::TooMany) => Ok(searched),
-        Err(fault) => Err(fault),
+        Err(ExploreFault::BadNodes) => Err(ExploreFault::BadNodes),
+        Err(ExploreFault::NoMemory) => Err(ExploreFault::NoMemory),
     }
 }
 

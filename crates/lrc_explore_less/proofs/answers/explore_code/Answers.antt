@@ -5,7 +5,7 @@ use Rattle.lrc_explore.proofs.Answering.{fault_of_task}
 use Rattle.lrc_explore.proofs.ManyStates.{too_long}
 use Rattle.lrc_explore.proofs.Seeking.{of_step}
 use Rattle.lrc_explore_less.specs.Met.{IsExplored, IsTaskExplored}
-use Rattle.lrc_explore_less.proofs.Met.{is_explored_of}
+use Rattle.lrc_explore_less.proofs.Answering.{is_explored_of}
 use Rattle.lrc_explore_less.proofs.answers.explore_code.Goals as goal
 
 pub answer-requires-clause-none : goal.answer-requires-clause-none

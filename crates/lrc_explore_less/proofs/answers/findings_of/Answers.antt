@@ -5,7 +5,7 @@ use Rattle.lrc_explore.proofs.Answering.{fault_of_task}
 use Rattle.lrc_explore.proofs.ManyStates.{too_long}
 use Rattle.lrc_explore.proofs.Seeking.{of_step}
 use Rattle.lrc_explore_less.specs.Met.{IsSearched, IsTaskSearched}
-use Rattle.lrc_explore_less.proofs.Met.{is_searched_of}
+use Rattle.lrc_explore_less.proofs.Answering.{is_searched_of}
 use Rattle.lrc_explore_less.proofs.answers.findings_of.Goals as goal
 
 pub all_findings-requires-clause-none : goal.all_findings-requires-clause-none

@@ -2,7 +2,7 @@ use Rattle.std.proofs.Common.{false, subst, sym}
 use Rattle.std.proofs.lemmas.Bool.{true≢false}
 use Rattle.lrc_explore_less.specs.Enough.{IsEnd}
 use Rattle.lrc_explore_less.specs.Met.{IsSought, IsTaskSearched}
-use Rattle.lrc_explore_less.proofs.Met.{is_searched}
+use Rattle.lrc_explore_less.proofs.Answering.{is_searched}
 use Rattle.lrc_explore_less.proofs.less.Less.all_findings.Goals as goal
 
 pub unreachable-requires : goal.unreachable-requires

@@ -1,4 +1,4 @@
-use Rattle.lrc_explore_less.proofs.Met.{trap_met}
+use Rattle.lrc_explore_less.proofs.Answering.{trap_met}
 use Rattle.lrc_explore_less.proofs.less.Less.end_of_all.Goals as goal
 
 pub returns-in-None : goal.returns-in-None
