@@ -2,7 +2,7 @@ use Rattle.std.proofs.Common.{◌∙◌, ◌++◌, ◌∷◌, [], ap, arith, sub
 use Rattle.lrc_trace.specs.declared.act.Act.{Act}
 use Rattle.lrc_lazy_search.proofs.Making.{can_below, fit_of}
 use Rattle.lrc_lazy_run.specs.Ways.{IsFree, IsFreeIfAny}
-use Rattle.lrc_lazy_run.proofs.Along.{along_one, along_still, forced_of}
+use Rattle.lrc_lazy_run.proofs.Striding.{along_one, along_still, forced_of}
 use Rattle.lrc_lazy_run.proofs.along.step_along.Goals as goal
 
 pub free_act-requires-clause-fit : goal.free_act-requires-clause-fit

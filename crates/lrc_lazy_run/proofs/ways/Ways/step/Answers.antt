@@ -4,7 +4,7 @@ use Rattle.lrc_orders.proofs.Keeping.{stands_on as stays}
 use Rattle.lrc_lazy_search.specs.declared.state.LazyState.{LazyState}
 use Rattle.lrc_lazy_search.specs.Searching.{renewed, still}
 use Rattle.lrc_lazy_run.specs.Ways.{HasAfter}
-use Rattle.lrc_lazy_run.proofs.Along.{comes_of, lead_first, lead_fresh, reached_along}
+use Rattle.lrc_lazy_run.proofs.Striding.{comes_of, lead_first, lead_fresh, reached_along}
 use Rattle.lrc_lazy_run.proofs.ways.Ways.step.Goals as goal
 
 pub renew-requires : goal.renew-requires

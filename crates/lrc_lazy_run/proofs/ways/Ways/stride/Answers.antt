@@ -1,7 +1,7 @@
 use Rattle.std.proofs.Common.{arith, refl}
 use Rattle.lrc_lazy_search.specs.Searching.{renewed}
 use Rattle.lrc_lazy_search.proofs.Ahead.{ahead_state}
-use Rattle.lrc_lazy_run.proofs.Along.{comes_of, lead_first, lead_fresh, reached_along, room_after}
+use Rattle.lrc_lazy_run.proofs.Striding.{comes_of, lead_first, lead_fresh, reached_along, room_after}
 use Rattle.lrc_lazy_run.proofs.ways.Ways.stride.Goals as goal
 
 pub act_by-requires : goal.act_by-requires
