@@ -48,6 +48,6 @@ returns-clause-along c =
     let acts = c.args.acts.now.items in
     let free : IsFree sought.flat key node deed = subst (IsFreeIfAny sought.flat key) c.in-Some.is c.in_ok-node.ensures in
     along_one sought key c.make.new.self acts c.push.new.self.items node deed c.requires.task
-    (forced_of sought key node deed free c.in_default-2.not-Arrive)
+    (forced_of sought key node deed free c.in_default-deed.not-Arrive)
     c.in_ok-make.ensures.steps c.in_ok-make.ensures.state
     (c.in_ok-push.ensures.items ∙ ap (λ (a : Act). acts ++ a ∷ []) c.act_by.ensures)
