@@ -1,6 +1,6 @@
 use Rattle.std.proofs.Common.{arith}
 use Rattle.lrc_lazy_search.proofs.Ahead.{ahead_counts, ahead_state}
-use Rattle.lrc_lazy_run.proofs.Along.{along_on, along_still}
+use Rattle.lrc_lazy_run.proofs.Striding.{along_on, along_still}
 use Rattle.lrc_lazy_run.proofs.along.go_along.Goals as goal
 
 pub loop-step-init : goal.loop-step-init

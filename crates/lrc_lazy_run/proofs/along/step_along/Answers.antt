@@ -2,7 +2,7 @@ use Rattle.std.proofs.Common.{◌∙◌, ◌++◌, ◌∷◌, [], ap, arith, sub
 use Rattle.lrc_trace.specs.declared.act.Act.{Act}
 use Rattle.lrc_lazy_search.proofs.Making.{can_below, fit_of}
 use Rattle.lrc_lazy_run.specs.Ways.{IsFree, IsFreeIfAny}
-use Rattle.lrc_lazy_run.proofs.Along.{along_one, along_still, forced_of}
+use Rattle.lrc_lazy_run.proofs.Striding.{along_one, along_still, forced_of}
 use Rattle.lrc_lazy_run.proofs.along.step_along.Goals as goal
 
 pub free_act-requires-clause-fit : goal.free_act-requires-clause-fit
@@ -48,6 +48,6 @@ returns-clause-along c =
     let acts = c.args.acts.now.items in
     let free : IsFree sought.flat key node deed = subst (IsFreeIfAny sought.flat key) c.in-Some.is c.in_ok-node.ensures in
     along_one sought key c.make.new.self acts c.push.new.self.items node deed c.requires.task
-    (forced_of sought key node deed free c.in_default-2.not-Arrive)
+    (forced_of sought key node deed free c.in_default-deed.not-Arrive)
     c.in_ok-make.ensures.steps c.in_ok-make.ensures.state
     (c.in_ok-push.ensures.items ∙ ap (λ (a : Act). acts ++ a ∷ []) c.act_by.ensures)

@@ -1,7 +1,7 @@
 use Rattle.std.proofs.lemmas.Result.{IfOk-weaker}
 use Rattle.lrc_orders.proofs.Keeping.{item_in}
 use Rattle.lrc_lazy_search.proofs.Searched.{reached_fit}
-use Rattle.lrc_lazy_run.proofs.Along.{can_of_free}
+use Rattle.lrc_lazy_run.proofs.Striding.{can_of_free}
 use Rattle.lrc_lazy_run.proofs.ways.Ways.free_act.Goals as goal
 
 pub free_act-requires-clause-fit : goal.free_act-requires-clause-fit

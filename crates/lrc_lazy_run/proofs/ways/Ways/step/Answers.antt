@@ -1,10 +1,11 @@
-use Rattle.std.proofs.Common.{◌∙◌, arith, refl, subst, sym}
+use Rattle.std.proofs.Common.{◌∙◌, ◌∷◌, [], ap, arith, refl, subst, sym}
 use Rattle.std.proofs.lemmas.Option.{same_Some}
+use Rattle.lrc_trace.specs.declared.act.Act.{Act}
 use Rattle.lrc_orders.proofs.Keeping.{stands_on as stays}
 use Rattle.lrc_lazy_search.specs.declared.state.LazyState.{LazyState}
 use Rattle.lrc_lazy_search.specs.Searching.{renewed, still}
 use Rattle.lrc_lazy_run.specs.Ways.{HasAfter}
-use Rattle.lrc_lazy_run.proofs.Along.{comes_of, lead_first, lead_fresh, reached_along}
+use Rattle.lrc_lazy_run.proofs.Striding.{comes_of, lead_first, lead_fresh, reached_along}
 use Rattle.lrc_lazy_run.proofs.ways.Ways.step.Goals as goal
 
 pub renew-requires : goal.renew-requires
@@ -26,9 +27,10 @@ keep-requires-clause-comes c =
     let task = c.requires.ways.task in
     let after = c.in_ok-next.ensures in
     let acts = c.in_ok-acts.acts.items in
+    let one = c.in_ok-acts.ensures ∙ ap (λ (a : Act). a ∷ []) c.act_by.ensures in
     comes_of sought c.args.self.now.states.keys c.args.place c.args.node c.args.deed c.in_ok-next.next c.renew.new.self _ after c.requires.within refl
     (lead_fresh sought after.key c.in_ok-next.next c.renew.new.self acts task
-    (lead_first sought after.key c.in_ok-next.next acts c.args.node c.args.deed task after.steps c.in_ok-acts.ensures) c.in_ok-renew.ensures.fresh)
+    (lead_first sought after.key c.in_ok-next.next acts c.args.node c.args.deed task after.steps one) c.in_ok-renew.ensures.fresh)
 
 pub returns-clause-has : goal.returns-clause-has
 returns-clause-has c = λ wanted at.

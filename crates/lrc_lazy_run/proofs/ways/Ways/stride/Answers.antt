@@ -1,7 +1,8 @@
-use Rattle.std.proofs.Common.{arith, refl}
+use Rattle.std.proofs.Common.{◌∙◌, ◌∷◌, [], ap, arith, refl}
+use Rattle.lrc_trace.specs.declared.act.Act.{Act}
 use Rattle.lrc_lazy_search.specs.Searching.{renewed}
 use Rattle.lrc_lazy_search.proofs.Ahead.{ahead_state}
-use Rattle.lrc_lazy_run.proofs.Along.{comes_of, lead_first, lead_fresh, reached_along, room_after}
+use Rattle.lrc_lazy_run.proofs.Striding.{comes_of, lead_first, lead_fresh, reached_along, room_after}
 use Rattle.lrc_lazy_run.proofs.ways.Ways.stride.Goals as goal
 
 pub act_by-requires : goal.act_by-requires
@@ -31,10 +32,11 @@ keep-requires-clause-comes c =
     let task = c.requires.ways.task in
     let after = c.in_ok-next.ensures in
     let acts = c.in_ok-acts.acts.items in
+    let one = c.in_ok-acts.ensures ∙ ap (λ (a : Act). a ∷ []) c.act_by.ensures in
     comes_of sought c.args.self.now.states.keys c.args.place c.args.node c.args.deed c.in_ok-next.next c.renew.new.self _ after c.requires.within refl
     (lead_fresh sought after.key c.go_along.new.state c.renew.new.self c.go_along.new.acts.items task
     (c.in_ok-turns.ensures.along.leads after.key
-    (lead_first sought after.key c.in_ok-next.next acts c.args.node c.args.deed task after.steps c.in_ok-acts.ensures)) c.in_ok-renew.ensures.fresh)
+    (lead_first sought after.key c.in_ok-next.next acts c.args.node c.args.deed task after.steps one)) c.in_ok-renew.ensures.fresh)
 
 pub keep-requires-clause-ways : goal.keep-requires-clause-ways
 keep-requires-clause-ways c =

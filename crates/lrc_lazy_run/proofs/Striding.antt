@@ -12,7 +12,7 @@ use Rattle.lrc_exec.specs.States.{IsStateOf, plain_at}
 use Rattle.lrc_orders.proofs.Counting.{step_counts}
 use Rattle.lrc_lazy.specs.Standing.{CanMake, with_memory}
 use Rattle.lrc_lazy_search.specs.declared.state.LazyState.{LazyState}
-use Rattle.lrc_lazy_search.specs.Searching.{CountsNoneGone, IsAhead, IsForced, IsFresh, IsNeat, IsReached, Steps, onward, renewed, still}
+use Rattle.lrc_lazy_search.specs.Searching.{CountsNoneGone, IsAhead, IsForced, IsFresh, IsNeat, IsReached, Steps, onward, still}
 use Rattle.lrc_lazy_search.proofs.Adding.{reached_more, reached_next}
 use Rattle.lrc_lazy_search.proofs.Ahead.{ahead_on}
 use Rattle.lrc_lazy_run.specs.declared.sought.Sought.{Sought}
