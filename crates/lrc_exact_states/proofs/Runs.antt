@@ -60,7 +60,7 @@ module _ (kind : Deed → Bool) (run run' : List Act) (act : Act) (q first first
           let c = counts_more kind run act q own is in
           let c' = counts_more kind run' act q own is in
           record { more = a.more + 1; one = omega (arith, o, c); other = omega (arith, p, c') }
-      | inr no ↦ stays (λ own is. let never : true ≡ false = sym is ∙ no in cc)
+      | inr isnt ↦ stays (λ own is. let never : true ≡ false = sym is ∙ isnt in cc)
     ]
   ]
     where
@@ -331,6 +331,7 @@ module _ (shape : Shape) (cap : ℕ) (base base' : Base) (run run' : List Act) (
   departs : shape.collect ≡ 0 → IsDecidedDeed shape cap base'.floor run' states' node Depart
       → IsNextAlike (state_after (exact_rule shape) run states (length run) node Depart)
       (state_after (exact_rule shape) run' states' (length run') node Depart)
+  unfolding same_knows
   departs calm decided =
       let d = r.synchronized.departs node lt in
       let arrived = arrived_state run states (departs_before run node (length run)) (length run) in
@@ -382,8 +383,8 @@ module _ (shape : Shape) (cap : ℕ) (base base' : Base) (run run' : List Act) (
   n : IsNextAlike shape cap base base' run run' states states' r act.node lt next next'
   n = next_alike shape cap base base' run run' states states' r act.node lt calm act.deed decided
 
-  abbrev Alike : State → State → Type 0
-  Alike s s' = IsStateAlike shape.nodes cap base.floor base'.floor n.made n.made' n.level s s'
+  abbrev GoAlike : State → State → Type 0
+  GoAlike s s' = IsStateAlike shape.nodes cap base.floor base'.floor n.made n.made' n.level s s'
 
   stated : length states ≡ length run
   stated = r.keeps.stated
@@ -415,14 +416,14 @@ module _ (shape : Shape) (cap : ℕ) (base base' : Base) (run run' : List Act) (
   other_is' : (q : ℕ) → q ≢ act.node → here shape longer' later' q ≡ here shape run' states' q
   other_is' q other = before-other (exact_rule shape) run' states' act next' stated' q other
 
-  nodes_more : (q : ℕ) → q < shape.nodes → Alike (here shape longer later q) (here shape longer' later' q)
+  nodes_more : (q : ℕ) → q < shape.nodes → GoAlike (here shape longer later q) (here shape longer' later' q)
   nodes_more q within = elim (cases_eq q act.node) [
     | inl own ↦
-        subst (λ k. Alike (here shape longer later k) (here shape longer' later' k)) (sym own)
-        (subst (λ (s : State). Alike s (here shape longer' later' act.node)) (sym own_is) (subst (λ (s : State). Alike next s) (sym own_is') n.alike))
+        subst (λ k. GoAlike (here shape longer later k) (here shape longer' later' k)) (sym own)
+        (subst (λ (s : State). GoAlike s (here shape longer' later' act.node)) (sym own_is) (subst (λ (s : State). GoAlike next s) (sym own_is') n.alike))
     | inr other ↦
-        subst (λ (s : State). Alike s (here shape longer' later' q)) (sym (other_is q other))
-        (subst (λ (s : State). Alike (here shape run states q) s) (sym (other_is' q other))
+        subst (λ (s : State). GoAlike s (here shape longer' later' q)) (sym (other_is q other))
+        (subst (λ (s : State). GoAlike (here shape run states q) s) (sym (other_is' q other))
         (n.on (here shape run states q) (here shape run' states' q) (r.nodes_are q within)))
   ]
 
