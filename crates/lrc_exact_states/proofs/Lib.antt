@@ -2,6 +2,7 @@ mod Levels
 mod Learning
 mod Closing
 mod Stepping
+mod By
 mod Runs
 mod Chains
 mod Level
