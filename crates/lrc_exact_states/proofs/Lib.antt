@@ -1,4 +1,5 @@
 mod Levels
+mod Keyed
 mod Learning
 mod Closing
 mod Stepping

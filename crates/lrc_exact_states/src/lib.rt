@@ -17,8 +17,9 @@
 //!    other, each number less the floor's and the last change of each word between two of them, up to the cap; the holders,
 //!    and the counts of arrives and departs less the base's. After the departs from a barrier a run is level, and its base is there.
 //!    `Memory` of `lrc_exact_judge` keeps these private, and has learned already for a node that is still to depart.
-//! 4. The law for keys: equal keys, so `AreRunsAlike`. A level is a pair of numbers that one place knows in both runs. The
-//!    last change between two levels is the last of those between neighbours.
+//! 4. The law for keys: equal keys, so `AreRunsAlike`. A level is a pair of numbers that one place knows in both runs. `Keyed` of
+//!    `proofs` has the first part: levels in a row, of which neighbours are alike, are `AreLevels` (`levels_of_rows`). To do: that it is
+//!    told whether a pair is in a row (`Told`); that a key's rows are such, and hold what each place knows; texts, marks and locks.
 //! 5. Each acquire and depart is held against `IsDecidedDeed`. Where one is not decided, the search is made again with the
 //!    next cap (4, 16, .., 4,096), then as it is today, without joining; so it is with collections.
 //! 6. `FitsExactly` of `lrc_exact_search` says that what comes next is met. It has to say: is met, or stands as what is.
