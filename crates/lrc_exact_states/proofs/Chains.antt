@@ -1,17 +1,17 @@
 -- Runs that stand alike, one after another: a run stands as itself, and where a second stands as a first, and a third as the second, the third
 -- stands as the first.
-use Rattle.std.proofs.Common.{◌≡◌, ℕ, zero, suc, ◌+◌, ◌<◌, ◌≤◌, List, [], ◌∷◌, length, inl, inr, refl, sym, subst, ap, ◌∙◌, arith}
-use Rattle.std.specs.Prelude.{◌↔◌, ◌-◌, Option, Some, None}
+use Rattle.std.proofs.Common.{◌≡◌, ℕ, zero, suc, ◌+◌, ◌<◌, ◌≤◌, List, [], ◌∷◌, length, inl, inr, refl, sym, subst, ◌∙◌, arith}
+use Rattle.std.specs.Prelude.{◌-◌, Option, Some, None}
 use Rattle.std.proofs.lemmas.Bool.{cases_lt}
 use Rattle.lrc_trace.specs.declared.act.Act.{Act}
-use Rattle.lrc_trace.specs.Run.{arrives_before, departs_before}
-use Rattle.lrc_time.specs.Time.{entry, weight_of}
+use Rattle.lrc_time.specs.Time.{entry}
 use Rattle.lrc_exact.specs.LocalRule.{arrived_state, released_state}
-use Rattle.lrc_exact.specs.Memory.{Interval, Rank, Word}
-use Rattle.lrc_exact.specs.Rule.{Knowledge, Shape, State, KeepsExact}
-use Rattle.lrc_exact_states.specs.Levels.{AreChangesAlike, AreLevels, AreRising, Change, IsCapped, exact, much, IsWeightAlike, last_change, no_change, one_change, Levels, Table}
-use Rattle.lrc_exact_states.specs.Alike.{ArriveAlike, IsHandedAlike, handed, known_to_all, IsKnowledgeAlike, IsKnownToAll, IsLow, IsMarkAlike, low, high, IsStateAlike, IsWordAlike}
-use Rattle.lrc_exact_states.specs.Runs.{AreRunsAlike, AreSynchronizedAlike, Base, here, IsAhead}
+use Rattle.lrc_exact.specs.Memory.{Rank, Word}
+use Rattle.lrc_exact.specs.Rule.{Knowledge, Shape, State}
+use Rattle.lrc_exact_states.specs.Levels.{AreChangesAlike, AreLevels, Change, IsCapped, exact, much, IsWeightAlike, last_change, no_change, one_change}
+use Rattle.lrc_exact_states.specs.Alike.{ArriveAlike, IsHandedAlike, handed, known_to_all, IsKnowledgeAlike, IsKnownToAll, IsMarkAlike, low, high, IsStateAlike, IsWordAlike}
+use Rattle.lrc_exact_states.specs.Runs.{Base, here, IsAhead}
+use Rattle.lrc_exact_states.proofs.By.{AreRunsAlikeBy}
 use Rattle.lrc_exact_states.proofs.Levels.{capped-then, last-agree}
 
 -- ---- weights, changes, marks and words
@@ -48,7 +48,7 @@ ahead_then x y =
     record { more = x.more; one = x.one; other = omega (arith, two, three, four) }
 
 module _ (shape : Shape) (cap : ℕ) (base base' base'' : Base) (run run' run'' : List Act) (states states' states'' : List State)
-    (r : AreRunsAlike shape cap base base' run run' states states') (t : AreRunsAlike shape cap base' base'' run' run'' states' states'') where
+    (r : AreRunsAlikeBy shape cap base base' run run' states states') (t : AreRunsAlikeBy shape cap base' base'' run' run'' states' states'') where
   abbrev nodes : ℕ
   nodes = shape.nodes
 
@@ -171,7 +171,7 @@ module _ (shape : Shape) (cap : ℕ) (base base' base'' : Base) (run run' run'' 
   arrive_then (Some x) None z a b = absurd a
   arrive_then (Some x) (Some y) None a b = absurd b
 
-  pub runs_then : AreRunsAlike shape cap base base'' run run'' states states''
+  pub runs_then : AreRunsAlikeBy shape cap base base'' run run'' states states''
   runs_then = record {
     some = r.some;
     wide = r.wide;

@@ -6,10 +6,10 @@ use Rattle.std.proofs.lemmas.List.{length-set}
 use Rattle.lrc_time.specs.Time.{entry, weight_of}
 use Rattle.lrc_time.proofs.Times.{entry-set_other, entry-set_same, weight-first}
 use Rattle.lrc_clock.specs.Times.{raised}
-use Rattle.lrc_exact.specs.Memory.{Interval, Rank, Word}
+use Rattle.lrc_exact.specs.Memory.{Interval, Rank}
 use Rattle.lrc_exact.specs.Rule.{Knowledge, State, change_of, closed, open_interval}
-use Rattle.lrc_exact_states.specs.Levels.{AreChangesAlike, AreLevels, AreRising, Change, IsCapped, exact, much, IsWeightAlike, last_change, newest, no_change, one_change, Levels, Table}
-use Rattle.lrc_exact_states.specs.Alike.{IsKnowledgeAlike, IsMarkOf, IsOfTable, IsStateAlike, IsWordAlike}
+use Rattle.lrc_exact_states.specs.Levels.{AreChangesAlike, AreLevels, AreRising, Change, IsCapped, exact, IsWeightAlike, last_change, newest, no_change, one_change, Levels, Table}
+use Rattle.lrc_exact_states.specs.Alike.{IsKnowledgeAlike, IsMarkOf, IsOfTable, IsStateAlike}
 use Rattle.lrc_exact_states.proofs.Levels.{capped-is, capped-refl, capped-sum, last-agree, last-none, last-one, rising-agree}
 
 -- ---- weights

@@ -1,30 +1,31 @@
 -- Of two exact runs that stand alike, each goes on with what the other does.
 use Rattle.std.proofs.Common.{◌≡◌, ℕ, zero, suc, ◌<◌, List, [], ◌∷◌, ◌++◌, length, refl, sym, subst, ap, ◌∙◌, arith, append_assoc}
-use Rattle.std.specs.Prelude.{◌↔◌, All, Option, Some, None}
+use Rattle.std.specs.Prelude.{◌↔◌, All, Some}
 use Rattle.std.proofs.lemmas.List.Elements.{All-append}
 use Rattle.lrc_program.specs.declared.Program.{Program}
 use Rattle.lrc_trace.specs.declared.act.Act.{Act}
 use Rattle.lrc_trace.specs.declared.act.Deed.{Deed}
 use Rattle.lrc_trace.specs.declared.act.Deed.TheVariants.{Read}
-use Rattle.lrc_trace.specs.Synchronization.{IsWellSynchronized, MayGoOn}
+use Rattle.lrc_trace.specs.Synchronization.{MayGoOn}
 use Rattle.lrc_trace.proofs.Positions.{Does-deed, Does-last}
 use Rattle.lrc_trace.proofs.Prefixes.{IsWellSynchronized-more, MayGoOn-last}
 use Rattle.lrc_exec.specs.Plain.{start_of}
 use Rattle.lrc_exec.specs.Follows.{FollowsText, Makes, deeds_of}
 use Rattle.lrc_consistency_laws.proofs.UpToRace.{in_range}
-use Rattle.lrc_orders.specs.Notes.{notes_of, notes_with}
+use Rattle.lrc_orders.specs.Notes.{notes_with}
 use Rattle.lrc_orders.proofs.Noting.{notes_more}
-use Rattle.lrc_lazy.specs.Lazy.{IsOver, MayComeNext}
+use Rattle.lrc_lazy.specs.Lazy.{IsOver}
 use Rattle.lrc_lazy.proofs.Deeds.{deeds_joined}
 use Rattle.lrc_exact.specs.LocalRule.{state_after}
-use Rattle.lrc_exact.specs.Rule.{Shape, State, exact_rule, exact_value, KeepsExact, ReadsExactly}
+use Rattle.lrc_exact.specs.Rule.{Shape, State, exact_rule, exact_value, KeepsExact}
 use Rattle.lrc_exact.proofs.LocalRules.{before-same, keeps-more, one_list, prefix-alike}
 use Rattle.lrc_exact_laws.specs.Laws.{IsExactRun}
 use Rattle.lrc_exact_judge.proofs.Reading.{reads-more}
-use Rattle.lrc_exact_states.specs.Goes.{AreAlike, IsTextAlike}
+use Rattle.lrc_exact_states.specs.Goes.{IsTextAlike}
 use Rattle.lrc_exact_states.specs.Runs.{Base, here, IsDecidedDeed}
+use Rattle.lrc_exact_states.proofs.By.{AreAlikeBy}
 use Rattle.lrc_exact_states.proofs.Chains.{runs_then}
-use Rattle.lrc_exact_states.proofs.Runs.{may_alike, may_back, next, next', runs_more}
+use Rattle.lrc_exact_states.proofs.Runs.{may_alike, may_back, runs_more}
 
 module _ (program : Program) (nodes : ℕ) where
   abbrev Begins : ℕ → List Deed → Type 0
@@ -103,7 +104,7 @@ module _ (program : Program) (shape : Shape) where
           ∙ ap (λ ss. exact_value shape run' ss act.node (length run') word) (one_list (exact_rule shape) shape.nodes run' states' others keeps' others_keep)
 
   module _ (cap : ℕ) (base base' : Base) (run run' : List Act) (states states' : List State)
-      (a : AreAlike program shape cap base base' run run' states states') where
+      (a : AreAlikeBy program shape cap base base' run run' states states') where
     values : (q word : ℕ) → q < shape.nodes → ((here shape run' states' q).words word).value ≡ ((here shape run states q).words word).value
     values q word lt = ((a.alike.nodes_are q lt).words word).value
 
@@ -128,7 +129,7 @@ module _ (program : Program) (shape : Shape) where
     -- with an act more that is decided they stand alike again
     pub alike_more : shape.collect ≡ 0 → (act : Act) (longer : Exact (run ++ act ∷ []))
         → (decided : IsDecidedDeed shape cap base'.floor run' states' act.node act.deed)
-        → AreAlike program shape cap base base' (run ++ act ∷ []) (run' ++ act ∷ [])
+        → AreAlikeBy program shape cap base base' (run ++ act ∷ []) (run' ++ act ∷ [])
         (states ++ state_after (exact_rule shape) run states (length run) act.node act.deed ∷ [])
         (states' ++ state_after (exact_rule shape) run' states' (length run') act.node act.deed ∷ [])
     alike_more calm act longer decided =
@@ -143,8 +144,8 @@ module _ (program : Program) (shape : Shape) where
 -- ---- runs that stand alike, one after another
 
 pub alike_then : (program : Program) (shape : Shape) (cap : ℕ) (base base' base'' : Base) (run run' run'' : List Act) (states states' states'' : List State)
-    → AreAlike program shape cap base base' run run' states states' → AreAlike program shape cap base' base'' run' run'' states' states''
-    → AreAlike program shape cap base base'' run run'' states states''
+    → AreAlikeBy program shape cap base base' run run' states states' → AreAlikeBy program shape cap base' base'' run' run'' states' states''
+    → AreAlikeBy program shape cap base base'' run run'' states states''
 alike_then program shape cap base base' base'' run run' run'' states states' states'' a b = record {
   exact = a.exact;
   exact' = b.exact';

@@ -1,14 +1,14 @@
 -- What is learned in two runs is alike, where each of its comparisons is decided.
-use Rattle.std.proofs.Common.{◌≡◌, ℕ, zero, suc, ◌+◌, ◌<◌, ◌≤◌, ◌&&◌, ◌||◌, Bool, true, false, List, length, inl, inr, refl, sym, subst, ap, ap₂, ◌∙◌, arith}
-use Rattle.std.specs.Prelude.{◌==◌, ◌-◌, ◌⊎◌, Option, Some, None, max, if◌then◌else◌, nat_le, nat_lt}
-use Rattle.std.proofs.lemmas.Bool.{cases_Bool, cases_eq, cases_lt, cond-true, cond-false, eq-eqb, le-leb, le-ltb, lt-leb, lt-ltb, ltb-false, ltb-true, ne_eqb, both_ways}
+use Rattle.std.proofs.Common.{◌≡◌, ℕ, zero, suc, ◌+◌, ◌<◌, ◌≤◌, ◌&&◌, ◌||◌, Bool, true, false, List, inl, inr, refl, sym, subst, ap, ap₂, ◌∙◌, arith}
+use Rattle.std.specs.Prelude.{◌==◌, ◌⊎◌, Option, Some, None, max, if◌then◌else◌, nat_le, nat_lt}
+use Rattle.std.proofs.lemmas.Bool.{cases_Bool, cases_eq, cases_lt, cond-true, cond-false, eq-eqb, le-leb, lt-leb, lt-ltb, ltb-true, ne_eqb, both_ways}
 use Rattle.lrc_time.specs.Time.{entry, joined, weight_of}
 use Rattle.lrc_time.proofs.Times.{entry-joined, length-joined_same}
 use Rattle.lrc_exact.specs.Memory.{Interval, Rank, Word, is_lower, replaces}
 use Rattle.lrc_exact.specs.Rule.{Knowledge, State, known_together, with_change, with_changes_of, with_learned, with_news}
 use Rattle.lrc_exact_states.specs.Levels.{AreChangesAlike, AreLevels, AreRising, Change, IsWeightAlike, last_change, newest, no_change, one_change, Levels, Table}
 use Rattle.lrc_exact_states.specs.Alike.{AreDecided, IsDecided, IsKnowledgeAlike, IsLow, IsMarkAlike, low, high, IsMarkOf, IsOfTable, IsStateAlike, IsWordAlike}
-use Rattle.lrc_exact_states.proofs.Levels.{AreToldApart, IsBy, last-agree, last-is, last-none, last-one, level_max, rising-agree, told_apart}
+use Rattle.lrc_exact_states.proofs.Levels.{last-agree, last-is, last-none, last-one, level_max, rising-agree, told_apart}
 
 -- ---- Of one node's intervals the last change decides.
 

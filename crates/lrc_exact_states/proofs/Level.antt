@@ -1,25 +1,25 @@
 -- Runs that stand alike and are level stand alike, seen from where they are.
-use Rattle.std.proofs.Common.{◌≡◌, ℕ, zero, suc, ◌+◌, ◌<◌, ◌≤◌, Bool, true, false, List, [], ◌∷◌, length, take, inl, inr, refl, sym, subst, ap, ◌∙◌, arith}
-use Rattle.std.specs.Prelude.{◌-◌, ◌⊎◌, Option, Some, None}
+use Rattle.std.proofs.Common.{◌≡◌, ℕ, zero, suc, ◌+◌, ◌<◌, ◌≤◌, List, [], ◌∷◌, length, inl, inr, refl, sym, subst, ap, ◌∙◌, arith}
+use Rattle.std.specs.Prelude.{◌-◌, Option, Some, None}
 use Rattle.std.proofs.lemmas.Bool.{and_parts, cases_lt}
 use Rattle.std.proofs.lemmas.List.{length-replicate}
 use Rattle.lrc_trace.specs.declared.act.Act.{Act}
-use Rattle.lrc_trace.specs.declared.act.Deed.{Deed}
 use Rattle.lrc_trace.specs.declared.act.Deed.TheVariants.{Arrive}
-use Rattle.lrc_trace.specs.Run.{Does, is_arrive, arrives_before, departs_before}
+use Rattle.lrc_trace.specs.Run.{is_arrive, arrives_before}
 use Rattle.lrc_trace.proofs.Intervals.{count_of-more, count_of-rises}
-use Rattle.lrc_trace.proofs.Positions.{Does-one_node, Does-within}
-use Rattle.lrc_time.specs.Time.{entry, weight_of, zeros}
+use Rattle.lrc_trace.proofs.Positions.{Does-one_node}
+use Rattle.lrc_time.specs.Time.{entry, weight_of}
 use Rattle.lrc_time.proofs.Times.{entry-zeros, same_times}
 use Rattle.lrc_clock.specs.Times.{acts_at, arrives_at}
 use Rattle.lrc_clock.proofs.Passing.{acts_at-act, arrives_at-act}
 use Rattle.lrc_exact.specs.LocalRule.{arrived_state, arrives_there, released_state}
-use Rattle.lrc_exact.specs.Memory.{Interval, Rank, Word}
+use Rattle.lrc_exact.specs.Memory.{Rank}
 use Rattle.lrc_exact.specs.Rule.{Shape, State, KeepsExact, exact_rule, no_interval}
 use Rattle.lrc_exact.proofs.LocalRules.{keeps-none, last-cases}
-use Rattle.lrc_exact_states.specs.Levels.{AreLevels, AreChangesAlike, AreRising, Change, IsCapped, exact, last_change, no_change, Levels, Table}
-use Rattle.lrc_exact_states.specs.Alike.{ArriveAlike, IsHandedAlike, handed, known_to_all, IsKnownToAll, IsLow, IsMarkAlike, low, IsMarkOf, IsStateAlike, IsWordAlike}
-use Rattle.lrc_exact_states.specs.Runs.{AreLight, AreRunsAlike, AreSynchronizedAlike, Base, begun, here, IsAhead, IsLevel}
+use Rattle.lrc_exact_states.specs.Levels.{AreLevels, AreChangesAlike, AreRising, Change, exact, last_change, no_change, Table}
+use Rattle.lrc_exact_states.specs.Alike.{ArriveAlike, IsHandedAlike, handed, known_to_all, IsKnownToAll, IsLow, low, IsMarkOf, IsStateAlike}
+use Rattle.lrc_exact_states.specs.Runs.{AreLight, Base, begun, here, IsLevel}
+use Rattle.lrc_exact_states.proofs.By.{AreRunsAlikeBy}
 use Rattle.lrc_exact_states.proofs.Levels.{last-none}
 
 beyond : (time : List ℕ) (q : ℕ) → length time ≤ q → entry time q ≡ 0
@@ -77,7 +77,7 @@ module _ (shape : Shape) (base : Base) (run : List Act) (states : List State) (m
 -- ---- two of them
 
 module _ (shape : Shape) (cap : ℕ) (base base' : Base) (run run' : List Act) (states states' : List State)
-    (r : AreRunsAlike shape cap base base' run run' states states') where
+    (r : AreRunsAlikeBy shape cap base base' run run' states states') where
   abbrev nodes : ℕ
   nodes = shape.nodes
 
@@ -202,7 +202,7 @@ module _ (shape : Shape) (cap : ℕ) (base base' : Base) (run run' : List Act) (
         (subst (λ (o : Option State). ArriveAlike nodes r.made r.made' IsFloor None o)
         (sym (none_there shape run' states' r.keeps' (k + new'.first) q (λ lt. let a = l'.arrived q lt in omega (arith, a)))) tt)
 
-    pub from_here : AreRunsAlike shape cap new new' run run' states states'
+    pub from_here : AreRunsAlikeBy shape cap new new' run run' states states'
     from_here = record {
       some = r.some;
       wide = l.wide;
@@ -271,7 +271,7 @@ module _ (shape : Shape) (cap : ℕ) (base base' : Base) (run run' : List Act) (
           omega (arith, one, two, e);
     }
 
-    pub level_alike : AreRunsAlike shape cap new new' run run' states states'
+    pub level_alike : AreRunsAlikeBy shape cap new new' run run' states states'
     level_alike = from_here new new' level_too l'
 
 -- ---- no act
@@ -288,7 +288,7 @@ module _ (shape : Shape) (cap : ℕ) (some : 1 ≤ cap) where
   abbrev nothing_made : Table
   nothing_made q j = no_interval
 
-  pub begun_alike : AreRunsAlike shape cap from from [] [] [] []
+  pub begun_alike : AreRunsAlikeBy shape cap from from [] [] [] []
   begun_alike = record {
     some = some;
     wide = length-replicate {A = ℕ} shape.nodes 0;

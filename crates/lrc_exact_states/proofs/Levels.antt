@@ -1,11 +1,11 @@
 -- The last change of a word, and numbers that are the same up to a cap.
-use Rattle.std.proofs.Common.{◌≡◌, ℕ, zero, suc, ◌+◌, ◌<◌, ◌≤◌, Bool, true, false, List, inl, inr, refl, sym, subst, ap, ◌∙◌, arith}
+use Rattle.std.proofs.Common.{◌≡◌, ℕ, zero, suc, ◌+◌, ◌<◌, ◌≤◌, List, inl, inr, refl, sym, subst, ap, ◌∙◌, arith}
 use Rattle.std.specs.Prelude.{◌-◌, ◌⊎◌, Option, Some, None, max, if◌then◌else◌, nat_le}
 use Rattle.std.proofs.lemmas.Bool.{cases_lt, cond-true, cond-false, le-leb, lt-leb}
 use Rattle.std.proofs.lemmas.Option.{same_Some}
-use Rattle.lrc_time.specs.Time.{entry, weight_of}
+use Rattle.lrc_time.specs.Time.{weight_of}
 use Rattle.lrc_exact.specs.Memory.{Interval}
-use Rattle.lrc_exact_states.specs.Levels.{AreChangesAlike, AreLevels, AreRising, Change, IsCapped, exact, much, IsWeightAlike, last_change, newest, no_change, one_change, Levels, Table}
+use Rattle.lrc_exact_states.specs.Levels.{AreLevels, AreRising, Change, IsCapped, exact, much, IsWeightAlike, last_change, newest, Levels, Table}
 
 -- ---- the last change
 

@@ -1,7 +1,9 @@
 mod Levels
+mod Keyed
 mod Learning
 mod Closing
 mod Stepping
+mod By
 mod Runs
 mod Chains
 mod Level

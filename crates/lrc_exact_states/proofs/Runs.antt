@@ -1,29 +1,30 @@
 -- Two runs whose states are alike go on alike, where what the second compares is decided.
-use Rattle.std.proofs.Common.{◌≡◌, ◌≢◌, ℕ, zero, suc, ◌+◌, ◌<◌, ◌≤◌, List, [], ◌∷◌, ◌++◌, length, take, inl, inr, refl, sym, subst, ap, ◌∙◌, arith}
+use Rattle.std.proofs.Common.{◌≡◌, ◌≢◌, ℕ, suc, ◌+◌, ◌<◌, ◌≤◌, List, [], ◌∷◌, ◌++◌, length, take, inl, inr, refl, sym, subst, ap, ◌∙◌, arith}
 use Rattle.std.specs.Prelude.{◌⊎◌, Bool, true, false, Option, Some, None}
 use Rattle.std.proofs.lemmas.Bool.{cases_eq, cases_Bool}
 use Rattle.std.proofs.lemmas.List.{length_push, take-append-le}
 use Rattle.lrc_trace.specs.declared.act.Act.{Act}
 use Rattle.lrc_trace.specs.declared.act.Deed.{Deed}
 use Rattle.lrc_trace.specs.declared.act.Deed.TheVariants.{Quiet, Print, Read, Write, Acquire, Release, Arrive, Depart, Trap, End}
-use Rattle.lrc_trace.specs.Run.{Does, count_of, is_arrive, is_depart, arrives_before, departs_before}
+use Rattle.lrc_trace.specs.Run.{count_of, is_arrive, is_depart, arrives_before, departs_before}
 use Rattle.lrc_trace.specs.Synchronization.{Holds, MayGoOn}
 use Rattle.lrc_trace.proofs.Holding.{Holds-acquired, Holds-cases, Holds-kept}
 use Rattle.lrc_trace.proofs.Intervals.{count_of-more, count_of-same}
 use Rattle.lrc_trace.proofs.Positions.{Does-deed, Does-last, Does-node}
 use Rattle.lrc_trace.proofs.Prefixes.{Holds-longer, Holds-shorter}
-use Rattle.lrc_time.specs.Time.{entry, joined, weight_of}
-use Rattle.lrc_time.proofs.Times.{covers-joined_first, entry-set_other, entry-set_same, weight-covers, weight-raised}
+use Rattle.lrc_time.specs.Time.{entry, weight_of}
+use Rattle.lrc_time.proofs.Times.{covers-joined_first, entry-set_same, weight-covers, weight-raised}
 use Rattle.lrc_clock.specs.Times.{raised}
-use Rattle.lrc_exact.specs.LocalRule.{arrived_state, released_state, state_after, state_before}
+use Rattle.lrc_exact.specs.LocalRule.{arrived_state, released_state, state_after}
 use Rattle.lrc_exact.specs.Memory.{Interval}
-use Rattle.lrc_exact.specs.Rule.{Knowledge, Shape, State, exact_rule, KeepsExact, accessed, acquired, closed, collected, collects, departed, done_alone}
-use Rattle.lrc_exact.specs.Rule.{known_by_all, open_interval, page_of, some_asks, with_learned, with_write}
+use Rattle.lrc_exact.specs.Rule.{Knowledge, Shape, State, exact_rule, accessed, acquired, closed, departed}
+use Rattle.lrc_exact.specs.Rule.{known_by_all, open_interval, page_of, with_write}
 use Rattle.lrc_exact.proofs.LocalRules.{keeps-more}
 use Rattle.lrc_exact_judge.proofs.Next.{arrived-own, arrived-rest, before-other, before-own, released-other, released-own}
 use Rattle.lrc_exact_states.specs.Levels.{AreLevels, Levels, Table}
 use Rattle.lrc_exact_states.specs.Alike.{ArriveAlike, IsHandedAlike, handed, known_to_all, IsKnowledgeAlike, IsStateAlike, if_handed}
-use Rattle.lrc_exact_states.specs.Runs.{AreLight, AreRunsAlike, AreSynchronizedAlike, Base, here, IsAhead, IsDecidedDeed}
+use Rattle.lrc_exact_states.specs.Runs.{AreLight, AreSynchronizedAlike, Base, here, IsAhead, IsDecidedDeed}
+use Rattle.lrc_exact_states.proofs.By.{AreRunsAlikeBy}
 use Rattle.lrc_exact_states.proofs.Closing.{closed_alike, grown, grown', knows_still, levels_more, made_new, made_old, more, state_still, with_level, with_made}
 use Rattle.lrc_exact_states.proofs.Stepping.{calm_departed, departed_alike, handed_alike, read_alike, written_alike}
 
@@ -60,7 +61,7 @@ module _ (kind : Deed → Bool) (run run' : List Act) (act : Act) (q first first
           let c = counts_more kind run act q own is in
           let c' = counts_more kind run' act q own is in
           record { more = a.more + 1; one = omega (arith, o, c); other = omega (arith, p, c') }
-      | inr no ↦ stays (λ own is. let never : true ≡ false = sym is ∙ no in cc)
+      | inr isnt ↦ stays (λ own is. let never : true ≡ false = sym is ∙ isnt in cc)
     ]
   ]
     where
@@ -145,7 +146,7 @@ module _ (nodes first first' : ℕ) where
 -- ---- what the next act makes of its node's states
 
 module _ (shape : Shape) (cap : ℕ) (base base' : Base) (run run' : List Act) (states states' : List State)
-    (r : AreRunsAlike shape cap base base' run run' states states') (node : ℕ) (lt : node < shape.nodes) where
+    (r : AreRunsAlikeBy shape cap base base' run run' states states') (node : ℕ) (lt : node < shape.nodes) where
   abbrev nodes : ℕ
   nodes = shape.nodes
 
@@ -331,6 +332,7 @@ module _ (shape : Shape) (cap : ℕ) (base base' : Base) (run run' : List Act) (
   departs : shape.collect ≡ 0 → IsDecidedDeed shape cap base'.floor run' states' node Depart
       → IsNextAlike (state_after (exact_rule shape) run states (length run) node Depart)
       (state_after (exact_rule shape) run' states' (length run') node Depart)
+  unfolding same_knows
   departs calm decided =
       let d = r.synchronized.departs node lt in
       let arrived = arrived_state run states (departs_before run node (length run)) (length run) in
@@ -371,7 +373,7 @@ module _ (shape : Shape) (cap : ℕ) (base base' : Base) (run run' : List Act) (
 -- ---- the runs with one act more
 
 module _ (shape : Shape) (cap : ℕ) (base base' : Base) (run run' : List Act) (states states' : List State)
-    (r : AreRunsAlike shape cap base base' run run' states states') (act : Act) (lt : act.node < shape.nodes) (calm : shape.collect ≡ 0)
+    (r : AreRunsAlikeBy shape cap base base' run run' states states') (act : Act) (lt : act.node < shape.nodes) (calm : shape.collect ≡ 0)
     (decided : IsDecidedDeed shape cap base'.floor run' states' act.node act.deed) where
   abbrev pub next : State
   next = state_after (exact_rule shape) run states (length run) act.node act.deed
@@ -382,8 +384,8 @@ module _ (shape : Shape) (cap : ℕ) (base base' : Base) (run run' : List Act) (
   n : IsNextAlike shape cap base base' run run' states states' r act.node lt next next'
   n = next_alike shape cap base base' run run' states states' r act.node lt calm act.deed decided
 
-  abbrev Alike : State → State → Type 0
-  Alike s s' = IsStateAlike shape.nodes cap base.floor base'.floor n.made n.made' n.level s s'
+  abbrev GoAlike : State → State → Type 0
+  GoAlike s s' = IsStateAlike shape.nodes cap base.floor base'.floor n.made n.made' n.level s s'
 
   stated : length states ≡ length run
   stated = r.keeps.stated
@@ -415,14 +417,14 @@ module _ (shape : Shape) (cap : ℕ) (base base' : Base) (run run' : List Act) (
   other_is' : (q : ℕ) → q ≢ act.node → here shape longer' later' q ≡ here shape run' states' q
   other_is' q other = before-other (exact_rule shape) run' states' act next' stated' q other
 
-  nodes_more : (q : ℕ) → q < shape.nodes → Alike (here shape longer later q) (here shape longer' later' q)
+  nodes_more : (q : ℕ) → q < shape.nodes → GoAlike (here shape longer later q) (here shape longer' later' q)
   nodes_more q within = elim (cases_eq q act.node) [
     | inl own ↦
-        subst (λ k. Alike (here shape longer later k) (here shape longer' later' k)) (sym own)
-        (subst (λ (s : State). Alike s (here shape longer' later' act.node)) (sym own_is) (subst (λ (s : State). Alike next s) (sym own_is') n.alike))
+        subst (λ k. GoAlike (here shape longer later k) (here shape longer' later' k)) (sym own)
+        (subst (λ (s : State). GoAlike s (here shape longer' later' act.node)) (sym own_is) (subst (λ (s : State). GoAlike next s) (sym own_is') n.alike))
     | inr other ↦
-        subst (λ (s : State). Alike s (here shape longer' later' q)) (sym (other_is q other))
-        (subst (λ (s : State). Alike (here shape run states q) s) (sym (other_is' q other))
+        subst (λ (s : State). GoAlike s (here shape longer' later' q)) (sym (other_is q other))
+        (subst (λ (s : State). GoAlike (here shape run states q) s) (sym (other_is' q other))
         (n.on (here shape run states q) (here shape run' states' q) (r.nodes_are q within)))
   ]
 
@@ -559,7 +561,7 @@ module _ (shape : Shape) (cap : ℕ) (base base' : Base) (run run' : List Act) (
   arrived_more k q (Trap c) is = arrived_kept k q (λ e n o. let never : Trap c ≡ Arrive = sym is ∙ e in cc) (λ e n o. let never : Trap c ≡ Arrive = sym is ∙ e in cc)
   arrived_more k q End is = arrived_kept k q (λ e n o. let never : End ≡ Arrive = sym is ∙ e in cc) (λ e n o. let never : End ≡ Arrive = sym is ∙ e in cc)
 
-  pub runs_more : AreRunsAlike shape cap base base' longer longer' later later'
+  pub runs_more : AreRunsAlikeBy shape cap base base' longer longer' later later'
   runs_more = record {
     some = r.some;
     wide = r.wide;

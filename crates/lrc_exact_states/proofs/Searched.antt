@@ -1,6 +1,6 @@
 -- A search that joins runs that stand alike finds every outcome.
-use Rattle.std.proofs.Common.{◌≡◌, ℕ, zero, suc, ◌+◌, ◌<◌, ◌≤◌, List, [], ◌∷◌, ◌++◌, length, refl, sym, subst, ap, ◌∙◌, arith, append_assoc}
-use Rattle.std.specs.Prelude.{◌↔◌, Some}
+use Rattle.std.proofs.Common.{◌≡◌, ℕ, zero, suc, ◌+◌, ◌≤◌, List, [], ◌∷◌, ◌++◌, length, refl, sym, subst, ap, ◌∙◌, arith, append_assoc}
+use Rattle.std.specs.Prelude.{◌↔◌}
 use Rattle.std.proofs.lemmas.List.{append-nil, length_push}
 use Rattle.lrc_program.specs.declared.Program.{Program}
 use Rattle.lrc_trace.specs.declared.act.Act.{Act}
@@ -13,16 +13,16 @@ use Rattle.lrc_lazy.proofs.Following.{stands_first}
 use Rattle.lrc_lazy.specs.Swapped.{IsNoAcquire}
 use Rattle.lrc_trace.proofs.Positions.{Does-within}
 use Rattle.lrc_exact.specs.LocalRule.{state_after}
-use Rattle.lrc_exact.specs.Rule.{Shape, State, KeepsExact, exact_rule}
+use Rattle.lrc_exact.specs.Rule.{Shape, State, exact_rule}
 use Rattle.lrc_exact.proofs.LocalRules.{one_list}
 use Rattle.lrc_exact_laws.specs.Laws.{IsExactRun}
 use Rattle.lrc_exact_judge.proofs.Reading.{reads-none}
 use Rattle.lrc_exact_outcomes.specs.Outcome.{IsExactOutcome}
 use Rattle.lrc_exact_outcomes.proofs.Fronting.{in_front}
 use Rattle.lrc_exact_outcomes.proofs.Running.{exact_front, may_come, one_deed}
-use Rattle.lrc_exact_states.specs.Goes.{AreAlike, IsTextAlike}
-use Rattle.lrc_exact_states.specs.Runs.{AreRunsAlike, Base, begun, IsDecidedDeed, IsLevel}
-use Rattle.lrc_exact_states.specs.Searched.{first_seen, from_level, as_before, IsClosedSearch, IsFound, IsLook, IsLookedAt, by_all, by_one, for_ever, AreLooks, still, onward, IsSeenFrom, LeadsOn, Seen, StandsAs}
+use Rattle.lrc_exact_states.specs.Runs.{Base, begun, IsDecidedDeed, IsLevel}
+use Rattle.lrc_exact_states.specs.Searched.{first_seen, from_level, as_before, IsClosedSearch, IsFound, IsLook, IsLookedAt, by_all, by_one, for_ever, AreLooks, still, onward, IsSeenFrom, LeadsOn, Seen}
+use Rattle.lrc_exact_states.proofs.By.{AreAlikeBy, by_told}
 use Rattle.lrc_exact_states.proofs.Goes.{alike_more, alike_then, goes_alike, over_alike}
 use Rattle.lrc_exact_states.proofs.Level.{begun_alike, level_alike}
 
@@ -33,8 +33,10 @@ module _ (program : Program) (shape : Shape) (cap : ℕ) (calm : shape.collect �
   abbrev Exact : List Act → Type 0
   Exact run = IsExactRun program shape run
 
-  abbrev Stands : List Act → Base → Seen → Type 1
-  Stands run base seen = StandsAs program shape cap run base seen
+  pub record Stands (run : List Act) (base : Base) (seen : Seen) : Type 1 where
+    pub states : List State
+    pub states' : List State
+    pub alike : AreAlikeBy program shape cap base seen.base run seen.acts states states'
 
   -- ---- no act
 
@@ -80,14 +82,14 @@ module _ (program : Program) (shape : Shape) (cap : ℕ) (calm : shape.collect �
       later' = s.states' ++ state_after (exact_rule shape) seen.acts s.states' (length seen.acts) act.node act.deed ∷ []
 
       abbrev Alike : Base → Base → List State → List State → Type 1
-      Alike from from' states states' = AreAlike program shape cap from from' (run ++ act ∷ []) (seen.acts ++ act ∷ []) states states'
+      Alike from from' states states' = AreAlikeBy program shape cap from from' (run ++ act ∷ []) (seen.acts ++ act ∷ []) states states'
 
       a : Alike base seen.base later later'
       a = alike_more program shape cap base seen.base run seen.acts s.states s.states' s.alike calm act longer (on.decided s.states' s.alike.alike.keeps')
 
       chained : (from : Base) → Alike from on.base later later' → StandsLater (run ++ act ∷ [])
       chained from first =
-          let second = on.stands.alike in
+          let second = by_told program shape cap on.base on.later.base (seen.acts ++ act ∷ []) on.later.acts on.stands.states on.stands.states' on.stands.alike in
           let same : on.stands.states ≡ later' =
           one_list (exact_rule shape) nodes (seen.acts ++ act ∷ []) on.stands.states later' second.alike.keeps first.alike.keeps' in
           record {
@@ -99,7 +101,7 @@ module _ (program : Program) (shape : Shape) (cap : ℕ) (calm : shape.collect �
               states' = on.stands.states';
               alike = alike_then program shape cap from on.base on.later.base (run ++ act ∷ []) (seen.acts ++ act ∷ []) on.later.acts later later' on.stands.states'
                   first
-                  (subst (λ ss. AreAlike program shape cap on.base on.later.base (seen.acts ++ act ∷ []) on.later.acts ss on.stands.states') same second);
+                  (subst (λ ss. AreAlikeBy program shape cap on.base on.later.base (seen.acts ++ act ∷ []) on.later.acts ss on.stands.states') same second);
             };
           }
 

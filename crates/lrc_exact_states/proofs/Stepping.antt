@@ -1,15 +1,15 @@
 -- What an act makes of states that are alike is alike.
-use Rattle.std.proofs.Common.{◌≡◌, ℕ, zero, suc, ◌+◌, ◌<◌, ◌≤◌, ◌&&◌, Bool, true, false, List, [], ◌∷◌, length, inl, inr, refl, sym, subst, ap, ap₂, ◌∙◌, arith}
-use Rattle.std.specs.Prelude.{◌==◌, ◌⊎◌, Option, Some, None, if◌then◌else◌, nat_le, unwrap_or}
+use Rattle.std.proofs.Common.{◌≡◌, ℕ, zero, suc, ◌<◌, ◌≤◌, ◌&&◌, Bool, true, false, List, [], ◌∷◌, length, inl, inr, refl, sym, subst, ap, ap₂, ◌∙◌, arith}
+use Rattle.std.specs.Prelude.{◌==◌, Option, Some, None, if◌then◌else◌, nat_le, unwrap_or}
 use Rattle.std.proofs.lemmas.Bool.{cases_lt, cond-true, cond-false, le-leb, lt-leb}
 use Rattle.std.proofs.lemmas.List.{length-replicate}
-use Rattle.lrc_time.specs.Time.{entry, joined, weight_of, zeros}
+use Rattle.lrc_time.specs.Time.{entry, joined}
 use Rattle.lrc_time.proofs.Times.{entry-joined, entry-zeros, length-joined_same}
 use Rattle.lrc_exact.specs.Memory.{Interval, Rank, Word}
-use Rattle.lrc_exact.specs.Rule.{Knowledge, Shape, State, accessed, acquired, closed, collected, collects, departed, done_alone, known_by_all, known_together}
-use Rattle.lrc_exact.specs.Rule.{no_interval, nothing_known, page_of, some_asks, with_arrived, with_change, with_changes_of, with_learned, with_news, with_write}
-use Rattle.lrc_exact_states.specs.Levels.{AreLevels, last_change, Levels, Table}
-use Rattle.lrc_exact_states.specs.Alike.{AreDecided, IsAllAlike, some_arrive, no_arrive, if_handed, IsHandedAlike, handed, known_to_all, IsKnowledgeAlike, IsKnownToAll, IsMarkAlike, low, IsMarkOf, IsOfTable, IsStateAlike, IsWordAlike, ArriveAlike}
+use Rattle.lrc_exact.specs.Rule.{Knowledge, Shape, State, accessed, collected, collects, departed, known_by_all, known_together}
+use Rattle.lrc_exact.specs.Rule.{page_of, some_asks, with_arrived, with_change, with_changes_of, with_learned, with_news, with_write}
+use Rattle.lrc_exact_states.specs.Levels.{AreLevels, Levels, Table}
+use Rattle.lrc_exact_states.specs.Alike.{AreDecided, IsAllAlike, some_arrive, no_arrive, if_handed, IsHandedAlike, handed, known_to_all, IsKnowledgeAlike, IsKnownToAll, low, IsMarkOf, IsOfTable, IsStateAlike, IsWordAlike, ArriveAlike}
 use Rattle.lrc_exact_states.proofs.Learning.{learned_alike, together_alike}
 
 -- ---- nothing new is learned

@@ -1,7 +1,7 @@
 -- States of a node in two runs that decide alike what is still to come.
 use Rattle.std.specs.Prelude.{◌≡◌, ℕ, zero, suc, ◌+◌, ◌<◌, ◌≤◌, ◌⊎◌, List, Option, Some, None, length}
 use Rattle.lrc_time.specs.Time.{entry, weight_of}
-use Rattle.lrc_exact.specs.Memory.{Interval, Rank, Word}
+use Rattle.lrc_exact.specs.Memory.{Rank, Word}
 use Rattle.lrc_exact.specs.Rule.{Knowledge, State, with_learned, with_news}
 use Rattle.lrc_exact_states.specs.Levels.{Change, IsWeightAlike, last_change, Levels, Table}
 

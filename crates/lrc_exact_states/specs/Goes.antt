@@ -17,7 +17,7 @@ pub record IsTextAlike (program : Program) (nodes : ℕ) (run run' : List Act) :
   pub notes : notes_of nodes run ≡ notes_of nodes run'
 
 -- Two exact runs stand alike: their texts, and their states, seen from these bases.
-pub record AreAlike (program : Program) (shape : Shape) (cap : ℕ) (base base' : Base) (run run' : List Act) (states states' : List State) : Type 1 where
+pub record AreAlike (program : Program) (shape : Shape) (cap : ℕ) (base base' : Base) (run run' : List Act) (states states' : List State) : Type 0 where
   pub exact : IsExactRun program shape run
   pub exact' : IsExactRun program shape run'
   pub text : IsTextAlike program shape.nodes run run'

@@ -4,9 +4,10 @@ use Rattle.lrc_program.specs.declared.Program.{Program}
 use Rattle.lrc_trace.specs.declared.act.Act.{Act}
 use Rattle.lrc_exact.specs.Rule.{Shape}
 use Rattle.lrc_exact_outcomes.specs.Outcome.{IsExactOutcome}
-use Rattle.lrc_exact_states.specs.Searched.{IsClosedSearch, IsFound, Seen}
+use Rattle.lrc_exact_states.specs.Searched.{IsAmong, IsClosedSearch, IsFound, Seen}
 
--- Without collections it finds each exact outcome, and no other.
-abbrev pub JoiningFindsAll : Type 1
-JoiningFindsAll = (program : Program) (shape : Shape) (cap : ℕ) (Looked : Seen → Type 0) → shape.collect ≡ 0 → 1 ≤ cap
-    → IsClosedSearch program shape cap Looked → (notes : List Act) → IsExactOutcome program shape notes ↔ IsFound program shape Looked notes
+-- Without collections, what it has looked at being these runs, it finds each exact outcome, and no other.
+abbrev pub JoiningFindsAll : Type 0
+JoiningFindsAll = (program : Program) (shape : Shape) (cap : ℕ) (looked : List Seen) → shape.collect ≡ 0 → 1 ≤ cap
+    → IsClosedSearch program shape cap (IsAmong looked) → (notes : List Act)
+    → IsExactOutcome program shape notes ↔ IsFound program shape (IsAmong looked) notes

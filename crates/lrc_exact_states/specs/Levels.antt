@@ -1,5 +1,5 @@
 -- Two runs' intervals above a floor, as far as they decide what is still to come. A floor is a time that all nodes know.
-use Rattle.std.specs.Prelude.{◌≡◌, ℕ, suc, zero, ◌+◌, ◌-◌, ◌<◌, ◌≤◌, ◌↔◌, List, Option, Some, None, if◌then◌else◌, nat_le}
+use Rattle.std.specs.Prelude.{◌≡◌, Bool, true, ℕ, suc, zero, ◌-◌, ◌<◌, ◌≤◌, List, Option, Some, None, if◌then◌else◌, nat_le}
 use Rattle.lrc_time.specs.Time.{entry, weight_of}
 use Rattle.lrc_exact.specs.Memory.{Interval}
 
@@ -48,6 +48,13 @@ Table = ℕ → ℕ → Interval
 -- numbers of a node's intervals that correspond to each other in two runs
 abbrev pub Levels : Type 1
 Levels = ℕ → ℕ → ℕ → Type 0
+
+-- such numbers, as they are told apart: each three are a level or not
+abbrev pub Told : Type 0
+Told = ℕ → ℕ → ℕ → Bool
+
+abbrev pub levels_told : Told → Levels
+levels_told told q a a' = told q a a' ≡ true
 
 -- Levels that correspond to each other stand in one order, are as high above the floors, up to the cap, and between each two of them the
 -- last change of each word is the same.

@@ -1,5 +1,5 @@
 -- Two runs whose nodes, locks and barriers are in alike states.
-use Rattle.std.specs.Prelude.{◌≡◌, ℕ, zero, suc, ◌+◌, ◌<◌, ◌≤◌, List, [], ◌∷◌, ◌++◌, Option, Some, None, length}
+use Rattle.std.specs.Prelude.{◌≡◌, ℕ, ◌+◌, ◌<◌, ◌≤◌, List, Some, length}
 use Rattle.lrc_trace.specs.declared.act.Act.{Act}
 use Rattle.lrc_trace.specs.declared.act.Deed.{Deed}
 use Rattle.lrc_trace.specs.declared.act.Deed.TheVariants.{Acquire, Depart}
@@ -8,7 +8,7 @@ use Rattle.lrc_trace.specs.Synchronization.{Holds}
 use Rattle.lrc_time.specs.Time.{entry, weight_of, zeros}
 use Rattle.lrc_exact.specs.LocalRule.{arrived_state, released_state, state_before}
 use Rattle.lrc_exact.specs.Rule.{Shape, State, KeepsExact, closed, exact_rule, known_by_all}
-use Rattle.lrc_exact_states.specs.Levels.{AreLevels, Levels, Table}
+use Rattle.lrc_exact_states.specs.Levels.{AreLevels, levels_told, Table, Told}
 use Rattle.lrc_exact_states.specs.Alike.{AreDecided, ArriveAlike, IsHandedAlike, IsStateAlike}
 
 -- From where a run is looked at: a time that all nodes know, and the number of a barrier below which all is over.
@@ -43,7 +43,7 @@ AreLight shape run states made = (q j : ℕ) → q < shape.nodes → 1 ≤ j →
     → (made q j).weight ≤ weight_of (here shape run states q).knows.time
 
 -- The states of two runs are alike, seen from these bases.
-pub record AreRunsAlike (shape : Shape) (cap : ℕ) (base base' : Base) (run run' : List Act) (states states' : List State) : Type 1 where
+pub record AreRunsAlike (shape : Shape) (cap : ℕ) (base base' : Base) (run run' : List Act) (states states' : List State) : Type 0 where
   pub some : 1 ≤ cap
   pub wide : length base.floor ≡ shape.nodes
   pub wide' : length base'.floor ≡ shape.nodes
@@ -52,18 +52,18 @@ pub record AreRunsAlike (shape : Shape) (cap : ℕ) (base base' : Base) (run run
   pub synchronized : AreSynchronizedAlike shape.nodes base.first base'.first run run'
   pub made : Table
   pub made' : Table
-  pub level : Levels
-  pub levels : AreLevels cap base.floor base'.floor made made' level
-  pub most : (q b b' : ℕ) → q < shape.nodes → level q b b'
+  pub told : Told
+  pub levels : AreLevels cap base.floor base'.floor made made' (levels_told told)
+  pub most : (q b b' : ℕ) → q < shape.nodes → levels_told told q b b'
       → (b ≤ entry (here shape run states q).knows.time q) × (b' ≤ entry (here shape run' states' q).knows.time q)
   pub light : AreLight shape run states made
   pub light' : AreLight shape run' states' made'
   pub nodes_are : (q : ℕ) → q < shape.nodes
-      → IsStateAlike shape.nodes cap base.floor base'.floor made made' level (here shape run states q) (here shape run' states' q)
+      → IsStateAlike shape.nodes cap base.floor base'.floor made made' (levels_told told) (here shape run states q) (here shape run' states' q)
   pub locks : (l : ℕ)
-      → IsHandedAlike shape.nodes made made' level base.floor base'.floor (released_state run states l (length run)) (released_state run' states' l (length run'))
+      → IsHandedAlike shape.nodes made made' (levels_told told) base.floor base'.floor (released_state run states l (length run)) (released_state run' states' l (length run'))
   pub arrived : (k q : ℕ)
-      → ArriveAlike shape.nodes made made' level (arrived_state run states (k + base.first) (length run) q)
+      → ArriveAlike shape.nodes made made' (levels_told told) (arrived_state run states (k + base.first) (length run) q)
       (arrived_state run' states' (k + base'.first) (length run') q)
 
 -- Each comparison that an act of a run makes is decided.

@@ -1,5 +1,5 @@
 -- A search that joins runs that stand alike.
-use Rattle.std.specs.Prelude.{◌≡◌, ℕ, zero, ◌<◌, ◌≤◌, List, [], ◌∷◌, ◌++◌, length}
+use Rattle.std.specs.Prelude.{◌≡◌, ℕ, zero, ◌<◌, ◌≤◌, ◌⊎◌, List, [], ◌∷◌, ◌++◌, length}
 use Rattle.lrc_program.specs.declared.Program.{Program}
 use Rattle.lrc_trace.specs.declared.act.Act.{Act}
 use Rattle.lrc_trace.specs.declared.act.Deed.{Deed}
@@ -17,12 +17,17 @@ pub record Seen : Type 0 where
   pub acts : List Act
   pub base : Base
 
+-- it is one of those
+abbrev pub IsAmong : List Seen → Seen → Type 0
+IsAmong [] seen = ⊥
+IsAmong (one ∷ more) seen = (one ≡ seen) ⊎ IsAmong more seen
+
 -- where a search begins
 abbrev pub first_seen : ℕ → Seen
 first_seen nodes = record { acts = []; base = begun nodes }
 
 -- a run, seen from a base, stands as one that is looked at
-pub record StandsAs (program : Program) (shape : Shape) (cap : ℕ) (run : List Act) (base : Base) (seen : Seen) : Type 1 where
+pub record StandsAs (program : Program) (shape : Shape) (cap : ℕ) (run : List Act) (base : Base) (seen : Seen) : Type 0 where
   pub states : List State
   pub states' : List State
   pub alike : AreAlike program shape cap base seen.base run seen.acts states states'
@@ -33,7 +38,7 @@ pub data IsSeenFrom (shape : Shape) (run : List Act) (before : Base) : Base → 
   from_level : {now : Base} (states : List State) → KeepsExact shape run states → IsLevel shape now run states → zero < shape.nodes → IsSeenFrom shape run before now
 
 -- an act leads to a run that is looked at, or to one that stands as such a run; what the act compares is decided
-pub record LeadsOn (program : Program) (shape : Shape) (cap : ℕ) (Looked : Seen → Type 0) (seen : Seen) (act : Act) : Type 1 where
+pub record LeadsOn (program : Program) (shape : Shape) (cap : ℕ) (Looked : Seen → Type 0) (seen : Seen) (act : Act) : Type 0 where
   pub decided : (states : List State) → KeepsExact shape seen.acts states
       → IsDecidedDeed shape cap seen.base.floor seen.acts states act.node act.deed
   pub base : Base
@@ -60,7 +65,7 @@ abbrev pub IsLookingForEver : Program → Shape → List Act → Type 0
 IsLookingForEver program shape acts = (many : ℕ) → (ahead : List Act) × AreLooks program shape acts ahead × (many ≤ length ahead)
 
 -- Each act that may come next leads on, or one that acquires no lock does, or some node looks round for ever.
-pub data IsLookedAt (program : Program) (shape : Shape) (cap : ℕ) (Looked : Seen → Type 0) (seen : Seen) : Type 1 where
+pub data IsLookedAt (program : Program) (shape : Shape) (cap : ℕ) (Looked : Seen → Type 0) (seen : Seen) : Type 0 where
   by_all : ((act : Act) → IsExactRun program shape (seen.acts ++ act ∷ []) → LeadsOn program shape cap Looked seen act)
       → IsLookedAt program shape cap Looked seen
   by_one : (act : Act) → IsNoAcquire act.deed → IsExactRun program shape (seen.acts ++ act ∷ []) → LeadsOn program shape cap Looked seen act
@@ -68,7 +73,7 @@ pub data IsLookedAt (program : Program) (shape : Shape) (cap : ℕ) (Looked : Se
   for_ever : IsLookingForEver program shape seen.acts → IsLookedAt program shape cap Looked seen
 
 -- so it is with all that are looked at, and the run without acts is one
-pub record IsClosedSearch (program : Program) (shape : Shape) (cap : ℕ) (Looked : Seen → Type 0) : Type 1 where
+pub record IsClosedSearch (program : Program) (shape : Shape) (cap : ℕ) (Looked : Seen → Type 0) : Type 0 where
   pub first : Looked (first_seen shape.nodes)
   pub all : (seen : Seen) → Looked seen → IsLookedAt program shape cap Looked seen
 
