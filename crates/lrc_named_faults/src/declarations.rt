@@ -113,24 +113,25 @@ impl<'n, 'p> Layout<'n, 'p> {
     }
 
     // What stands in the body of a function with these parameters that is declared next, or its first fault.
-    fn body<'s>(
-        &'s self,
+    fn body(
+        &self,
         alloc: Global,
-        parameters: &'s Spelled<'s, 'p>,
+        parameters: &[Name<'p>],
         expression: &Expression<'p>,
     ) -> Result<Found<Extent>, AllocError>
         requires { IsLaidOut self.now }
         ensures { IfOk result (λ found. IsBodyFound (body_scope (declared_of self.now.names)
-            (map named_of parameters.now.names.now)) (expression_of expression.now) found) }
+            (map named_of parameters.now)) (expression_of expression.now) found) }
     {
-        let known = varying(alloc, parameters.names)?;
+        let known = varying(alloc, parameters)?;
+        let spelled = Spelled::of(alloc, parameters)?;
         let none = Spelled::none(alloc);
         let scope = Scope {
             alloc,
             names: &self.names,
             extents: &self.extents,
             known: &known,
-            parameters,
+            parameters: &spelled,
             assigned: &none,
             is_constant: false,
         };
@@ -138,11 +139,11 @@ impl<'n, 'p> Layout<'n, 'p> {
     }
 
     // The same, the faults of its name and its parameters among them.
-    fn function<'s>(
-        &'s self,
+    fn function(
+        &self,
         alloc: Global,
         name: Name<'p>,
-        parameters: &'s [Name<'p>],
+        parameters: &[Name<'p>],
         expression: &Expression<'p>,
     ) -> Result<Found<Extent>, AllocError>
         requires { IsLaidOut self.now }
@@ -153,7 +154,7 @@ impl<'n, 'p> Layout<'n, 'p> {
         let spelled = Spelled::of(alloc, parameters)?;
         let others = in_parameters(&self.names, name, &spelled);
         let own = earlier(first, others);
-        let found = self.body(alloc, &spelled, expression)?;
+        let found = self.body(alloc, parameters, expression)?;
         match found {
             Found::Bad(fault) => Ok(Found::Bad(told(own, fault))),
             Found::Good(extent) => match own {

@@ -139,10 +139,10 @@ fn in_body<'p>(
     }
 }
 
-fn body_over<'s, 'p>(
+fn body_over<'p>(
     alloc: Global,
-    layout: &'s Layout<'_, 'p>,
-    parameters: &'s [Name<'p>],
+    layout: &Layout<'_, 'p>,
+    parameters: &[Name<'p>],
     spots: &[Spot<'_, 'p>],
 ) -> Result<Option<Beyond>, AllocError>
     requires { IsLaidOut layout.now }

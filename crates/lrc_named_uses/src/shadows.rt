@@ -46,10 +46,10 @@ fn mark(
             mark_within(shadows, tokens, function.at, body.last(), &own);
             Ok(())
         }
-        Declaration::Nodes(_, _)
-        | Declaration::Const(_, _, _)
-        | Declaration::Shared(_, _)
-        | Declaration::Lock(_, _) => Ok(()),
+        Declaration::Nodes(_, _) => Ok(()),
+        Declaration::Const(_, _, _) => Ok(()),
+        Declaration::Shared(_, _) => Ok(()),
+        Declaration::Lock(_, _) => Ok(()),
     }
 }
 

@@ -6,6 +6,7 @@ use Rattle.lrc_named_names.specs.View.{declared_of}
 use Rattle.lrc_named_constants.specs.Constant.{names_of}
 use Rattle.lrc_named_constants.specs.View.{known_of}
 use Rattle.lrc_named_constants.specs.Well.{bytes_of}
+use Rattle.lrc_named_expression_faults.specs.Extent.{AreExtents}
 use Rattle.lrc_named_faults.specs.Declarations.{varying}
 use Rattle.lrc_named_faults.proofs.Declaring.{varying_names}
 use Rattle.lrc_named_faults.proofs.Laid.{laid_out_is_sound}
@@ -15,6 +16,9 @@ use Rattle.lrc_named_index_hint.proofs.outside.body_over.Goals as goal
 
 pub one_over-requires-clause-table : goal.one_over-requires-clause-table
 one_over-requires-clause-table c = laid_out_is_sound c.args.layout.now c.requires
+
+pub one_over-requires-clause-extents : goal.one_over-requires-clause-extents
+one_over-requires-clause-extents c = subst (λ l. AreExtents (declared_of c.args.layout.now.names) l) (sym c.deref.ensures.value) c.requires.extents
 
 pub invariant_of-scope : goal.invariant_of-scope
 invariant_of-scope c = record {

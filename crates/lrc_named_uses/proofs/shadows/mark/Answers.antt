@@ -1,5 +1,5 @@
 -- The tokens of a function are marked, and none of another declaration.
-use Rattle.std.proofs.Common.{◌∙◌, ◌&&◌, ap, map, refl, subst, sym}
+use Rattle.std.proofs.Common.{◌≡◌, ◌∙◌, ◌&&◌, ap, map, refl, subst, sym}
 use Rattle.std.specs.Prelude.{nat_le}
 use Rattle.lrc_named_tree.specs.Ends.{last_of}
 use Rattle.lrc_named_tree.specs.Tree.{function}
