@@ -1,4 +1,4 @@
-use Rattle.std.proofs.Common.{◌≡◌, ◌∙◌, ap, map, rules, sym}
+use Rattle.std.proofs.Common.{◌≡◌, ◌∙◌, ap, map, rules}
 use Rattle.lrc_lines.specs.Walks.{walk_behind}
 use Rattle.lrc_replay.proofs.Coursing.{on_ok}
 use Rattle.lrc_replay.specs.Acts.{Plan}

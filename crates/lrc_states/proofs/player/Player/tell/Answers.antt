@@ -1,10 +1,9 @@
 use Rattle.std.proofs.Common.{◌≡◌, ◌∙◌, ◌+◌, ◌++◌, ℕ, None, Option, Some, ap, refl, rules, slice_get, subst, sym}
-use Rattle.lrc_protocol.specs.Run.{Logged}
 use Rattle.lrc_protocol.specs.Turn.{TurnRecord}
 use Rattle.lrc_replay.specs.Replays.{IsMade, message_of}
 use Rattle.lrc_states.specs.declared.player.Player.{Player}
 use Rattle.lrc_states.specs.Players.{IsPlayer, take_members, was_taken}
-use Rattle.lrc_states.specs.States.{event_members, known_of, made_members, state_behind}
+use Rattle.lrc_states.specs.States.{event_members, known_of}
 use Rattle.lrc_states.proofs.Keeping.{keeps, keeps_less, others_after}
 use Rattle.lrc_states.proofs.Playing.{left_by, one_turn, passed_over}
 use Rattle.lrc_states.proofs.Showing.{add_text}
