@@ -61,18 +61,18 @@ pub through-requires-clause-some : goal.through-requires-clause-some
 through-requires-clause-some c =
     within_more c.args.task.now c.begin.new.self c.seek.new.self 0 c.in_ok-traps.ensures.found c.in_ok-sought.ensures.more c.in_ok-traps.ensures.some
 
-pub returns-in-Through-clause-answer : goal.returns-in-Through-clause-answer
-returns-in-Through-clause-answer c =
+pub returns-in_ok-ends-in-Through-clause-answer : goal.returns-in_ok-ends-in-Through-clause-answer
+returns-in_ok-ends-in-Through-clause-answer c =
     let task = c.args.task.now in
     let new = c.seek.new.self in
     let races = c.args.races in
     let e = c.in_ok-sought.ensures in
     let end = subst (IsEnd task new races) c.in-Through.is (subst (IsSought task new races) c.in-Ended.is e.sought) in
     let start = start_grown task c.begin.new.self.table.rows new.table.rows e.more.rows c.in_ok-traps.ensures.start in
-    (λ looked. no_race task new.table.rows e.found.reached start end.expanded (end.calm looked), c.in_ok-ends.ensures.findings)
+    (λ looked. no_race task new.table.rows e.found.reached start end.expanded (end.calm looked), c.in_ok-ends-in-Through.ensures.findings)
 
-pub returns-in-Through-clause-fits : goal.returns-in-Through-clause-fits
-returns-in-Through-clause-fits c = λ through.
+pub returns-in_ok-ends-in-Through-clause-fits : goal.returns-in_ok-ends-in-Through-clause-fits
+returns-in_ok-ends-in-Through-clause-fits c = λ through.
     let task = c.args.task.now in
     let new = c.seek.new.self in
     let races = c.args.races in
