@@ -3,6 +3,7 @@ use Rattle.std.proofs.Common.{◌≡◌, inl, ℕ, List, Option, Result, Ok, Err
 use Rattle.lrc_cli_args.specs.declared.choice.Asking.{Asking}
 use Rattle.lrc_cli_args.specs.declared.choice.ChartedActs.{ChartedActs}
 use Rattle.lrc_cli_args.specs.declared.choice.Charting.{Charting}
+use Rattle.lrc_cli_args.specs.declared.choice.Exploring.{Exploring}
 use Rattle.lrc_cli_args.specs.declared.choice.ForeignActs.{ForeignActs}
 use Rattle.lrc_chart_acts.specs.Picture.{IsActsPortraitFault}
 use Rattle.lrc_chart_acts.specs.declared.fault.ActsChartFault.{ActsChartFault}
@@ -11,14 +12,14 @@ use Rattle.lrc_cli_runs.specs.Charted.{part_of}
 use Rattle.lrc_why_text.specs.Answers.{RefusesActs}
 use Rattle.lrc_why_text.specs.declared.fault.WhyFault.{WhyFault}
 use Rattle.lrc_why_text.specs.declared.fault.WhyFault.TheVariants as why_faults
-use Rattle.lrc_cli.specs.Answer.{Answers, IsActsChartFault, IsFault, IsWhyFault, KeepsRaces, Prints, charted_nodes, foreign_nodes, printed}
+use Rattle.lrc_cli.specs.Answer.{Answers, IsActsChartFault, IsAnswered, IsFault, IsWhyFault, KeepsRaces, Meets, Prints, charted_nodes, foreign_nodes, printed}
 use Rattle.lrc_cli_answer.specs.FaultLine.{fault_of_acts_chart, fault_of_why}
 use Rattle.lrc_cli_runs.specs.Reasoned.{asked_of}
 use Rattle.lrc_cli.specs.Showing.{AnswersAsRead}
 use Rattle.lrc_text.specs.Parts.{whole_text}
 use Rattle.lrc_cli_answer.specs.declared.printout.Printout.{Printout}
 use Rattle.lrc_cli.specs.declared.answer.Answered.{Answered}
-use Rattle.lrc_cli.specs.declared.answer.Answered.TheVariants.{Printed, Judged}
+use Rattle.lrc_cli.specs.declared.answer.Answered.TheVariants.{Printed, Judged, Met}
 use Rattle.lrc_cli_args.specs.declared.choice.Choice.{Choice}
 use Rattle.lrc_cli_args.specs.declared.choice.Choice.TheVariants.{Check, Core, Plain, Show, Judge, Explore, Lint, WhyActs, ChartActs}
 use Rattle.lrc_cli_args.specs.declared.choice.RunChoice.{RunChoice}
@@ -38,10 +39,52 @@ pub answers_of : (choice : Choice) (text : List ℕ) (events : Option (List ℕ)
     → IfErr r (λ fault. IsFault choice text events fault) → Answers choice text events a
 answers_of choice text events r a is prints faults = subst (Answers choice text events) (sym is) (answered choice text events r prints faults)
 
+-- ---- of what is printed, or was met before a fault
+
+-- what is printed is answered
+printed_so : (P : List ℕ → ℕ → Type 0) (M : List ℕ → Fault → Type 0) (r : Result Printout Fault)
+    → IfOk r (λ printout. P (whole_text printout.parts.items) printout.status) → IfOk (printed r) (IsAnswered P M)
+printed_so P M (Ok printout) holds = holds
+printed_so P M (Err fault) holds = tt
+
+refused_so : (Q : Fault → Type 0) (r : Result Printout Fault) → IfErr r Q → IfErr (printed r) Q
+refused_so Q (Ok printout) holds = tt
+refused_so Q (Err fault) holds = holds
+
+pub printed_ok : (P : List ℕ → ℕ → Type 0) (M : List ℕ → Fault → Type 0) (r : Result Printout Fault) (a : Result Answered Fault) → a ≡ printed r
+    → IfOk r (λ printout. P (whole_text printout.parts.items) printout.status) → IfOk a (IsAnswered P M)
+printed_ok P M r a is holds = subst (λ (b : Result Answered Fault). IfOk b (IsAnswered P M)) (sym is) (printed_so P M r holds)
+
+pub printed_err : (Q : Fault → Type 0) (r : Result Printout Fault) (a : Result Answered Fault) → a ≡ printed r → IfErr r Q → IfErr a Q
+printed_err Q r a is holds = subst (λ (b : Result Answered Fault). IfErr b Q) (sym is) (refused_so Q r holds)
+
+-- what holds by less
+pub answered_weaker : (P Q : List ℕ → ℕ → Type 0) (M N : List ℕ → Fault → Type 0) → ((out : List ℕ) (status : ℕ) → P out status → Q out status)
+    → ((out : List ℕ) (fault : Fault) → M out fault → N out fault) → (a : Answered) → IsAnswered P M a → IsAnswered Q N a
+answered_weaker P Q M N prints meets (Printed printout) is = prints (whole_text printout.parts.items) printout.status is
+answered_weaker P Q M N prints meets (Judged judgement) is = absurd is
+answered_weaker P Q M N prints meets (Met parts fault) is = meets (whole_text parts.items) fault is
+
+-- what is answered of the orders of a program
+explored_so : (exploring : Exploring) (text : List ℕ) (events : Option (List ℕ)) (r : Result Answered Fault)
+    → IfOk r (IsAnswered (Prints (Explore exploring) text events) (Meets (Explore exploring) text))
+    → IfErr r (λ fault. IsFault (Explore exploring) text events fault) → Answers (Explore exploring) text events r
+explored_so exploring text events (Ok (Printed printout)) is faults = is
+explored_so exploring text events (Ok (Judged judgement)) is faults = absurd is
+explored_so exploring text events (Ok (Met parts fault)) is faults = is
+explored_so exploring text events (Err fault) is faults = faults
+
+pub answers_explored : (choice : Choice) (exploring : Exploring) (text : List ℕ) (events : Option (List ℕ)) (r : Result Answered Fault)
+    → choice ≡ Explore exploring → IfOk r (IsAnswered (Prints (Explore exploring) text events) (Meets (Explore exploring) text))
+    → IfErr r (λ fault. IsFault (Explore exploring) text events fault) → Answers choice text events r
+answers_explored choice exploring text events r same is faults =
+    subst (λ (chosen : Choice). Answers chosen text events r) (sym same) (explored_so exploring text events r is faults)
+
 -- a judgement that is answered keeps its races
 pub keeps_races : (choice : Choice) (text : List ℕ) (events : Option (List ℕ)) (a : Result Answered Fault) → Answers choice text events a → KeepsRaces a
 keeps_races choice text events (Ok (Printed printout)) h = tt
 keeps_races choice text events (Ok (Judged judgement)) h = h.1
+keeps_races choice text events (Ok (Met parts fault)) h = tt
 keeps_races choice text events (Err fault) h = tt
 
 -- memory may run out at any choice

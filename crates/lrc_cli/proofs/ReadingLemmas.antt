@@ -1,10 +1,10 @@
 -- How a text is read.
-use Rattle.std.proofs.Common.{◌≡◌, ◌⊎◌, ℕ, IfErr, IfOk, List, Option, Result, inr, subst}
+use Rattle.std.proofs.Common.{◌≡◌, ◌⊎◌, ℕ, IfErr, IfOk, List, None, Option, Result, inr, subst}
 use Rattle.std.proofs.lemmas.Result.{IfErr-weaker, IfOk-weaker}
 use Rattle.lrc_program.specs.declared.Program.{Program}
 use Rattle.lrc_text.specs.Parts.{whole_text}
 use Rattle.lrc_cli_answer.specs.Texts.{IsTextFault, IsTextOf}
-use Rattle.lrc_cli_answer.specs.declared.printout.Printout.{Printout}
+use Rattle.lrc_cli_args.specs.declared.choice.Choice.TheVariants.{Explore}
 use Rattle.lrc_cli_args.specs.declared.choice.Exploring.{Exploring}
 use Rattle.lrc_cli_answer.specs.declared.fault.Fault.{Fault}
 use Rattle.lrc_named.specs.Named.{IsNamedFault, IsReadAsNamed}
@@ -12,7 +12,9 @@ use Rattle.lrc_named.specs.declared.fault.NamedFault.{NamedFault}
 use Rattle.lrc_named.specs.declared.fault.NamedFault.TheVariants.{Text, Names, NoMemory}
 use Rattle.lrc_setting.specs.declared.setting.Nodes.{Nodes}
 use Rattle.lrc_source.specs.Telling.{ReadText}
-use Rattle.lrc_cli.specs.Answer.{IsExploration, IsSearchFault}
+use Rattle.lrc_cli.specs.Answer.{IsAnswered, IsExploration, IsExplorationMet, IsSearchFault, Meets, Prints}
+use Rattle.lrc_cli.specs.declared.answer.Answered.{Answered}
+use Rattle.lrc_cli.specs.declared.answer.Answered.TheVariants.{Printed, Judged, Met}
 use Rattle.lrc_cli.specs.Reading.{HoldsAsRead, IsFaultAsRead, IsReadAs, IsUnread, exploring_for, fault_of_named}
 
 -- the fault of a named program, as it is told
@@ -33,13 +35,13 @@ faulty_as_read text nodes read seen fault Has is_read is h = inr (holds_as_read 
 
 -- ---- what is said of the orders of a program, by how its text is read
 
-module _ (exploring own : Exploring) (text : List ℕ) (nodes : Option Nodes) (read seen : ReadText) (r : Result Printout Fault) (is_read : IsReadAs text nodes read)
+module _ (exploring own : Exploring) (text : List ℕ) (nodes : Option Nodes) (read seen : ReadText) (r : Result Answered Fault) (is_read : IsReadAs text nodes read)
     (so : own ≡ exploring_for exploring nodes) (same : seen ≡ read) where
-  pub explored_for : IfOk r (λ printout. (program : Program) × IsTextOf seen.core program
-      × IsExploration own seen program (whole_text printout.parts.items) printout.status)
-      → IfOk r (λ printout. HoldsAsRead text (λ asked told. (program : Program) × IsTextOf told.core program
-      × IsExploration (exploring_for exploring asked) told program (whole_text printout.parts.items) printout.status))
-  explored_for = IfOk-weaker r _ _ (λ printout says. record {
+  -- what is answered of the text that is read is answered of the text
+  answered_as_read : (answered : Answered)
+      → (program : Program) × IsTextOf seen.core program × IsAnswered (IsExploration own seen program) (IsExplorationMet own seen program) answered
+      → IsAnswered (Prints (Explore exploring) text None) (Meets (Explore exploring) text) answered
+  answered_as_read (Printed printout) says = record {
     nodes = nodes;
     read = read;
     is_read = is_read;
@@ -47,7 +49,21 @@ module _ (exploring own : Exploring) (text : List ℕ) (nodes : Option Nodes) (r
         subst (λ (e : Exploring). (program : Program) × IsTextOf read.core program × IsExploration e read program (whole_text printout.parts.items) printout.status) so
         (subst (λ (t : ReadText). (program : Program) × IsTextOf t.core program × IsExploration own t program (whole_text printout.parts.items) printout.status)
         same says);
-  })
+  }
+  answered_as_read (Judged judgement) says = absurd says.2
+  answered_as_read (Met parts fault) says = record {
+    nodes = nodes;
+    read = read;
+    is_read = is_read;
+    holds =
+        subst (λ (e : Exploring). (program : Program) × IsTextOf read.core program × IsExplorationMet e read program (whole_text parts.items) fault) so
+        (subst (λ (t : ReadText). (program : Program) × IsTextOf t.core program × IsExplorationMet own t program (whole_text parts.items) fault) same says);
+  }
+
+  pub explored_for : IfOk r (λ answered. (program : Program) × IsTextOf seen.core program
+      × IsAnswered (IsExploration own seen program) (IsExplorationMet own seen program) answered)
+      → IfOk r (IsAnswered (Prints (Explore exploring) text None) (Meets (Explore exploring) text))
+  explored_for = IfOk-weaker r _ _ answered_as_read
 
   pub unexplored_for : IfErr r (λ fault. IsTextFault seen.core fault ⊎ ((program : Program) × IsTextOf seen.core program × IsSearchFault own program fault))
       → IfErr r (λ fault. IsFaultAsRead text fault (λ asked told. IsTextFault told.core fault

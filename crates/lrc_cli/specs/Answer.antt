@@ -7,6 +7,7 @@ use Rattle.lrc_program.specs.declared.Program.{Program}
 use Rattle.lrc_trace.specs.declared.act.Act.{Act}
 use Rattle.lrc_text.specs.Parts.{whole_text}
 use Rattle.lrc_explore.specs.Answers.{FitsSettled, MetTooMany}
+use Rattle.lrc_explore.specs.Met.{ComputesTooLong}
 use Rattle.lrc_explore_text.specs.Explored.{Explores, MeetsTooMany}
 use Rattle.lrc_explore_text.specs.Ends.{TellsEnds}
 use Rattle.lrc_explore_text.specs.Orders.{TellsFindings}
@@ -32,7 +33,7 @@ use Rattle.lrc_cli_runs.specs.Reasoned.{asked_of}
 use Rattle.lrc_cli_answer.specs.Texts.{IsTextFault, IsTextOf}
 use Rattle.lrc_cli_answer.specs.declared.printout.Printout.{Printout}
 use Rattle.lrc_cli.specs.declared.answer.Answered.{Answered}
-use Rattle.lrc_cli.specs.declared.answer.Answered.TheVariants.{Printed, Judged}
+use Rattle.lrc_cli.specs.declared.answer.Answered.TheVariants.{Printed, Judged, Met}
 use Rattle.lrc_cli_args.specs.declared.choice.Choice.{Choice}
 use Rattle.lrc_cli_args.specs.declared.choice.Choice.TheVariants.{Check, Core, Plain, Show, Judge, Explore, Lint, WhyActs, ChartActs}
 use Rattle.lrc_cli.specs.Reading.{HoldsAsRead, IsFaultAsRead, exploring_for, nodes_for}
@@ -56,6 +57,7 @@ use Rattle.lrc_cli_args.specs.declared.choice.OutcomeNumber.{OutcomeNumber}
 use Rattle.lrc_cli_args.specs.declared.choice.Judging.{Judging}
 use Rattle.lrc_cli_args.specs.declared.choice.Tell.{Tell}
 use Rattle.lrc_cli.specs.Events.{IsEventsAnswer}
+use Rattle.lrc_cli.specs.Met.{IsEventsMet, IsMetIn}
 use Rattle.lrc_cli.specs.Exact.{HasExactFault, HasExactRunFault, ShowsExactOutcomes, ShowsExactRun, tries_asked}
 use Rattle.lrc_cli_answer.specs.declared.fault.Fault.{Fault}
 use Rattle.lrc_cli_answer.specs.declared.fault.Fault.TheVariants.{Acts, LongActs, NoAct, NoOutcome, TooManyStates, NoMemory}
@@ -166,6 +168,18 @@ IsShown None exploring text program out status = IsSaid exploring text program o
 abbrev pub IsExploration : Exploring → ReadText → Program → List ℕ → ℕ → Type 0
 IsExploration exploring text program out status = IsShown exploring.events exploring text program out status
 
+-- So it is of what a search met that gives up among too many states: the text is that, and the fault is told behind it.
+abbrev pub IsSaidMet : Exploring → ReadText → Program → List ℕ → Fault → Type 0
+IsSaidMet exploring text program out fault = (places : List ℕ) × AreLines text program places
+    × IsMetIn exploring.memory exploring (wording_in text program) program places out fault
+
+abbrev pub IsShownMet : Option Tell → Exploring → ReadText → Program → List ℕ → Fault → Type 0
+IsShownMet (Some tell) exploring text program out fault = IsEventsMet exploring.outcome exploring tell program out fault
+IsShownMet None exploring text program out fault = IsSaidMet exploring text program out fault
+
+abbrev pub IsExplorationMet : Exploring → ReadText → Program → List ℕ → Fault → Type 0
+IsExplorationMet exploring text program out fault = IsShownMet exploring.events exploring text program out fault
+
 -- What is told of a named program: of one with a fault where the first one is, and how it may be mended, with status 1; of one without a fault
 -- exactly its warnings, with status 0.
 abbrev pub IsToldAsNamed : List ℕ → List ℕ → List ℕ → ℕ → Type 0
@@ -225,6 +239,18 @@ Prints (Lint file) text events_text out status = IsLinted file.now text out stat
 Prints (WhyActs acts asking) text events_text out status = IsReasoned acts asking text out status
 Prints (ChartActs acts charting) text events_text out status = IsActsCharted acts charting text out status
 
+-- What is printed before a fault: what a search met that gives up among too many states.
+abbrev pub Meets : Choice → List ℕ → List ℕ → Fault → Type 0
+Meets (Explore exploring) text out fault = HoldsAsRead text (λ nodes read. (program : Program) × IsTextOf read.core program
+    × IsExplorationMet (exploring_for exploring nodes) read program out fault)
+Meets _ text out fault = ⊥
+
+-- what is answered is printed, which is so of a text and a status; or it was met before a fault, which is so of a text and the fault
+abbrev pub IsAnswered : (List ℕ → ℕ → Type 0) → (List ℕ → Fault → Type 0) → Answered → Type 0
+IsAnswered prints meets (Printed printout) = prints (whole_text printout.parts.items) printout.status
+IsAnswered prints meets (Judged judgement) = ⊥
+IsAnswered prints meets (Met parts fault) = meets (whole_text parts.items) fault
+
 -- the fault of a text of acts
 abbrev pub IsActsFault : Option ℕ → List ℕ → Fault → Type 0
 IsActsFault nodes text LongActs = ReadsActs nodes text (Err TooLong)
@@ -256,10 +282,11 @@ HasOutcomeFault exploring program number (TooManyStates most) =
 HasOutcomeFault exploring program number NoMemory = Unit {0}
 HasOutcomeFault exploring program number _ = ⊥
 
--- the fault of a search through every order: it met more states than it might
+-- the fault of a search through every order: it met more states than it might, or, where no outcomes are asked for, it looked at more acts
 abbrev pub HasOrdersFault : Exploring → Program → Fault → Type 0
 HasOrdersFault exploring program (TooManyStates most) =
     (most ≡ exploring.most.count) × MeetsTooMany program exploring.nodes.count most exploring.outcomes
+    × (exploring.outcomes ≡ false → ComputesTooLong program exploring.nodes.count most)
 HasOrdersFault exploring program NoMemory = Unit {0}
 HasOrdersFault exploring program _ = ⊥
 
@@ -276,9 +303,10 @@ HasLazyRunFault exploring program number (TooManyStates most) = (most ≡ explor
 HasLazyRunFault exploring program number NoMemory = Unit {0}
 HasLazyRunFault exploring program number _ = ⊥
 
--- of one that looks for no race
+-- of one that looks for no race: it looked at more acts than it might
 abbrev pub HasFindingsFault : Exploring → Program → Fault → Type 0
-HasFindingsFault exploring program (TooManyStates most) = (most ≡ exploring.most.count) × MetTooMany program exploring.nodes.count most false false
+HasFindingsFault exploring program (TooManyStates most) =
+    (most ≡ exploring.most.count) × MetTooMany program exploring.nodes.count most false false × ComputesTooLong program exploring.nodes.count most
 HasFindingsFault exploring program NoMemory = Unit {0}
 HasFindingsFault exploring program _ = ⊥
 
@@ -286,6 +314,7 @@ HasFindingsFault exploring program _ = ⊥
 abbrev pub HasLineFault : Exploring → Program → Fault → Type 0
 HasLineFault exploring program (TooManyStates most) =
     (most ≡ exploring.most.count) × MetTooMany program exploring.nodes.count most false (not exploring.ignores_races)
+    × ComputesTooLong program exploring.nodes.count most
 HasLineFault exploring program NoMemory = Unit {0}
 HasLineFault exploring program _ = ⊥
 
@@ -347,11 +376,13 @@ abbrev pub asks_pairs : Choice → Bool
 asks_pairs (Judge judging) = judging.pairs && not judging.all
 asks_pairs _ = false
 
--- What is answered to a choice: what is printed, a judgement with the racing pairs that are asked for, or the first fault.
+-- What is answered to a choice: what is printed, a judgement with the racing pairs that are asked for, what is printed before a fault, or the first
+-- fault.
 abbrev pub Answers : Choice → List ℕ → Option (List ℕ) → Result Answered Fault → Type 0
 Answers choice text events_text (Ok (Printed printout)) = Prints choice text events_text (whole_text printout.parts.items) printout.status
 Answers choice text events_text (Ok (Judged judgement)) = (asks_pairs choice ≡ true) × HasItsRaces judgement
     × Prints choice text events_text (told_text judgement) judgement.status
+Answers choice text events_text (Ok (Met parts fault)) = Meets choice text (whole_text parts.items) fault
 Answers choice text events_text (Err fault) = IsFault choice text events_text fault
 
 -- a printout, as an answer

@@ -1,5 +1,6 @@
 pub mod Events
 pub mod Exact
+pub mod Met
 pub mod Answer
 pub mod Performance
 pub mod Reading

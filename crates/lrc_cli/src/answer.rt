@@ -35,6 +35,8 @@ pub enum Answered {
     Printed(Printout),
     /// A judgement of acts. Its racing pairs are found while they are written.
     Judged(PairsJudgement),
+    /// What a search met that gives up among too many states: the parts of a text, and the fault that is told behind it.
+    Met(Vec<Vec<u8>>, Fault),
 }
 
 /// Answers a choice that starts no threads, from the text of its FILE, and from the text of events if the choice names
@@ -55,7 +57,7 @@ pub fn answer(
         Choice::Plain(run) => printed(plain(alloc, run, text)),
         Choice::Show(run, shape) => printed(shown(alloc, run, *shape, text, events)),
         Choice::Judge(judging) => judgement(alloc, judging, text),
-        Choice::Explore(exploring) => printed(explored(alloc, exploring, text)),
+        Choice::Explore(exploring) => explored(alloc, exploring, text),
         Choice::Lint(file) => printed(linted(alloc, file, text)),
         Choice::WhyActs(acts, asking) => printed(reasoned(alloc, acts, asking, text)),
         Choice::ChartActs(acts, charting) => printed(pictured(alloc, acts, charting, text)),

@@ -2,15 +2,17 @@
 
 ghost use Rattle.std.specs.Prelude.{◌≡◌, ◌≤◌, IfErr, IfOk};
 ghost use Rattle.lrc_text.specs.Parts.{whole_text};
-ghost use Rattle.lrc_cli.specs.Answer.{HasLineFault, HasOutcomeEventsFault, HasOutcomeFault, IsEventsFault};
+ghost use Rattle.lrc_cli.specs.Answer.{HasLineFault, HasOutcomeEventsFault, HasOutcomeFault, IsAnswered, IsEventsFault};
 ghost use Rattle.lrc_cli.specs.Events.{IsEventsAnswer, ShowsEventsIn, ShowsLineOf, ShowsOutcomeEvents, line_of};
+ghost use Rattle.lrc_cli.specs.Met.{IsEventsMet, MeetsLine};
 
+use crate::answer::{Answered, printed};
 use crate::exact::one_exact_run_as_events;
 use lrc_cli_answer::fault::Fault;
 use lrc_cli_answer::printout::{Printout, in_one};
 use lrc_cli_args::choice::{Exploring, Memory, Tell};
 use lrc_explore_events_text::outcome::outcome_shown;
-use lrc_explore_events_text::told::{Line, line_shown};
+use lrc_explore_events_text::told::{Line, Showing, line_shown};
 use lrc_orders::search::ExploreFault;
 use lrc_program::Program;
 use std::alloc::Global;
@@ -21,13 +23,14 @@ pub(crate) fn events_of(
     exploring: &Exploring<'_>,
     program: &Program,
     tell: Tell,
-) -> Result<Printout, Fault>
-    ensures ok { IfOk result (λ printout. IsEventsAnswer exploring.now.outcome exploring.now tell
-        program.now (whole_text printout.parts.items) printout.status) }
+) -> Result<Answered, Fault>
+    ensures ok { IfOk result (IsAnswered
+        (IsEventsAnswer exploring.now.outcome exploring.now tell program.now)
+        (IsEventsMet exploring.now.outcome exploring.now tell program.now)) }
     ensures err { IfErr result (IsEventsFault exploring.now.outcome exploring.now program.now) }
 {
     match exploring.outcome {
-        Some(outcome) => events_in_memory(alloc, exploring, program, outcome.number),
+        Some(outcome) => printed(events_in_memory(alloc, exploring, program, outcome.number)),
         None => line_events(alloc, exploring, program, tell),
     }
 }
@@ -60,9 +63,10 @@ fn line_events(
     exploring: &Exploring<'_>,
     program: &Program,
     tell: Tell,
-) -> Result<Printout, Fault>
-    ensures ok { IfOk result (λ printout. ShowsLineOf exploring.now (line_of tell) program.now
-        (whole_text printout.parts.items) printout.status) }
+) -> Result<Answered, Fault>
+    ensures ok { IfOk result (IsAnswered
+        (ShowsLineOf exploring.now (line_of tell) program.now)
+        (MeetsLine exploring.now tell program.now)) }
     ensures err { IfErr result (HasLineFault exploring.now program.now) }
 {
     let nodes = exploring.nodes.count;
@@ -77,10 +81,14 @@ fn line_events(
         exploring.ends,
         line_of(tell),
     ) {
-        Ok(shown) => Ok(Printout {
+        Ok(Showing::All(shown)) => Ok(Answered::Printed(Printout {
             parts: in_one(alloc, shown.text)?,
             status: shown.status,
-        }),
+        })),
+        Ok(Showing::Many(text)) => {
+            let parts = in_one(alloc, text)?;
+            Ok(Answered::Met(parts, Fault::TooManyStates(most)))
+        }
         Err(ExploreFault::TooMany) => Err(Fault::TooManyStates(most)),
         Err(ExploreFault::NoMemory) => Err(Fault::NoMemory),
         Err(ExploreFault::BadNodes) => unreachable!(),

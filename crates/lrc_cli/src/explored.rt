@@ -1,14 +1,16 @@
 // What the program answers to the command `explore`.
 
 ghost use Rattle.std.specs.Prelude.{◌≤◌, ◌⊎◌, IfErr, IfOk, None};
-ghost use Rattle.lrc_cli.specs.Answer.{HasFindingsFault, HasLazyFault, HasLazyRunFault, HasLineFault, HasOrdersFault, HasOutcomeFault, IsAnswerTo, IsExactAnswer, IsExactFault, IsExploration, IsFault, IsFaultIn, IsFlatAnswer, IsFlatFault};
-ghost use Rattle.lrc_cli.specs.Answer.{IsLazyAnswer, IsLazyFault, IsSaid, IsSearchFault, Prints, ShowsEnds, ShowsFindings, ShowsLazyOutcomes, ShowsLazyRun, ShowsOrders, ShowsOutcome};
+ghost use Rattle.lrc_cli.specs.Answer.{HasFindingsFault, HasLazyFault, HasLazyRunFault, HasLineFault, HasOrdersFault, HasOutcomeFault, IsAnswerTo, IsAnswered, IsExactAnswer, IsExactFault, IsExploration, IsExplorationMet, IsFault, IsFaultIn, IsFlatAnswer, IsFlatFault};
+ghost use Rattle.lrc_cli.specs.Answer.{IsLazyAnswer, IsLazyFault, IsSaid, IsSaidMet, IsSearchFault, Meets, Prints, ShowsEnds, ShowsFindings, ShowsLazyOutcomes, ShowsLazyRun, ShowsOrders, ShowsOutcome};
+ghost use Rattle.lrc_cli.specs.Met.{IsFlatMet, IsMetIn, IsOrdersMet, MeetsEnds, MeetsFindings, MeetsOrders};
 ghost use Rattle.lrc_cli_answer.specs.Texts.{IsTextFault, IsTextOf};
 ghost use Rattle.lrc_explain_waits.specs.Traps.{wording_of};
 ghost use Rattle.lrc_program.specs.declared.Program.{Program as AnyProgram};
 ghost use Rattle.lrc_text.specs.Parts.{whole_text};
 ghost use Rattle.lrc_cli_args.specs.declared.choice.Choice.TheVariants.{Explore};
 
+use crate::answer::{Answered, printed};
 use crate::events::events_of;
 use crate::exact::{all_exact_runs, one_exact_run, tries_of};
 use crate::reading::{exploring_for, read};
@@ -17,6 +19,7 @@ use lrc_cli_answer::printout::{Printout, in_one};
 use lrc_cli_args::choice::{ExactOptions, Exploring, Memory};
 use lrc_explain_waits::Wording;
 use lrc_explore_text::ends::explored_ends;
+use lrc_explore_text::explored::Told;
 use lrc_explore_text::orders::findings_told;
 use lrc_explore_text::outcome_run::outcome_run_told;
 use lrc_labels::read_labels;
@@ -33,9 +36,9 @@ pub(crate) fn explored(
     alloc: Global,
     exploring: &Exploring<'_>,
     text: &[u8],
-) -> Result<Printout, Fault>
-    ensures ok { IfOk result (λ printout. Prints (Explore exploring.now) text.now None
-        (whole_text printout.parts.items) printout.status) }
+) -> Result<Answered, Fault>
+    ensures ok { IfOk result (IsAnswered (Prints (Explore exploring.now) text.now None)
+        (Meets (Explore exploring.now) text.now)) }
     ensures err { IfErr result (IsFault (Explore exploring.now) text.now None) }
 {
     let reading = read(alloc, text)?;
@@ -49,10 +52,10 @@ fn explored_as_read(
     alloc: Global,
     exploring: &Exploring<'_>,
     text: &ReadText<'_>,
-) -> Result<Printout, Fault>
-    ensures ok { IfOk result (λ printout. (program : AnyProgram) × IsTextOf text.now.core program
-        × IsExploration exploring.now text.now program
-        (whole_text printout.parts.items) printout.status) }
+) -> Result<Answered, Fault>
+    ensures ok { IfOk result (λ answered. (program : AnyProgram) × IsTextOf text.now.core program
+        × IsAnswered (IsExploration exploring.now text.now program)
+        (IsExplorationMet exploring.now text.now program) answered) }
     ensures err { IfErr result (λ fault. IsTextFault text.now.core fault
         ⊎ ((program : AnyProgram) × IsTextOf text.now.core program
         × IsSearchFault exploring.now program fault)) }
@@ -67,10 +70,10 @@ fn answered(
     exploring: &Exploring<'_>,
     text: &ReadText<'_>,
     program: &Program,
-) -> Result<Printout, Fault>
+) -> Result<Answered, Fault>
     requires { IsTextOf text.now.core program.now }
-    ensures ok { IfOk result (λ printout. IsExploration exploring.now text.now program.now
-        (whole_text printout.parts.items) printout.status) }
+    ensures ok { IfOk result (IsAnswered (IsExploration exploring.now text.now program.now)
+        (IsExplorationMet exploring.now text.now program.now)) }
     ensures err { IfErr result (IsSearchFault exploring.now program.now) }
 {
     match exploring.events {
@@ -85,10 +88,10 @@ fn all_orders(
     exploring: &Exploring<'_>,
     text: &ReadText<'_>,
     program: &Program,
-) -> Result<Printout, Fault>
+) -> Result<Answered, Fault>
     requires { IsTextOf text.now.core program.now }
-    ensures ok { IfOk result (λ printout. IsSaid exploring.now text.now program.now
-        (whole_text printout.parts.items) printout.status) }
+    ensures ok { IfOk result (IsAnswered (IsSaid exploring.now text.now program.now)
+        (IsSaidMet exploring.now text.now program.now)) }
     ensures err { IfErr result (IsFaultIn exploring.now.memory exploring.now program.now) }
 {
     let lines = text.lines(alloc)?;
@@ -107,10 +110,10 @@ fn in_memory(
     wording: &Wording<'_, '_>,
     program: &Program,
     lines: &[u32],
-) -> Result<Printout, Fault>
-    ensures ok { IfOk result (λ printout.
-        IsAnswerTo exploring.now.memory exploring.now (wording_of wording.now) program.now lines.now
-        (whole_text printout.parts.items) printout.status) }
+) -> Result<Answered, Fault>
+    ensures ok { IfOk result (IsAnswered
+        (IsAnswerTo exploring.now.memory exploring.now (wording_of wording.now) program.now lines.now)
+        (IsMetIn exploring.now.memory exploring.now (wording_of wording.now) program.now lines.now)) }
     ensures err { IfErr result (IsFaultIn exploring.now.memory exploring.now program.now) }
 {
     match exploring.memory {
@@ -127,16 +130,17 @@ fn of_flat(
     wording: &Wording<'_, '_>,
     program: &Program,
     lines: &[u32],
-) -> Result<Printout, Fault>
-    ensures ok { IfOk result (λ printout.
-        IsFlatAnswer exploring.now.outcome exploring.now.ends exploring.now.ignores_races exploring.now
-        (wording_of wording.now) program.now lines.now
-        (whole_text printout.parts.items) printout.status) }
+) -> Result<Answered, Fault>
+    ensures ok { IfOk result (IsAnswered
+        (IsFlatAnswer exploring.now.outcome exploring.now.ends exploring.now.ignores_races exploring.now
+        (wording_of wording.now) program.now lines.now)
+        (IsFlatMet exploring.now.outcome exploring.now.ends exploring.now.ignores_races exploring.now
+        (wording_of wording.now) program.now lines.now)) }
     ensures err { IfErr result (IsFlatFault exploring.now.outcome exploring.now.ends
         exploring.now.ignores_races exploring.now program.now) }
 {
     match exploring.outcome {
-        Some(outcome) => one_outcome(alloc, exploring, program, lines, outcome.number),
+        Some(outcome) => printed(one_outcome(alloc, exploring, program, lines, outcome.number)),
         None if exploring.ends => ends_asked(alloc, exploring, wording, program, lines),
         None if exploring.ignores_races => races_ignored(alloc, exploring, wording, program, lines),
         None => every_order(alloc, exploring, wording, program, lines),
@@ -150,17 +154,18 @@ fn of_lazy(
     wording: &Wording<'_, '_>,
     program: &Program,
     lines: &[u32],
-) -> Result<Printout, Fault>
-    ensures ok { IfOk result (λ printout.
-        IsLazyAnswer exploring.now.outcome exploring.now.outcomes exploring.now
-        (wording_of wording.now) program.now lines.now
-        (whole_text printout.parts.items) printout.status) }
+) -> Result<Answered, Fault>
+    ensures ok { IfOk result (IsAnswered
+        (IsLazyAnswer exploring.now.outcome exploring.now.outcomes exploring.now
+        (wording_of wording.now) program.now lines.now)
+        (IsOrdersMet exploring.now.outcome exploring.now.outcomes exploring.now
+        (wording_of wording.now) program.now lines.now)) }
     ensures err { IfErr result (IsLazyFault exploring.now.outcome exploring.now.outcomes
         exploring.now program.now) }
 {
     match exploring.outcome {
-        Some(outcome) => one_lazy_run(alloc, exploring, program, lines, outcome.number),
-        None if exploring.outcomes => all_lazy_runs(alloc, exploring, program),
+        Some(outcome) => printed(one_lazy_run(alloc, exploring, program, lines, outcome.number)),
+        None if exploring.outcomes => printed(all_lazy_runs(alloc, exploring, program)),
         None => every_order(alloc, exploring, wording, program, lines),
     }
 }
@@ -173,17 +178,25 @@ fn of_exact(
     wording: &Wording<'_, '_>,
     program: &Program,
     lines: &[u32],
-) -> Result<Printout, Fault>
-    ensures ok { IfOk result (λ printout.
-        IsExactAnswer exploring.now.outcome exploring.now.outcomes options exploring.now
-        (wording_of wording.now) program.now lines.now
-        (whole_text printout.parts.items) printout.status) }
+) -> Result<Answered, Fault>
+    ensures ok { IfOk result (IsAnswered
+        (IsExactAnswer exploring.now.outcome exploring.now.outcomes options exploring.now
+        (wording_of wording.now) program.now lines.now)
+        (IsOrdersMet exploring.now.outcome exploring.now.outcomes exploring.now
+        (wording_of wording.now) program.now lines.now)) }
     ensures err { IfErr result (IsExactFault exploring.now.outcome exploring.now.outcomes options
         exploring.now program.now) }
 {
     match exploring.outcome {
-        Some(outcome) => one_exact_run(alloc, exploring, options, program, lines, outcome.number),
-        None if exploring.outcomes => all_exact_runs(alloc, exploring, options, program),
+        Some(outcome) => printed(one_exact_run(
+            alloc,
+            exploring,
+            options,
+            program,
+            lines,
+            outcome.number,
+        )),
+        None if exploring.outcomes => printed(all_exact_runs(alloc, exploring, options, program)),
         None => every_order(alloc, exploring, wording, program, lines),
     }
 }
@@ -195,10 +208,10 @@ fn every_order(
     wording: &Wording<'_, '_>,
     program: &Program,
     lines: &[u32],
-) -> Result<Printout, Fault>
-    ensures ok { IfOk result (λ printout.
-        ShowsOrders exploring.now (wording_of wording.now) program.now lines.now
-        (whole_text printout.parts.items) printout.status) }
+) -> Result<Answered, Fault>
+    ensures ok { IfOk result (IsAnswered
+        (ShowsOrders exploring.now (wording_of wording.now) program.now lines.now)
+        (MeetsOrders exploring.now (wording_of wording.now) program.now lines.now)) }
     ensures err { IfErr result (HasOrdersFault exploring.now program.now) }
 {
     let nodes = exploring.nodes.count;
@@ -213,10 +226,11 @@ fn every_order(
         most as usize,
         outcomes,
     ) {
-        Ok(told) => Ok(Printout {
+        Ok(Told::All(told)) => Ok(Answered::Printed(Printout {
             parts: told.parts,
             status: told.status,
-        }),
+        })),
+        Ok(Told::Many(parts)) => Ok(Answered::Met(parts, Fault::TooManyStates(most))),
         Err(ExploreFault::TooMany) => Err(Fault::TooManyStates(most)),
         Err(ExploreFault::NoMemory) => Err(Fault::NoMemory),
         Err(ExploreFault::BadNodes) => unreachable!(),
@@ -230,19 +244,20 @@ fn races_ignored(
     wording: &Wording<'_, '_>,
     program: &Program,
     lines: &[u32],
-) -> Result<Printout, Fault>
-    ensures ok { IfOk result (λ printout.
-        ShowsFindings exploring.now (wording_of wording.now) program.now lines.now
-        (whole_text printout.parts.items) printout.status) }
+) -> Result<Answered, Fault>
+    ensures ok { IfOk result (IsAnswered
+        (ShowsFindings exploring.now (wording_of wording.now) program.now lines.now)
+        (MeetsFindings exploring.now (wording_of wording.now) program.now lines.now)) }
     ensures err { IfErr result (HasFindingsFault exploring.now program.now) }
 {
     let nodes = exploring.nodes.count;
     let most = exploring.most.count;
     match findings_told(alloc, wording, program, lines, nodes, most as usize) {
-        Ok(told) => Ok(Printout {
+        Ok(Told::All(told)) => Ok(Answered::Printed(Printout {
             parts: told.parts,
             status: told.status,
-        }),
+        })),
+        Ok(Told::Many(parts)) => Ok(Answered::Met(parts, Fault::TooManyStates(most))),
         Err(ExploreFault::TooMany) => Err(Fault::TooManyStates(most)),
         Err(ExploreFault::NoMemory) => Err(Fault::NoMemory),
         Err(ExploreFault::BadNodes) => unreachable!(),
@@ -256,20 +271,21 @@ fn ends_asked(
     wording: &Wording<'_, '_>,
     program: &Program,
     lines: &[u32],
-) -> Result<Printout, Fault>
-    ensures ok { IfOk result (λ printout.
-        ShowsEnds exploring.now (wording_of wording.now) program.now lines.now
-        (whole_text printout.parts.items) printout.status) }
+) -> Result<Answered, Fault>
+    ensures ok { IfOk result (IsAnswered
+        (ShowsEnds exploring.now (wording_of wording.now) program.now lines.now)
+        (MeetsEnds exploring.now (wording_of wording.now) program.now lines.now)) }
     ensures err { IfErr result (HasLineFault exploring.now program.now) }
 {
     let nodes = exploring.nodes.count;
     let most = exploring.most.count;
     let races = !exploring.ignores_races;
     match explored_ends(alloc, wording, program, lines, nodes, most as usize, races) {
-        Ok(told) => Ok(Printout {
+        Ok(Told::All(told)) => Ok(Answered::Printed(Printout {
             parts: told.parts,
             status: told.status,
-        }),
+        })),
+        Ok(Told::Many(parts)) => Ok(Answered::Met(parts, Fault::TooManyStates(most))),
         Err(ExploreFault::TooMany) => Err(Fault::TooManyStates(most)),
         Err(ExploreFault::NoMemory) => Err(Fault::NoMemory),
         Err(ExploreFault::BadNodes) => unreachable!(),

@@ -6,7 +6,7 @@ ghost use Rattle.lrc_report.specs.Output.{AppendsFront};
 ghost use Rattle.lrc_cli.specs.Answer.{Answers, KeepsRaces};
 ghost use Rattle.lrc_cli_args.specs.Files.{names_events, starts_threads};
 ghost use Rattle.lrc_cli_answer.specs.FaultLine.{fault_line};
-ghost use Rattle.lrc_cli.specs.Performance.{IsPrintedOrCut, IsWritten, Performs};
+ghost use Rattle.lrc_cli.specs.Performance.{IsBrokenOff, IsPrintedOrCut, IsWritten, Performs};
 ghost use Rattle.lrc_judge_text.specs.PairsTold.{HasItsRaces, told_text};
 ghost use Rattle.lrc_text.specs.Parts.{whole_text};
 ghost use Rattle.lrc_cli_args.specs.declared.choice.Choice.{Choice as AnyChoice};
@@ -21,6 +21,7 @@ use lrc_judge_text::broken_off::BrokenOff;
 use lrc_judge_text::pairs::{PairsJudgement, put_pairs};
 use lrc_report::output::{Output, put, put_parts};
 use std::alloc::Global;
+use std::io;
 use std::io::Write;
 use std::sync::Wait;
 use std::thread::Threads;
@@ -29,8 +30,9 @@ use std::thread::Threads;
 /// one. Returns the exit status.
 ///
 /// The output goes to `out`. On a fault its line goes to `err`, and the status is 1. Nothing goes to `out` then, except
-/// that `judge` with `--pairs` may have written some pairs. After a failed write nothing more is written, and the
-/// status is 1. The parts of a text are written one by one, and neither writer is flushed.
+/// that `judge` with `--pairs` may have written some pairs, and `explore` what it met before it gave up. After a failed
+/// write nothing more is written, and the status is 1. The parts of a text are written one by one, and neither writer is
+/// flushed.
 pub fn perform<W: Write, E: Write>(
     alloc: Global,
     choice: &Choice<'_>,
@@ -107,6 +109,7 @@ pub fn tell<W: Write, E: Write>(
     match answered {
         Ok(Answered::Printed(printout)) => print(&printout, out),
         Ok(Answered::Judged(judgement)) => print_pairs(alloc, &judgement, out, err),
+        Ok(Answered::Met(parts, fault)) => print_met(alloc, &parts, fault, out, err),
         Err(fault) => complain(alloc, fault, err),
     }
 }
@@ -157,6 +160,37 @@ fn print_pairs<W: Write, E: Write>(
         Ok(()) => judgement.status,
         Err(BrokenOff::Unwritten(_)) => 1,
         Err(BrokenOff::NoMemory) => put_line(NO_MEMORY_LINE, err),
+    }
+}
+
+// Writes what a search met that gives up, and the line of its fault behind it.
+fn print_met<W: Write, E: Write>(
+    alloc: Global,
+    parts: &[Vec<u8>],
+    fault: Fault,
+    out: &mut W,
+    err: &mut E,
+) -> u8
+    ensures { IsBrokenOff (W.contents out.old) (W.contents out.new) (E.contents err.old)
+        (E.contents err.new) (whole_text parts.now) fault result }
+{
+    match write_parts(parts, out) {
+        Ok(()) => complain(alloc, fault, err),
+        Err(_) => 1,
+    }
+}
+
+// Writes the parts of a text.
+fn write_parts<W: Write>(parts: &[Vec<u8>], out: &mut W) -> io::Result<()>
+    ensures ok { OnOk result (Appends (W.contents out.old) (W.contents out.new)
+        (whole_text parts.now)) }
+    ensures err { OnErr result (AppendsFront (W.contents out.old) (W.contents out.new)
+        (whole_text parts.now)) }
+{
+    let mut output = Output::new(out);
+    match put_parts(&mut output, parts) {
+        Ok(()) => Ok(()),
+        Err(broken) => Err(broken),
     }
 }
 

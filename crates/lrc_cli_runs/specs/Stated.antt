@@ -11,6 +11,7 @@ use Rattle.lrc_states.specs.States.{AreStates, IsUnshown, Told}
 use Rattle.lrc_states.specs.declared.fault.StatesFault.TheVariants.{TooLong}
 use Rattle.lrc_states.specs.declared.told.Range.{Range}
 use Rattle.lrc_step.specs.Lines.{document, run_lines}
+use Rattle.lrc_step.specs.EndLines.{TellsEnds}
 use Rattle.lrc_step.specs.RaceLines.{TellsRaces}
 use Rattle.lrc_step.specs.declared.shown.Part as races
 use Rattle.lrc_step.specs.ReasonLines.{TellsWhys}
@@ -69,17 +70,19 @@ end_shown (Some position) count = min (position + 1) count
 abbrev pub acts_shown : Part → (count : ℕ) → races.Part
 acts_shown part count = record { from = first_shown part.from count; until = end_shown part.to count }
 
--- The document that shows the turns of a part of the run, under the name of the program's file: the states, the run with reasons, its races,
--- and why the acts of the part are as they are.
+-- The document that shows the turns of a part of the run, under the name of the program's file: the states, the run with reasons and how its
+-- nodes ended, its races, and why the acts of the part are as they are.
 pub record IsStepped (name : List ℕ) (part : Part) (text : ReadText) (program : Program) (options : RunOptions) (run : Run) (out : List ℕ) : Type 0 where
   pub states : List ℕ
   pub are_states : IsStated part text program options run states
   pub explained : List ℕ
   pub is_explained : IsExplained text program options run.report.acts.items run.report.first_race explained
+  pub ends : List ℕ
+  pub tells_ends : TellsEnds text program options.nodes.count options.steps.count run.report.acts.items explained ends
   pub lines : List ℕ
   pub are_lines : AreLinesIn text program options.nodes.count run.report.acts.items lines
   pub races : List ℕ
   pub tells_races : TellsRaces run.report.acts.items lines (acts_shown part (length run.report.acts.items)) races
   pub reasons : List ℕ
   pub tells_whys : TellsWhys text program options.nodes.count options.size run.report.acts.items (acts_shown part (length run.report.acts.items)) reasons
-  pub whole : out ≡ document (run_lines name (shown_text text) states explained races reasons)
+  pub whole : out ≡ document (run_lines name (shown_text text) states ends races reasons)

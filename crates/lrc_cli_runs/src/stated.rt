@@ -6,6 +6,7 @@ ghost use Rattle.lrc_cli_runs.specs.Explained.{IsExplained};
 ghost use Rattle.lrc_cli_runs.specs.Lines.{AreLinesIn};
 ghost use Rattle.lrc_cli_runs.specs.Runs.{IsRunWith};
 ghost use Rattle.lrc_cli_runs.specs.Stated.{IsStated, IsStatesFault, IsStepped, acts_shown, end_shown, first_shown, name_of, range_of};
+ghost use Rattle.lrc_step.specs.EndLines.{TellsEnds};
 ghost use Rattle.lrc_step.specs.RaceLines.{TellsRaces};
 ghost use Rattle.lrc_step.specs.ReasonLines.{TellsWhys};
 ghost use Rattle.lrc_text.specs.Parts.{whole_text};
@@ -20,7 +21,7 @@ use lrc_lines::walks::lines_of_acts;
 use lrc_node::options_of;
 use lrc_source::source::Source;
 use lrc_states::{Range, StatesFault, Told, states_parts};
-use lrc_step::{Part as ShownActs, races_part, reasons_part, step_document};
+use lrc_step::{Part as ShownActs, explain_part, races_part, reasons_part, step_document};
 use lrc_trace::act::Act;
 use lrc_world::run::Run;
 use std::alloc::{AllocError, Global};
@@ -142,6 +143,24 @@ fn explained_text(
     joined(alloc, &parts)
 }
 
+// The line of the run with reasons, of which this was printed.
+fn ends_text(
+    alloc: Global,
+    source: &Source<'_>,
+    options: &RunOptions<'_>,
+    run: &Run,
+    explained: &[u8],
+) -> Result<Vec<u8>, AllocError>
+    ensures { IfOk result (λ told. TellsEnds source.now.text source.now.program
+        options.now.nodes.count options.now.steps.count run.now.report.acts.items explained.now
+        told.items) }
+{
+    let acts = run.report.acts.as_slice();
+    let nodes = options.nodes.count as u8;
+    let steps = options.steps.count;
+    explain_part(alloc, source, nodes, steps, acts, explained)
+}
+
 // The lines of a part of a run's races.
 fn races_text(
     alloc: Global,
@@ -204,10 +223,11 @@ pub(crate) fn stepped(
     let states = stated(alloc, part, source, options, run)?;
     let order = happens_before(alloc, &run.report.acts)?;
     let explained = explained_text(alloc, source, options, run, &order)?;
+    let ends = ends_text(alloc, source, options, run, &explained)?;
     let races = races_text(alloc, part, source, options, run, &order)?;
     let reasons = reasons_text(alloc, part, source, options, run, &order)?;
     let name = name_of(alloc, options.file.as_bytes())?;
     let text = source.text().shown();
-    let document = step_document(alloc, &name, text, states, &explained, races, reasons)?;
+    let document = step_document(alloc, &name, text, states, ends, races, reasons)?;
     Ok(document)
 }

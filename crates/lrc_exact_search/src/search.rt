@@ -97,15 +97,10 @@ fn task_of<'c>(code: &'c Code<'c>, layout: Layout, most: usize) -> Task<'c>
     ensures layout { result.layout ≡ layout }
     ensures most { result.most ≡ most }
 {
-    let (instructions, start) = code.parts();
+    let (flat, start) = Flat::of(code, layout.nodes);
     Task {
         program: code.program(),
-        flat: Flat {
-            code: instructions,
-            words: code.words(),
-            locks: code.locks(),
-            nodes: layout.nodes,
-        },
+        flat,
         start,
         layout,
         most,

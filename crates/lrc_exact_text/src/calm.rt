@@ -6,7 +6,7 @@ ghost use Rattle.lrc_exec.specs.Nodes.{AreNodes};
 ghost use Rattle.lrc_exact_text.specs.Calm.{AreCalmOutcomes, IsCalmRun};
 
 use indexmap::IndexSet;
-use lrc_explore_less::answers::{explore, outcomes};
+use lrc_explore_less::answers::{Explored, explore, outcomes};
 use lrc_explore_text::outcome_run::outcome_run;
 use lrc_orders::outcomes::Outcome;
 use lrc_orders::search::{ExploreFault, Verdict};
@@ -81,8 +81,8 @@ fn is_calm(alloc: Global, program: &Program, nodes: u8, most: usize) -> Result<b
     ensures { IfOk result (λ calm. calm ≡ true → HasNoRace program.now nodes) }
 {
     match explore(alloc, program, u32::from(nodes), most) {
-        Ok(Verdict::RaceFree(_)) => Ok(true),
-        Ok(Verdict::Racy { .. }) | Err(ExploreFault::TooMany) => Ok(false),
+        Ok(Explored::Told(Verdict::RaceFree(_))) => Ok(true),
+        Ok(_) | Err(ExploreFault::TooMany) => Ok(false),
         Err(ExploreFault::NoMemory) => Err(AllocError),
         Err(ExploreFault::BadNodes) => unreachable!(),
     }

@@ -8,8 +8,8 @@ ghost use Rattle.lrc_exec.specs.Meaning.{operated, combined, value_of};
 use lrc_program::{Expression, Operator};
 use lrc_trace::act::Cause;
 
-// What an operator gives; none is a division by zero.
-fn apply(operator: Operator, x: u64, y: u64) -> Option<u64>
+/// Returns what an operator gives, modulo 2^64, or none if it divides by zero.
+pub fn apply(operator: Operator, x: u64, y: u64) -> Option<u64>
     ensures { result ≡ operated operator x y }
 {
     match operator {

@@ -1,6 +1,6 @@
 -- What is answered.
 use Rattle.std.proofs.Common.{◌≡◌, ℕ, Bool, List, [], ◌∷◌, ◌++◌, sym, ◌∙◌, subst, append-nil}
-use Rattle.std.specs.Prelude.{Some, true, Result, Ok, Err, OnOk}
+use Rattle.std.specs.Prelude.{true, Result, Ok, Err, OnOk}
 use Rattle.lrc_program.specs.declared.Program.{Program}
 use Rattle.lrc_trace.specs.declared.act.Act.{Act}
 use Rattle.lrc_exec.specs.Spots.{IsFlatOf}
@@ -16,7 +16,8 @@ use Rattle.lrc_orders_laws.proofs.Settled.{ends_in_race}
 use Rattle.lrc_explore.specs.declared.task.Task.{Task}
 use Rattle.lrc_explore.specs.declared.task.Found.{Found}
 use Rattle.lrc_explore.specs.declared.task.End.TheVariants.{Meeting}
-use Rattle.lrc_explore.specs.Answers.{IsEnd, IsFaultOf, IsSearchFault, IsStuckFirst, looked_at}
+use Rattle.lrc_explore.specs.Answers.{IsEnd, IsFaultOf, IsSearchFault, looked_at}
+use Rattle.lrc_explore.specs.Met.{IsStuckAt}
 use Rattle.lrc_explore.specs.Reached.{AreFound, IsTask}
 use Rattle.lrc_explore.specs.Traps.{LeadIntoTrap}
 use Rattle.lrc_explore.specs.Told.{LeadTo}
@@ -32,7 +33,7 @@ race_answer task found place p q acts order led end is =
     subst (EndsInRace task.program.now task.flat.nodes) (sym is) (ends_in_race task.program.now task.flat.nodes acts led.machine p q led.led meet)
 
 pub stuck_answer : (task : Task) (found : Found) (place : ℕ) (acts : List Act) (order : List ℕ) → AreFound task found → LeadTo task found place acts
-    → IsStuckFirst task found.table.rows (Some place) → order ≡ nodes_of_acts acts ++ [] → GetsStuck task.program.now task.flat.nodes order
+    → IsStuckAt task found.table.rows place → order ≡ nodes_of_acts acts ++ [] → GetsStuck task.program.now task.flat.nodes order
 stuck_answer task found place acts order f led first is =
     let key = first.0 in
     let same = copy_same task.flat key.state led.key.state (row_copy found.table.rows place key led.key first.1 led.there).state in

@@ -4,7 +4,9 @@ pub mod Keys
 pub mod NoteLists
 pub mod Stepping
 pub mod Trapping
+pub mod Trapless
 pub mod Seeking
+pub mod ManyStates
 pub mod Telling
 pub mod Answering
 pub mod Fitting

@@ -1,6 +1,6 @@
 -- A search that goes through what was found.
 use Rattle.std.proofs.Common.{◌≡◌, ℕ, ◌+◌, ◌<◌, ◌≤◌, List, [], Bool, true, false, inl, inr, refl, sym, ◌∙◌, subst, arith}
-use Rattle.std.specs.Prelude.{◌↔◌, All, IsTrue, MatchOption, Option, Some, None}
+use Rattle.std.specs.Prelude.{◌↔◌, All, IsTrue, MatchOption, Option, Some, None, is_some}
 use Rattle.std.proofs.lemmas.Bool.{cases_eq, true≢false}
 use Rattle.lrc_trace.specs.declared.act.Act.{Act}
 use Rattle.lrc_orders.specs.declared.noted.Noted.{Noted}
@@ -32,7 +32,8 @@ use Rattle.lrc_explore.specs.declared.task.Task.{Task}
 use Rattle.lrc_explore.specs.declared.task.Found.{Found}
 use Rattle.lrc_explore.specs.Reached.{AreCalm, AreExpanded, AreFound, AreNowhereStuck, AreReached, HasStart, IsExpanded, IsMore, IsReached, IsTask}
 use Rattle.lrc_explore.specs.Answers.{AddsOnly, AreGathered, AreSound, HasMoreSettled, IsFault, IsLongFault, IsSearchFault, starts_long, settles_long, is_long, has_more, IsGathered, IsGatheredAt, IsSeen, IsStuckFirst, IsThrough, first_stuck}
-use Rattle.lrc_explore.specs.Traps.{IsStepTrap, IsTrapSoFar, ShowsStartTrap, first_trap, start_trap}
+use Rattle.lrc_explore.specs.Met.{IsTrapMet}
+use Rattle.lrc_explore.specs.Traps.{AreRowsTrapless, IsStepTrap, IsTrapSoFar, KeepsTrapless, ShowsStartTrap, first_trap, start_trap}
 use Rattle.lrc_explore.specs.declared.task.Trapping.{Trapping}
 use Rattle.lrc_explore.specs.declared.task.Trapping.TheVariants as trapping
 use Rattle.lrc_orders_settling.specs.declared.step.Step.{Step}
@@ -67,25 +68,32 @@ pub record Seeking (task : Task) (first now : Found) (place : ℕ) (races : Bool
   pub expanded : AreExpanded task now.table.rows place
   pub halted : IsStuckSoFar task now.table.rows place stuck
   pub traps : IsTrapSoFar task now.table.rows place trap
+  pub trapless : is_some trap ≡ false → AreRowsTrapless task now.table.rows
 
 start_so_far : (task : Task) (all : Rows) (start : Bool) → ShowsStartTrap task start → IsTrapSoFar task all 0 (start_trap start)
 start_so_far task all true s = s.made refl
 start_so_far task all false s = record { start = s.each; steps = λ k key lt at. absurd (omega (arith, lt)) }
 
+start_none : (start : Bool) → is_some (start_trap start) ≡ false → start ≡ false
+start_none true e = absurd (true≢false e)
+start_none false e = refl
+
 pub seeking_first : (task : Task) (first : Found) (races start : Bool) → AreFound task first → ShowsStartTrap task start
-    → Seeking task first first 0 races None (start_trap start)
-seeking_first task first races start f s = record {
+    → (start ≡ false → AreRowsTrapless task first.table.rows) → Seeking task first first 0 races None (start_trap start)
+seeking_first task first races start f s t = record {
   found = f;
   more = record { rows = rows_not first.table.rows; origins = grows_not first.origins.items first.origins.items refl };
   calm = λ e k key lt at. absurd (omega (arith, lt));
   expanded = λ k lt key at. absurd (omega (arith, lt));
   halted = λ k key lt at. absurd (omega (arith, lt));
   traps = start_so_far task first.table.rows start s;
+  trapless = λ e. t (start_none start e);
 }
 
 module _ (task : Task) (first old new : Found) (place : ℕ) (races : Bool) (stuck : Option ℕ) (trap : Option Trapping)
     (s : Seeking task first old place races stuck trap) (f : AreFound task new) (m : IsMore old new) (within : place < row_count old.table.rows)
-    (halts : Bool) (step : Option Step) (seen : IsSeen task new place races halts step) where
+    (halts : Bool) (step : Option Step) (seen : IsSeen task new place races halts step)
+    (keeps : KeepsTrapless task old.table.rows new.table.rows (is_some step)) where
   old_at : (k : ℕ) (key : Noted) → k < place → IsRowAt new.table.rows k key → IsRowAt old.table.rows k key
   old_at k key lt at = was_there old.table.rows new.table.rows k key m.rows s.found.reached.full (omega (arith, lt, within)) at
 
@@ -147,6 +155,12 @@ module _ (task : Task) (first old new : Found) (place : ℕ) (races : Bool) (stu
     ];
   }
 
+  trapless_on : (o : Option Trapping) (t : Option Step) → (is_some o ≡ false → AreRowsTrapless task old.table.rows)
+      → KeepsTrapless task old.table.rows new.table.rows (is_some t) → is_some (first_trap o t place) ≡ false → AreRowsTrapless task new.table.rows
+  trapless_on (Some there) t was here e = absurd (true≢false e)
+  trapless_on None (Some taken) was here e = absurd (true≢false e)
+  trapless_on None None was here e = here e (was refl)
+
   pub seeking_on : Seeking task first new (place + 1) races (first_stuck stuck halts place) (first_trap trap step place)
   seeking_on = record {
     found = f;
@@ -155,6 +169,7 @@ module _ (task : Task) (first old new : Found) (place : ℕ) (races : Bool) (stu
     expanded = seen_expanded;
     halted = stuck_on stuck halts seen.halted s.halted;
     traps = trap_on trap step seen.traps s.traps;
+    trapless = trapless_on trap step s.trapless keeps;
   }
 
 stuck_end : (task : Task) (all : Rows) (index : ℕ) → row_count all ≤ index → (o : Option ℕ) → IsStuckSoFar task all index o → IsStuckFirst task all o
@@ -165,6 +180,12 @@ trap_end : (task : Task) (all : Rows) (index : ℕ) → row_count all ≤ index 
     → IsTrapSoFar task all (row_count all) o
 trap_end task all index le None nowhere = record { start = nowhere.start; steps = λ k key lt at. nowhere.steps k key (omega (arith, lt, le)) at }
 trap_end task all index le (Some there) is = is
+
+-- among too many states
+pub trap_met : (task : Task) (all : Rows) (index : ℕ) (o : Option Trapping) → IsTrapSoFar task all index o
+    → (is_some o ≡ false → AreRowsTrapless task all) → IsTrapMet task all o
+trap_met task all index None so trapless = trapless refl
+trap_met task all index (Some there) so trapless = so
 
 pub through : (task : Task) (first now : Found) (place : ℕ) (races : Bool) (stuck : Option ℕ) (trap : Option Trapping)
     → Seeking task first now place races stuck trap → row_count now.table.rows ≤ place → IsThrough task now races stuck trap
@@ -256,14 +277,14 @@ exact task all found reached start sound done noting notes =
 -- ---- too many states
 
 -- what a row stands for keeps no value that is dead
-bare_key : (task : Task) (found : Found) (place : ℕ) (key : Noted) → AreFound task found → IsRowAt found.table.rows place key
+pub bare_key : (task : Task) (found : Found) (place : ℕ) (key : Noted) → AreFound task found → IsRowAt found.table.rows place key
     → All (λ (spot : Spot). forgot task.live.items spot ≡ spot) key.state.spots.items
 bare_key task found place key f at =
     let keys = found.table.rows.threads.keys in
     threads_of_row (λ (spot : Spot). forgot task.live.items spot ≡ spot) keys found.table.rows.nodes at.row.threads key.state.spots.items at.stands.threads
     (f.table (means_of task) (means_are task)).bare
 
-pub has_more_settled : (task : Task) (found : Found) (most : ℕ) (races : Bool) → AreFound task found → most < row_count found.table.rows
+abbrev pub has_more_settled : (task : Task) (found : Found) (most : ℕ) (races : Bool) → AreFound task found → most < row_count found.table.rows
     → (races ≡ true → AreCalm task found.table.rows (row_count found.table.rows)) → HasMoreSettled task most races
 has_more_settled task found most races f many calm =
     let all = found.table.rows in

@@ -53,7 +53,7 @@ start_led task acts state s t = record {
 
 -- ---- the steps from a state
 
-was_at : (old new : Rows) (place : ℕ) (key : Noted) → WidensRows old new → IsRowPlace old place → IsRowAt new place key → IsRowAt old place key
+pub was_at : (old new : Rows) (place : ℕ) (key : Noted) → WidensRows old new → IsRowPlace old place → IsRowAt new place key → IsRowAt old place key
 was_at old new place key w full at = before IsRowAt row_count WidensRows IsNotedCopy row_store old new place key w full at
 
 pub trap_grown : (task : Task) (old new : Rows) (place : ℕ) (step : Step) (traps : Bool) → WidensRows old new → IsRowPlace old place

@@ -1,5 +1,6 @@
 pub mod Reached
 pub mod Answers
 pub mod Traps
+pub mod Met
 pub mod Told
 pub mod Ended

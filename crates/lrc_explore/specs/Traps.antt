@@ -7,6 +7,7 @@ use Rattle.lrc_orders.specs.declared.noted.Noted.{Noted}
 use Rattle.lrc_orders.specs.Traps.{has_trap}
 use Rattle.lrc_orders_laws.specs.Settling.{Settles}
 use Rattle.lrc_orders_laws.specs.Steps.{IsSettledState}
+use Rattle.lrc_orders_live.specs.Like.{AreLike}
 use Rattle.lrc_orders_settling.specs.declared.step.Step.{Step}
 use Rattle.lrc_orders_settling.specs.Taking.{Takes}
 use Rattle.lrc_orders_table.specs.declared.rows.Rows.{Rows}
@@ -91,6 +92,22 @@ pub record NowhereTraps (task : Task) (all : Rows) (index : ℕ) : Type 0 where
 abbrev pub IsTrapSoFar : Task → Rows → (index : ℕ) → Option Trapping → Type 0
 IsTrapSoFar task all index None = NowhereTraps task all index
 IsTrapSoFar task all index (Some there) = IsTrapping task all there
+
+-- an order in which no node traps leads to a settled state of the program that stands behind what is kept
+pub record IsReachedTrapless (task : Task) (key : Noted) : Type 0 where
+  pub acts : List Act
+  pub machine : Plain
+  pub led : IsSettledState task.program.now task.flat.nodes acts machine
+  pub alike : AreLike machine (plain_at task.flat key.state)
+  pub trapless : has_trap acts ≡ false
+
+-- so it is of all
+abbrev pub AreRowsTrapless : Task → Rows → Type 0
+AreRowsTrapless task all = (k : ℕ) (key : Noted) → IsRowAt all k key → IsReachedTrapless task key
+
+-- so it stays, if no node traps on the way to what is new
+abbrev pub KeepsTrapless : Task → (old new : Rows) → (traps : Bool) → Type 0
+KeepsTrapless task old new traps = traps ≡ false → AreRowsTrapless task old → AreRowsTrapless task new
 
 -- the acts lead to a settled state of the program, and one of them is a trap
 pub record LeadIntoTrap (task : Task) (acts : List Act) : Type 0 where

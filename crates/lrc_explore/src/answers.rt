@@ -10,7 +10,7 @@ ghost use Rattle.lrc_explore.specs.Answers.{FitsSettled, FitsSettledNoted, IsAns
 ghost use Rattle.lrc_orders.specs.Verdict.{AreFindings, FindsNoRace};
 ghost use Rattle.lrc_explore.specs.Reached.{IsTask};
 
-use crate::task::{End, Found, Task, Trapping};
+use crate::task::{End, Found, Sought, Task, Trapping};
 use indexmap::IndexSet;
 use lrc_exec::code::Code;
 use lrc_exec::spot::Flat;
@@ -188,7 +188,11 @@ pub fn count_of(nodes: u32) -> Result<u8, ExploreFault>
 }
 
 // The nodes of acts, in their order, and then these.
-fn order_of(alloc: Global, acts: &[Act], more: &[usize]) -> Result<Vec<usize>, AllocError>
+pub(crate) fn order_of(
+    alloc: Global,
+    acts: &[Act],
+    more: &[usize],
+) -> Result<Vec<usize>, AllocError>
     ensures { IfOk result (λ order. order.items ≡ nodes_of_acts acts.now ++ more.now) }
 {
     let mut order = Vec::new(alloc);
@@ -220,8 +224,11 @@ impl Found {
         ensures faults { IfErr result (IsSearchFault task.now true) }
     {
         let traps = self.begin(alloc, task)?;
-        let end = self.seek(alloc, task, true, traps)?;
-        self.verdict(alloc, task, end)
+        let sought = self.seek(alloc, task, true, traps)?;
+        match sought {
+            Sought::Ended(end) => self.verdict(alloc, task, end),
+            Sought::Many { .. } => Err(ExploreFault::TooMany),
+        }
     }
 
     // The same where races are not looked for.
@@ -235,10 +242,13 @@ impl Found {
         ensures faults { IfErr result (IsSearchFault task.now false) }
     {
         let traps = self.begin(alloc, task)?;
-        let end = self.seek(alloc, task, false, traps)?;
-        match end {
-            End::Meeting { .. } => unreachable!(),
-            End::Through { stuck, trap } => self.findings_told(alloc, task, stuck, trap),
+        let sought = self.seek(alloc, task, false, traps)?;
+        match sought {
+            Sought::Ended(end) => match end {
+                End::Meeting { .. } => unreachable!(),
+                End::Through { stuck, trap } => self.findings_told(alloc, task, stuck, trap),
+            },
+            Sought::Many { .. } => Err(ExploreFault::TooMany),
         }
     }
 
@@ -325,8 +335,7 @@ impl Found {
         let Some(place) = stuck else {
             return Ok(None);
         };
-        let acts = self.acts_to(alloc, task, place)?;
-        let order = order_of(alloc, &acts, &[])?;
+        let order = self.stuck_order(alloc, task, place)?;
         Ok(Some(order))
     }
 
@@ -349,8 +358,7 @@ impl Found {
         let Some(there) = trap else {
             return Ok(None);
         };
-        let acts = self.acts_into_trap(alloc, task, there)?;
-        let order = order_of(alloc, &acts, &[])?;
+        let order = self.trap_order(alloc, task, there)?;
         Ok(Some(order))
     }
 

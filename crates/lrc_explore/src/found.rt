@@ -168,14 +168,16 @@ fn first_step(trap: Option<Step>, traps: bool, step: Step) -> Option<Step>
 }
 
 impl Found {
-    ghost use Rattle.std.specs.Prelude.{◌≡◌, ◌<◌, All, IfOk, IfErr, MatchOption, OnOk};
+    ghost use Rattle.std.specs.Prelude.{◌≡◌, ◌<◌, All, IfOk, IfErr, MatchOption, OnOk, false, is_some};
     ghost use Rattle.lrc_orders_live.specs.Live.{forgot};
     ghost use Rattle.lrc_orders.specs.declared.noted.Noted.{Noted as Key};
     ghost use Rattle.lrc_orders_table.specs.Rows.{IsRowAt, StandsFor, row_count};
     ghost use Rattle.lrc_explore.specs.declared.task.Task.{Task as TheTask};
     ghost use Rattle.lrc_explore.specs.Reached.{AreFound, CannotTakeAt, HasAfterAt, HasStart, IsExpandedAt, IsFirstKey, IsKept, IsMore, IsNext, IsReached, IsStepOf, IsTask, LeadsTo};
     ghost use Rattle.lrc_explore.specs.Answers.{IsFault};
-    ghost use Rattle.lrc_explore.specs.Traps.{IsStepTrapAt, ShowsStartTrap, ShowsTrapAt, led_traps};
+    ghost use Rattle.lrc_orders_table.specs.Tables.{KeepsRows};
+    ghost use Rattle.lrc_explore.specs.Met.{IsOnlyNew};
+    ghost use Rattle.lrc_explore.specs.Traps.{AreRowsTrapless, IsStepTrapAt, KeepsTrapless, ShowsStartTrap, ShowsTrapAt, led_traps};
 
     /// Makes a list without states, for this many nodes.
     pub fn none(alloc: Global, nodes: usize) -> Found
@@ -197,6 +199,7 @@ impl Found {
         ensures start { OnOk result (HasStart task.now self.new.table.rows) }
         ensures some { OnOk result (0 < row_count self.new.table.rows) }
         ensures traps { IfOk result (ShowsStartTrap task.now) }
+        ensures trapless { IfOk result (λ traps. traps ≡ false → AreRowsTrapless task.now self.new.table.rows) }
         ensures faults { IfErr result (IsFault task.now) }
     {
         let mut acts = Vec::new(alloc);
@@ -218,6 +221,7 @@ impl Found {
         requires first { IsFirstKey task.now key }
         ensures found { OnOk result (AreFound task.now self.new) }
         ensures has { OnOk result (IsKept self.new.table.rows key) }
+        ensures one { OnOk result (row_count self.new.table.rows ≡ 1) }
     {
         let (_place, added) = self.table.add(&task.means(), key)?;
         if added {
@@ -243,6 +247,8 @@ impl Found {
         ensures more { OnOk result (IsMore self.old self.new) }
         ensures expanded { OnOk result (IsExpandedAt task.now self.new.table.rows place) }
         ensures trap { IfOk result (IsStepTrapAt task.now self.new.table.rows place) }
+        ensures trapless { IfOk result (λ trap. KeepsTrapless task.now self.old.table.rows
+            self.new.table.rows (is_some trap)) }
         ensures faults { IfErr result (IsFault task.now) }
     {
         let together = self.expand_step(alloc, task, place, Step::Together)?;
@@ -271,6 +277,8 @@ impl Found {
         ensures more { OnOk result (IsMore self.old self.new) }
         ensures after { OnOk result (HasAfterAt task.now self.new.table.rows place step) }
         ensures traps { IfOk result (ShowsTrapAt task.now self.new.table.rows place step) }
+        ensures trapless { IfOk result (KeepsTrapless task.now self.old.table.rows
+            self.new.table.rows) }
         ensures faults { IfErr result (IsFault task.now) }
     {
         let Some(led) = self.row_after(alloc, task, place, step)? else {
@@ -299,6 +307,7 @@ impl Found {
         requires step { IsStepOf task.now step }
         ensures found { OnOk result (AreFound task.now self.new) }
         ensures more { OnOk result (IsMore self.old self.new) }
+        ensures keeps { OnOk result (KeepsRows self.old.table self.new.table) }
         ensures taken { IfOk result (λ after. MatchOption after
             (CannotTakeAt task.now self.new.table.rows place step)
             (λ led. LeadsTo task.now self.new.table.rows place step led.row)) }
@@ -325,6 +334,8 @@ impl Found {
             → IsKept self.new.table.rows key) }
         ensures there { IfOk result (λ place. (key : Key) → StandsFor self.old.table.rows row key
             → IsRowAt self.new.table.rows place key) }
+        ensures only { IfOk result (IsOnlyNew (row_count self.old.table.rows)
+            (row_count self.new.table.rows)) }
     {
         let _most = task.most;
         let (place, added) = self.table.put(row)?;

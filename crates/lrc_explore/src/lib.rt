@@ -6,6 +6,7 @@ pub mod answers;
 pub mod ended;
 pub mod found;
 pub mod laws;
+pub mod met;
 mod notes;
 pub mod seek;
 pub mod task;

@@ -6,7 +6,7 @@ ghost use Rattle.lrc_orders.specs.Outcome.{HasOutcome};
 ghost use Rattle.lrc_explore.specs.Answers.{AddsOnly, first_stuck};
 ghost use Rattle.lrc_explore.specs.Traps.{first_trap, start_trap};
 
-use crate::task::{End, Found, Origin, Task, Trapping, Visit};
+use crate::task::{End, Found, Origin, Sought, Task, Trapping, Visit};
 use indexmap::IndexSet;
 use lrc_orders::outcomes::Outcome;
 use lrc_orders::search::ExploreFault;
@@ -63,8 +63,9 @@ impl Found {
     ghost use Rattle.lrc_orders_table.specs.Rows.{row_count, WidensRows};
     ghost use Rattle.lrc_orders.specs.Kept.{Grows};
     ghost use Rattle.lrc_explore.specs.Reached.{AreCalm, AreExpanded, AreFound, IsExpandedAt, IsMore, IsTask};
-    ghost use Rattle.lrc_explore.specs.Answers.{AreGathered, AreSound, FitsEnd, IsEnd, IsFault, IsGatheredAt, IsSearchFault, IsVisit};
-    ghost use Rattle.lrc_explore.specs.Traps.{ShowsStartTrap};
+    ghost use Rattle.lrc_explore.specs.Answers.{AreGathered, AreSound, IsFault, IsGatheredAt, IsSearchFault, IsVisit, MeetAt};
+    ghost use Rattle.lrc_explore.specs.Met.{FitsSought, IsSought, IsStuckMet, IsTrapMet, VisitKeeps};
+    ghost use Rattle.lrc_explore.specs.Traps.{AreRowsTrapless, ShowsStartTrap};
     ghost use Rattle.lrc_exec.specs.States.{plain_at};
     ghost use Rattle.lrc_orders.specs.declared.noted.Noted.{Noted as Key};
     ghost use Rattle.lrc_orders.specs.Meeting.{IsCalm, Meet};
@@ -73,33 +74,35 @@ impl Found {
 
     /// Looks for a state where two nodes meet, if `races` is true. If there is none, all states are found, and the answer
     /// tells the first of them at which the program is stuck, if any, and where a node traps first, if one does. `start`
-    /// says whether one traps as the start settles. Where it gives up for too many states, no two nodes meet at any of those
-    /// that were found, if `races` is true.
+    /// says whether one traps as the start settles. Where there are too many states, no two nodes meet at any of those that
+    /// were found, if `races` is true, and the answer tells the first of them at which the program is stuck. It fails if a
+    /// node makes so many free acts that the limit is reached, or if memory runs out.
     pub fn seek(
         &mut self,
         alloc: Global,
         task: &Task<'_>,
         races: bool,
         start: bool,
-    ) -> Result<End, ExploreFault>
+    ) -> Result<Sought, ExploreFault>
         requires task { IsTask task.now }
         requires found { AreFound task.now self.old }
         requires start { ShowsStartTrap task.now start }
+        requires trapless { start ≡ false → AreRowsTrapless task.now self.old.table.rows }
         ensures found { OnOk result (AreFound task.now self.new) }
         ensures more { OnOk result (IsMore self.old self.new) }
-        ensures end { IfOk result (IsEnd task.now self.new races) }
-        ensures fits { IfOk result (FitsEnd task.now self.new) }
-        ensures faults { IfErr result (IsSearchFault task.now races) }
+        ensures sought { IfOk result (IsSought task.now self.new races) }
+        ensures fits { IfOk result (FitsSought task.now self.new) }
+        ensures faults { IfErr result (IsFault task.now) }
     {
         let mut stuck = None;
         let mut trap = start_trap(start);
         let mut place = 0;
         while place < self.table.rows.len() {
             if self.table.rows.len() > task.most {
-                return self.meeting_from(task, place, races);
+                return Ok(self.end_from(task, place, races, trap));
             }
             match self.visit(alloc, task, place, races)? {
-                Visit::Meeting(p, q) => return Ok(End::Meeting { place, p, q }),
+                Visit::Meeting(p, q) => return Ok(Sought::Ended(End::Meeting { place, p, q })),
                 Visit::Past {
                     stuck: halts,
                     trap: step,
@@ -110,28 +113,71 @@ impl Found {
             }
             place += 1;
         }
-        Ok(End::Through { stuck, trap })
+        Ok(Sought::Ended(End::Through { stuck, trap }))
     }
 
-    // The first state from this place on where two nodes meet, if that is looked for, where there are more states than may
-    // be. If there is none, there are too many.
-    fn meeting_from(&self, task: &Task<'_>, first: usize, races: bool) -> Result<End, ExploreFault>
+    // Where a search ends that has found more states than may be: at the first from this place on where two nodes meet, if
+    // that is looked for; or with what it met at them.
+    fn end_from(&self, task: &Task<'_>, first: usize, races: bool, trap: Option<Trapping>) -> Sought
         requires found { AreFound task.now self.now }
         requires calm { races ≡ true → AreCalm task.now self.now.table.rows first }
         requires within { first < row_count self.now.table.rows }
         requires many { task.now.most < row_count self.now.table.rows }
-        ensures end { IfOk result (IsEnd task.now self.now races) }
-        ensures fits { IfOk result (FitsEnd task.now self.now) }
-        ensures faults { IfErr result (IsSearchFault task.now races) }
+        requires traps { IsTrapMet task.now self.now.table.rows trap }
+        ensures sought { IsSought task.now self.now races result }
+        ensures fits { FitsSought task.now self.now result }
+    {
+        match self.meeting_from(task, first, races) {
+            Some(meeting) => Sought::Ended(End::Meeting {
+                place: meeting.0,
+                p: meeting.1,
+                q: meeting.2,
+            }),
+            None => {
+                let stuck = self.stuck_of_all(task);
+                Sought::Many { stuck, trap }
+            }
+        }
+    }
+
+    // The first state from this place on where two nodes meet, if that is looked for, with the least two that do.
+    fn meeting_from(
+        &self,
+        task: &Task<'_>,
+        first: usize,
+        races: bool,
+    ) -> Option<(usize, usize, usize)>
+        requires found { AreFound task.now self.now }
+        requires calm { races ≡ true → AreCalm task.now self.now.table.rows first }
+        requires within { first < row_count self.now.table.rows }
+        ensures { MatchOption result (races ≡ true → AreCalm task.now self.now.table.rows
+            (row_count self.now.table.rows))
+            (λ meeting. MeetAt task.now self.now races meeting.0 meeting.1 meeting.2) }
     {
         let _most = task.most;
         for place in first..self.table.rows.len() {
             let row = self.table.rows.row(place);
             if let Some((p, q)) = self.meeting(&row, races) {
-                return Ok(End::Meeting { place, p, q });
+                return Some((place, p, q));
             }
         }
-        Err(ExploreFault::TooMany)
+        None
+    }
+
+    /// Returns the place of the first of the states found at which the program is stuck, if there is one.
+    pub fn stuck_of_all(&self, task: &Task<'_>) -> Option<usize>
+        requires found { AreFound task.now self.now }
+        ensures { IsStuckMet task.now self.now.table.rows result }
+    {
+        let _most = task.most;
+        for place in 0..self.table.rows.len() {
+            let row = self.table.rows.row(place);
+            let halts = self.table.is_stuck(&row);
+            if halts {
+                return Some(place);
+            }
+        }
+        None
     }
 
     // Looks at a state, and finds the states after it, but where two nodes meet there and that is looked for.
@@ -148,6 +194,7 @@ impl Found {
         ensures found { OnOk result (AreFound task.now self.new) }
         ensures more { OnOk result (IsMore self.old self.new) }
         ensures visit { IfOk result (IsVisit task.now self.new place races) }
+        ensures keeps { IfOk result (VisitKeeps task.now self.old.table.rows self.new.table.rows) }
         ensures faults { IfErr result (IsFault task.now) }
     {
         let row = self.table.rows.row(place);

@@ -72,6 +72,17 @@ pub enum End {
     },
 }
 
+/// Where a search ended: as `End` says; or with more states than may be, where it tells the first of those found at which
+/// the program is stuck, if any, and where a node traps first on the way to them, if one does.
+#[derive(Clone, Copy)]
+pub enum Sought {
+    Ended(End),
+    Many {
+        stuck: Option<usize>,
+        trap: Option<Trapping>,
+    },
+}
+
 /// What a visit to a state saw: two nodes that meet; or whether the program is stuck there, and the first step from it in
 /// which a node traps, if any.
 #[derive(Clone, Copy)]

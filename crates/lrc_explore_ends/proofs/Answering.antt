@@ -4,8 +4,8 @@ use Rattle.std.specs.Prelude.{◌↔◌, IsTrue, MatchOption, Option, None, Some
 use Rattle.std.proofs.lemmas.Bool.{cases_eq, cases_lt}
 use Rattle.std.proofs.lemmas.List.{get_or_append_left, get_or_past, get_or_push, length_push}
 use Rattle.lrc_program.specs.declared.Program.{Program}
+use Rattle.lrc_exec.specs.Spots.{IsFlatOf}
 use Rattle.lrc_exec.specs.States.{plain_at}
-use Rattle.lrc_consistency_laws.specs.Racing.{HasNoRace}
 use Rattle.lrc_graph.specs.Graph.{IsWithin, LeadsToSome, place_count}
 use Rattle.lrc_orders.specs.declared.noted.Noted.{Noted}
 use Rattle.lrc_orders.specs.Stuck.{IsAtRest}
@@ -15,10 +15,12 @@ use Rattle.lrc_orders_table.proofs.RowLaws.{row_copy, row_within}
 use Rattle.lrc_explore.specs.declared.task.Task.{Task}
 use Rattle.lrc_explore.specs.declared.task.Found.{Found}
 use Rattle.lrc_explore.specs.declared.task.Trapping.{Trapping}
-use Rattle.lrc_explore.specs.Answers.{IsThrough}
+use Rattle.lrc_explore.specs.Answers.{IsThrough, looked_at}
+use Rattle.lrc_explore.specs.Reached.{IsTask}
+use Rattle.lrc_explore.proofs.ManyStates.{gave_up}
 use Rattle.lrc_explore_ends.specs.declared.answers.EndVerdict.{EndVerdict}
-use Rattle.lrc_explore_ends.specs.declared.answers.EndVerdict.TheVariants.{Through, Racy}
-use Rattle.lrc_explore_ends.specs.Answers.{IsEndAnswer}
+use Rattle.lrc_explore_ends.specs.declared.answers.EndVerdict.TheVariants.{Many, Through, Racy}
+use Rattle.lrc_explore_ends.specs.Answers.{IsEndAnswer, IsTaskEndAnswer}
 use Rattle.lrc_explore_ends.specs.declared.states.States.{States}
 use Rattle.lrc_explore_ends.specs.Lost.{HasEnd, IsFirstLost, SaysStill}
 use Rattle.lrc_explore_ends.specs.Stepped.{AreAllStepped}
@@ -108,7 +110,12 @@ through_anyhow task found races stuck trap t = record {
   traps = t.traps;
 }
 
-pub with_races : (program : Program) (nodes : ℕ) (races : Bool) (verdict : EndVerdict) → (races ≡ true → HasNoRace program nodes)
-    → IsEndAnswer program nodes false verdict → IsEndAnswer program nodes races verdict
-with_races program nodes races (Through found) none is = (none, is.1)
-with_races program nodes races (Racy order) none is = let x : false ≡ true = is.0 in cc
+-- what is answered of a task is answered of the program
+pub end_answer_of : (task : Task) (program : Program) (nodes most : ℕ) → IsTask task → task.program.now ≡ program → IsFlatOf program nodes task.flat task.start
+    → task.most ≡ most → task.looked ≡ looked_at most → task.noting ≡ false → task.flat.nodes ≡ nodes → (races : Bool) (verdict : EndVerdict)
+    → IsTaskEndAnswer task races verdict → IsEndAnswer program nodes most races verdict
+end_answer_of task program nodes most is p flat m l n same races (Through found) told =
+    subst (λ q. IsEndAnswer q nodes most races (Through found)) p (subst (λ k. IsEndAnswer task.program.now k most races (Through found)) same told)
+end_answer_of task program nodes most is p flat m l n same races (Racy order) told =
+    subst (λ q. IsEndAnswer q nodes most races (Racy order)) p (subst (λ k. IsEndAnswer task.program.now k most races (Racy order)) same told)
+end_answer_of task program nodes most is p flat m l n same races (Many met) told = gave_up task program nodes most is p flat m l n races met told

@@ -3,15 +3,16 @@
 ghost use Rattle.std.specs.Prelude.{◌≡◌, ◌≢◌, ◌<◌, ◌≤◌, ◌↔◌, IfErr, IfOk, Err, true, false};
 ghost use Rattle.lrc_exec.specs.Nodes.{AreNodes};
 ghost use Rattle.lrc_orders_table.specs.Rows.{row_count};
-ghost use Rattle.lrc_explore.specs.Answers.{AreAllExpanded, FitsSettled, IsEnd, IsFault, IsFaultOf, IsSearchFault, IsThrough, MetTooMany};
+ghost use Rattle.lrc_explore.specs.Answers.{AreAllExpanded, FitsSettled, IsEnd, IsFault, IsFaultOf, IsThrough, MetTooMany};
+ghost use Rattle.lrc_explore.specs.Met.{ComputesTooLong};
 ghost use Rattle.lrc_explore.specs.Reached.{AreFound, IsTask};
 ghost use Rattle.lrc_explore.specs.declared.task.End.TheVariants.{Meeting};
-ghost use Rattle.lrc_explore_ends.specs.Answers.{GoesThrough, IsEndAnswer};
+ghost use Rattle.lrc_explore_ends.specs.Answers.{AreEndFindings, GoesThrough, IsEndAnswer, IsTaskEndAnswer};
 
 use crate::lost::lost_order;
 use lrc_exec::code::Code;
 use lrc_explore::answers::{count_of, task_of};
-use lrc_explore::task::{End, Found, Task, Trapping};
+use lrc_explore::task::{End, Found, Sought, Task, Trapping};
 use lrc_orders::search::{ExploreFault, Findings, Verdict};
 use lrc_program::Program;
 use std::alloc::Global;
@@ -32,11 +33,15 @@ pub enum EndVerdict {
     Through(EndFindings),
     /// The last two acts of the order given race.
     Racy { order: Vec<usize> },
+    /// There are more states to tell apart than may be, and no two nodes meet at those that were met, if that was looked
+    /// for. These are the findings at them: an order that gets stuck exactly if the program is stuck at one of them, and an
+    /// order in which a node traps if one traps on the way to them.
+    Many(Findings),
 }
 
 /// Searches the settled states of a program on this many nodes. It tells whether an order races, if `races` is true, and
-/// if none does, whether one gets stuck, whether a node traps in one, and whether every order can end. It fails as
-/// `explore` does, but that two nodes may meet at the states that were found where `races` is false.
+/// if none does, whether one gets stuck, whether a node traps in one, and whether every order can end. If there are more
+/// states to tell apart than `most`, it tells what it met at them. It fails as `explore` of `lrc_explore_less` does.
 pub fn explore_ends(
     alloc: Global,
     program: &Program,
@@ -44,12 +49,14 @@ pub fn explore_ends(
     most: usize,
     races: bool,
 ) -> Result<EndVerdict, ExploreFault>
-    ensures answer { IfOk result (IsEndAnswer program.now nodes races) }
+    ensures answer { IfOk result (IsEndAnswer program.now nodes most races) }
     ensures fits { IfOk result (λ verdict. GoesThrough verdict
         → FitsSettled program.now nodes most) }
     ensures bad_nodes { (result ≡ Err ExploreFault.BadNodes) ↔ (¬ AreNodes nodes) }
     ensures too_many { IfErr result (λ fault. fault ≡ ExploreFault.TooMany
         → MetTooMany program.now nodes most false races) }
+    ensures too_long { IfErr result (λ fault. fault ≡ ExploreFault.TooMany
+        → ComputesTooLong program.now nodes most) }
 {
     let count = count_of(nodes)?;
     let code = Code::new(alloc, program)?;
@@ -64,10 +71,12 @@ fn ends_of_code(
     most: usize,
     races: bool,
 ) -> Result<EndVerdict, ExploreFault>
-    ensures answer { IfOk result (IsEndAnswer code.now nodes races) }
+    ensures answer { IfOk result (IsEndAnswer code.now nodes most races) }
     ensures fits { IfOk result (λ verdict. GoesThrough verdict
         → FitsSettled code.now nodes most) }
     ensures faults { IfErr result (IsFaultOf code.now nodes most false races) }
+    ensures too_long { IfErr result (λ fault. fault ≡ ExploreFault.TooMany
+        → ComputesTooLong code.now nodes most) }
 {
     let task = task_of(alloc, code, nodes, most, false)?;
     search(alloc, &task, races)
@@ -76,17 +85,26 @@ fn ends_of_code(
 // From the settled start on: what is answered.
 fn search(alloc: Global, task: &Task<'_>, races: bool) -> Result<EndVerdict, ExploreFault>
     requires { IsTask task.now }
-    ensures answer { IfOk result (IsEndAnswer task.now.program.now task.now.flat.nodes races) }
+    ensures answer { IfOk result (IsTaskEndAnswer task.now races) }
     ensures fits { IfOk result (λ verdict. GoesThrough verdict
         → FitsSettled task.now.program.now task.now.flat.nodes task.now.most) }
-    ensures faults { IfErr result (IsSearchFault task.now races) }
+    ensures faults { IfErr result (IsFault task.now) }
 {
     let mut found = Found::none(alloc, task.flat.nodes as usize);
     let traps = found.begin(alloc, task)?;
-    let end = found.seek(alloc, task, races, traps)?;
-    match end {
-        End::Meeting { place, p, q } => race_of(alloc, task, &found, place, p, q),
-        End::Through { stuck, trap } => through(alloc, task, found, stuck, trap),
+    let sought = found.seek(alloc, task, races, traps)?;
+    match sought {
+        Sought::Ended(end) => match end {
+            End::Meeting { place, p, q } => race_of(alloc, task, &found, place, p, q),
+            End::Through { stuck, trap } => {
+                let ends = through(alloc, task, found, stuck, trap)?;
+                Ok(EndVerdict::Through(ends))
+            }
+        },
+        Sought::Many { stuck, trap } => {
+            let met = found.met_told(alloc, task, races, stuck, trap)?;
+            Ok(EndVerdict::Many(met))
+        }
     }
 }
 
@@ -102,7 +120,7 @@ fn race_of(
     requires task { IsTask task.now }
     requires found { AreFound task.now found.now }
     requires meeting { IsEnd task.now found.now true (Meeting place p q) }
-    ensures answer { IfOk result (IsEndAnswer task.now.program.now task.now.flat.nodes true) }
+    ensures answer { IfOk result (IsTaskEndAnswer task.now true) }
     ensures racy { IfOk result (λ verdict. ¬ GoesThrough verdict) }
     ensures faults { IfErr result (IsFault task.now) }
 {
@@ -119,16 +137,16 @@ fn through(
     found: Found,
     stuck: Option<usize>,
     trap: Option<Trapping>,
-) -> Result<EndVerdict, ExploreFault>
+) -> Result<EndFindings, ExploreFault>
     requires task { IsTask task.now }
     requires found { AreFound task.now found }
     requires all { AreAllExpanded task.now found }
     requires through { IsThrough task.now found false stuck trap }
     requires some { 0 < row_count found.table.rows }
-    ensures answer { IfOk result (IsEndAnswer task.now.program.now task.now.flat.nodes false) }
+    ensures findings { IfOk result (AreEndFindings task.now.program.now task.now.flat.nodes) }
     ensures faults { IfErr result (IsFault task.now) }
 {
     let besides = found.findings_told(alloc, task, stuck, trap)?;
     let lost = lost_order(alloc, task, found)?;
-    Ok(EndVerdict::Through(EndFindings { besides, lost }))
+    Ok(EndFindings { besides, lost })
 }

@@ -5,6 +5,7 @@ use Rattle.lrc_program.specs.declared.Program.{Program}
 use Rattle.lrc_trace.specs.declared.act.Act.{Act}
 use Rattle.lrc_exec.specs.Plain.{plain}
 use Rattle.lrc_orders.specs.Verdict.{TellsStuck, TellsTrap}
+use Rattle.lrc_explore.specs.Met.{IsStuckOrder, IsTrapOrder}
 use Rattle.lrc_explore_text.proofs.Ending.{plain_lost}
 use Rattle.lrc_explore_text.proofs.Led.{plain_stuck, plain_traps}
 use Rattle.lrc_explore_events_text.specs.declared.told.Line.{Line}
@@ -31,6 +32,15 @@ module _ (program : Program) (nodes : ℕ) where
   pub trap_led : (order : Option (List ℕ)) → TellsTrap program nodes order → IsLed order
   trap_led None tells = tt
   trap_led (Some order) traps = led_so order traps.acts (plain_traps program nodes order traps)
+
+  -- and of each that was met
+  pub stuck_met_led : (order : Option (List ℕ)) → IsStuckOrder program nodes order → IsLed order
+  stuck_met_led None tells = tt
+  stuck_met_led (Some order) gets = led_so order gets.acts (plain_stuck program nodes order gets)
+
+  pub trap_met_led : (order : Option (List ℕ)) → IsTrapOrder program nodes order → IsLed order
+  trap_met_led None tells = tt
+  trap_met_led (Some order) traps = led_so order traps.acts (plain_traps program nodes order traps)
 
   pub end_led : (ends : Bool) (order : Option (List ℕ)) → TellsEndIf program nodes ends order → IsLed order
   end_led true None tells = tt

@@ -1,18 +1,19 @@
 // Events along the order that a search tells, of those of its lines.
 
-ghost use Rattle.std.specs.Prelude.{◌≡◌, ◌≢◌, IfErr, IfOk, option_map, is_some, Bool, false, true};
+ghost use Rattle.std.specs.Prelude.{◌≡◌, ◌≢◌, IfErr, IfOk, None, option_map, is_some, ℕ, Bool, false, true};
 ghost use Rattle.lrc_exec.specs.Nodes.{AreNodes};
 ghost use Rattle.lrc_explore.specs.Answers.{IsAnswer, MetTooMany};
-ghost use Rattle.lrc_explore_ends.specs.Answers.{GoesThrough, IsEndAnswer};
+ghost use Rattle.lrc_explore.specs.Met.{ComputesTooLong, GaveUp};
 ghost use Rattle.lrc_explore_text.specs.Ends.{ends_status};
 ghost use Rattle.lrc_explore_text.specs.Orders.{findings_status};
 ghost use Rattle.lrc_orders.specs.Verdict.{AreFindings, EndsInRace, FindsNoRace};
-ghost use Rattle.lrc_explore_events_text.specs.Shows.{ShowsCauses, ShowsFound, ShowsLine, ShowsRace, TellsEndIf, chosen};
+ghost use Rattle.lrc_explore_events_text.specs.Met.{IsShowing, ShowsMet};
+ghost use Rattle.lrc_explore_events_text.specs.Shows.{ShowsCauses, ShowsFound, ShowsLine, ShowsOrder, ShowsRace, TellsEndIf, chosen};
 
 use crate::showing::{events_shown, order_shown};
 use lrc_explore_causes::told::race_told;
 use lrc_explore_ends::answers::{EndVerdict, explore_ends};
-use lrc_explore_less::answers::{explore, findings};
+use lrc_explore_less::answers::{Explored, Searched, explore, findings};
 use lrc_explore_text::orders::acts_of;
 use lrc_orders::search::{ExploreFault, Findings, Verdict};
 use lrc_program::Program;
@@ -39,11 +40,20 @@ pub struct Shown {
     pub status: u8,
 }
 
+/// What is shown of a search.
+#[derive(Drop)]
+pub enum Showing {
+    /// Events along the order that is asked for, and the status after them.
+    All(Shown),
+    /// Events along such an order of those that were met among too many states. Behind them a fault is to be told.
+    Many(Vec<u8>),
+}
+
 /// Searches every order in which `nodes` nodes can run a program, and returns the events along the order that the
 /// search tells on a line, which are none if it tells none. If `races` is true, it looks for a race first, which is the
 /// first line then; if `ends` is true, the last line is that of orders that can no longer end. There must be 1 to 16
-/// nodes. Gives up with `TooMany` only if there are more than `most` states to tell apart, or if a thread makes 1,000,000
-/// + 20 * `most` free acts one after another. Fails if memory runs out.
+/// nodes. If there are more than `most` states to tell apart, it returns the events along an order that was met. Gives up
+/// with `TooMany` only if a thread makes 1,000,000 + 20 * `most` free acts one after another. Fails if memory runs out.
 pub fn line_shown(
     alloc: Global,
     program: &Program,
@@ -52,13 +62,15 @@ pub fn line_shown(
     races: bool,
     ends: bool,
     line: Line,
-) -> Result<Shown, ExploreFault>
+) -> Result<Showing, ExploreFault>
     requires { AreNodes nodes }
-    ensures shows { IfOk result (λ shown.
-        ShowsLine program.now nodes races ends line shown.text.items shown.status) }
+    ensures shows { IfOk result (IsShowing (ShowsLine program.now nodes races ends line)
+        (ShowsMet program.now nodes most races line)) }
     ensures nodes { IfErr result (λ fault. fault ≢ ExploreFault.BadNodes) }
     ensures too_many { IfErr result (λ fault. fault ≡ ExploreFault.TooMany
         → MetTooMany program.now nodes most false races) }
+    ensures too_long { IfErr result (λ fault. fault ≡ ExploreFault.TooMany
+        → ComputesTooLong program.now nodes most) }
 {
     if ends {
         return ends_shown(alloc, program, nodes, most, races, line);
@@ -66,9 +78,16 @@ pub fn line_shown(
     if races {
         return verdict_shown(alloc, program, nodes, most, line);
     }
-    let found = findings(alloc, program, nodes, most)?;
-    let shown = found_shown(alloc, program, nodes as u8, &found, &None, line)?;
-    Ok(shown)
+    match findings(alloc, program, nodes, most)? {
+        Searched::All(found) => {
+            let shown = found_shown(alloc, program, nodes as u8, &found, &None, line)?;
+            Ok(Showing::All(shown))
+        }
+        Searched::Many(met) => {
+            let text = met_shown(alloc, program, nodes as u8, &met, line)?;
+            Ok(Showing::Many(text))
+        }
+    }
 }
 
 // The same, where ends are asked for.
@@ -79,38 +98,30 @@ fn ends_shown(
     most: usize,
     races: bool,
     line: Line,
-) -> Result<Shown, ExploreFault>
+) -> Result<Showing, ExploreFault>
     requires { AreNodes nodes }
-    ensures shows { IfOk result (λ shown.
-        ShowsLine program.now nodes races true line shown.text.items shown.status) }
+    ensures shows { IfOk result (IsShowing (ShowsLine program.now nodes races true line)
+        (ShowsMet program.now nodes most races line)) }
     ensures nodes { IfErr result (λ fault. fault ≢ ExploreFault.BadNodes) }
     ensures too_many { IfErr result (λ fault. fault ≡ ExploreFault.TooMany
         → MetTooMany program.now nodes most false races) }
+    ensures too_long { IfErr result (λ fault. fault ≡ ExploreFault.TooMany
+        → ComputesTooLong program.now nodes most) }
 {
-    let verdict = explore_ends(alloc, program, nodes, most, races)?;
-    let shown = end_verdict_shown(alloc, program, nodes as u8, races, &verdict, line)?;
-    Ok(shown)
-}
-
-fn end_verdict_shown(
-    alloc: Global,
-    program: &Program,
-    nodes: u8,
-    races: bool,
-    verdict: &EndVerdict,
-    line: Line,
-) -> Result<Shown, AllocError>
-    requires nodes { AreNodes nodes }
-    requires verdict { IsEndAnswer program.now nodes races verdict.now }
-    ensures shows { IfOk result (λ shown.
-        ShowsLine program.now nodes races true line shown.text.items shown.status) }
-    ensures through { IfOk result (λ shown. shown.status ≢ 3 → GoesThrough verdict.now) }
-{
-    match verdict {
+    match explore_ends(alloc, program, nodes, most, races)? {
         EndVerdict::Through(found) => {
-            found_shown(alloc, program, nodes, &found.besides, &found.lost, line)
+            let count = nodes as u8;
+            let shown = found_shown(alloc, program, count, &found.besides, &found.lost, line)?;
+            Ok(Showing::All(shown))
         }
-        EndVerdict::Racy { order } => race_shown(alloc, program, nodes, order, line),
+        EndVerdict::Racy { order } => {
+            let shown = race_shown(alloc, program, nodes as u8, &order, line)?;
+            Ok(Showing::All(shown))
+        }
+        EndVerdict::Many(met) => {
+            let text = met_shown(alloc, program, nodes as u8, &met, line)?;
+            Ok(Showing::Many(text))
+        }
     }
 }
 
@@ -121,17 +132,26 @@ fn verdict_shown(
     nodes: u32,
     most: usize,
     line: Line,
-) -> Result<Shown, ExploreFault>
+) -> Result<Showing, ExploreFault>
     requires { AreNodes nodes }
-    ensures shows { IfOk result (λ shown.
-        ShowsLine program.now nodes true false line shown.text.items shown.status) }
+    ensures shows { IfOk result (IsShowing (ShowsLine program.now nodes true false line)
+        (ShowsMet program.now nodes most true line)) }
     ensures nodes { IfErr result (λ fault. fault ≢ ExploreFault.BadNodes) }
     ensures too_many { IfErr result (λ fault. fault ≡ ExploreFault.TooMany
         → MetTooMany program.now nodes most false true) }
+    ensures too_long { IfErr result (λ fault. fault ≡ ExploreFault.TooMany
+        → ComputesTooLong program.now nodes most) }
 {
-    let verdict = explore(alloc, program, nodes, most)?;
-    let shown = of_verdict(alloc, program, nodes as u8, &verdict, line)?;
-    Ok(shown)
+    match explore(alloc, program, nodes, most)? {
+        Explored::Told(verdict) => {
+            let shown = of_verdict(alloc, program, nodes as u8, &verdict, line)?;
+            Ok(Showing::All(shown))
+        }
+        Explored::Many(met) => {
+            let text = met_shown(alloc, program, nodes as u8, &met, line)?;
+            Ok(Showing::Many(text))
+        }
+    }
 }
 
 fn of_verdict(
@@ -175,6 +195,24 @@ fn found_shown(
     let text = order_shown(alloc, program, nodes, order)?;
     let status = status_of(&found.stuck, &found.trap, end);
     Ok(Shown { text, status })
+}
+
+// Events along an order of those that were met among too many states.
+fn met_shown(
+    alloc: Global,
+    program: &Program,
+    nodes: u8,
+    met: &Findings,
+    line: Line,
+) -> Result<Vec<u8>, AllocError>
+    requires nodes { AreNodes nodes }
+    requires gave { (most : ℕ) × (races : Bool) × GaveUp program.now nodes most races met.now }
+    ensures { IfOk result (λ text. ShowsOrder program.now nodes
+        (chosen line (option_map (λ order. order.items) met.now.stuck)
+        (option_map (λ order. order.items) met.now.trap) None) text.items) }
+{
+    let order = chosen(line, &met.stuck, &met.trap, &None);
+    order_shown(alloc, program, nodes, order)
 }
 
 // Events along what a race comes of, if no other line is asked for.

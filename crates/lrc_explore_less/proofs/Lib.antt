@@ -3,6 +3,7 @@ pub mod Looked
 pub mod Onto
 pub mod Enough
 pub mod Ways
+pub mod Answering
 pub mod Steps
 pub mod Seeking
 pub mod Expanding

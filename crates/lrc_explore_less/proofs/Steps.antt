@@ -34,7 +34,7 @@ use Rattle.lrc_explore.specs.declared.task.Task.{Task}
 use Rattle.lrc_explore.specs.declared.task.Trapping.{Trapping}
 use Rattle.lrc_explore.specs.declared.task.Trapping.TheVariants as trapping
 use Rattle.lrc_explore.specs.Reached.{AreFound, CannotTakeAt, HasAfterAt, HasStart, IsFrom, IsMeansOf, IsMore, LeadsTo}
-use Rattle.lrc_explore.specs.Traps.{LeadIntoTrap, ShowsStartTrap, ShowsTrapAt, start_trap}
+use Rattle.lrc_explore.specs.Traps.{AreRowsTrapless, LeadIntoTrap, ShowsStartTrap, ShowsTrapAt, start_trap}
 use Rattle.lrc_explore.specs.Told.{LeadTo}
 use Rattle.lrc_explore.proofs.Keys.{after_at_grown, has_after, start_grown}
 use Rattle.lrc_explore.proofs.Reaching.{gets_stuck}
@@ -118,6 +118,10 @@ pub start_trapless : (task : Task) (traps : Bool) → ShowsStartTrap task traps 
 start_trapless task true s e = absurd (true≢false (sym e))
 start_trapless task false s e = s.each
 
+start_none : (traps : Bool) → is_none (start_trap traps) ≡ true → traps ≡ false
+start_none true e = absurd (true≢false (sym e))
+start_none false e = refl
+
 pub begun_on : (task : Task) (old new : Less) → Widens old new → HasBegun task old → HasBegun task new
 begun_on task old new w b = record {
   start = start_grown task old.found.table.rows new.found.table.rows w.found.rows b.start;
@@ -128,11 +132,12 @@ begun_on task old new w b = record {
 
 pub sound_taken : (task : Task) (old new : Less) (mid : Found) (trap : Option Trapping) → IsSound task old → WidensRows old.found.table.rows mid.table.rows
     → new ≡ record old { found = new.found; trap = trap } → AreFound task new.found → WidensRows mid.table.rows new.found.table.rows
-    → IsTrap task mid.table.rows trap → IsSound task new
-sound_taken task old new mid trap s w same f v is = subst (IsSound task) (sym same) (record {
+    → IsTrap task mid.table.rows trap → (is_none trap ≡ true → AreRowsTrapless task new.found.table.rows) → IsSound task new
+sound_taken task old new mid trap s w same f v is trapless = subst (IsSound task) (sym same) (record {
   found = f;
   reaches = reaches_more task.flat old.found.table.rows.threads.keys new.found.table.rows.threads.keys old.reaches (grows_again w.threads v.threads) s.reaches;
   trap = trap_more task mid.table.rows new.found.table.rows trap v is;
+  trapless = trapless;
 })
 
 pub widens_same : (old new : Less) → IsMore old.found new.found → new.opens.items ≡ old.opens.items → new.trap ≡ old.trap → Widens old new
@@ -255,7 +260,7 @@ module _ (task : Task) (old new : Less) (first : ℕ) (p : ArePassing task old f
 pub opened_less : (task : Task) (old new : Less) (first last : ℕ) → ArePassing task old first → last + 1 ≡ row_count old.found.table.rows
     → new ≡ record old { opens = new.opens } → new.opens.items ≡ old.opens.items ++ last ∷ [] → AreLess task new
 opened_less task old new first last p is same more = subst (AreLess task) (sym same) (record {
-  sound = record { found = p.sound.found; reaches = p.sound.reaches; trap = p.sound.trap };
+  sound = record { found = p.sound.found; reaches = p.sound.reaches; trap = p.sound.trap; trapless = p.sound.trapless };
   leads = λ place inside. elim (cases_lt place first) [
     | inl before ↦ leads_grown task all all calm calm (rows_not all) (λ e. e) old.opens.items new.opens.items place grown (p.leads place before)
     | inr past ↦ record {
@@ -304,12 +309,14 @@ first_passing task less last sound is first = record {
 
 pub begun_first : (task : Task) (less : Less) (last : ℕ) (traps : Bool) → AreFound task less.found
     → AreReaches task.flat less.found.table.rows.threads.keys less.reaches → ShowsStartTrap task traps → less.trap ≡ start_trap traps
-    → last + 1 ≡ row_count less.found.table.rows → AreFirst less.opens.items last → ArePassing task less last
-begun_first task less last traps f r s same is first =
+    → (traps ≡ false → AreRowsTrapless task less.found.table.rows) → last + 1 ≡ row_count less.found.table.rows → AreFirst less.opens.items last
+    → ArePassing task less last
+begun_first task less last traps f r s same trapless is first =
     first_passing task less last (record {
       found = f;
       reaches = r;
       trap = subst (IsTrap task less.found.table.rows) (sym same) (trap_first task less.found.table.rows traps s);
+      trapless = λ none. trapless (start_none traps (ap is_none (sym same) ∙ none));
     }) is first
 
 pub has_begun : (task : Task) (less : Less) (traps : Bool) → HasStart task less.found.table.rows → ShowsStartTrap task traps → less.trap ≡ start_trap traps

@@ -1,3 +1,4 @@
 pub mod Passing
 pub mod Enough
+pub mod Met
 pub mod Outcomes

@@ -18,7 +18,7 @@ use Rattle.lrc_explore.specs.declared.task.Task.{Task}
 use Rattle.lrc_explore.specs.declared.task.Trapping.{Trapping}
 use Rattle.lrc_explore.specs.declared.task.Trapping.TheVariants as trapping
 use Rattle.lrc_explore.specs.Reached.{AreFound, CannotTakeAt, IsMore}
-use Rattle.lrc_explore.specs.Traps.{IsTrapping}
+use Rattle.lrc_explore.specs.Traps.{AreRowsTrapless, IsTrapping}
 use Rattle.lrc_explore_less.specs.declared.less.Less.{Less}
 use Rattle.lrc_explore_less.specs.declared.less.Pass.{Pass}
 use Rattle.lrc_explore_less.specs.declared.less.Pass.TheVariants as pass
@@ -69,11 +69,12 @@ abbrev pub IsTrap : Task → Rows → Option Trapping → Type 0
 IsTrap task all None = Unit {0}
 IsTrap task all (Some there) = IsTrapping task all there
 
--- what was found, and what is known of pairs of threads, is so
+-- What was found, and what is known of pairs of threads, is so. Where no node is said to trap, orders without a trap lead to all states.
 pub record IsSound (task : Task) (less : Less) : Type 0 where
   pub found : AreFound task less.found
   pub reaches : AreReaches task.flat less.found.table.rows.threads.keys less.reaches
   pub trap : IsTrap task less.found.table.rows less.trap
+  pub trapless : is_none less.trap ≡ true → AreRowsTrapless task less.found.table.rows
 
 -- nothing was found yet, and nothing is known
 pub record IsNone (task : Task) (less : Less) : Type 0 where

@@ -5,10 +5,11 @@ ghost use Rattle.lrc_trace.specs.declared.act.Act.{Act as ActType};
 ghost use Rattle.lrc_exec.specs.Nodes.{AreNodes};
 ghost use Rattle.lrc_exec.specs.Follows.{nodes_of_acts};
 ghost use Rattle.lrc_orders.specs.Outcome.{HasOutcome, IsOutcome};
-ghost use Rattle.lrc_orders.specs.Verdict.{AreFindings};
-ghost use Rattle.lrc_explore.specs.Answers.{IsAnswer, IsFault, IsFaultOf, MetTooMany};
+ghost use Rattle.lrc_explore.specs.Answers.{IsFault, IsFaultOf, MetTooMany};
 ghost use Rattle.lrc_explore.specs.Reached.{IsTask};
 ghost use Rattle.lrc_explore.specs.Traps.{LeadIntoTrap, StartTraps};
+ghost use Rattle.lrc_explore.specs.Met.{ComputesTooLong, tells_both};
+ghost use Rattle.lrc_explore_less.specs.Met.{IsExplored, IsSearched, searched_of};
 
 use crate::ended::all_ended;
 use crate::less::Less;
@@ -19,48 +20,72 @@ use lrc_explore::answers::{
     count_of, explore as explore_all, findings as findings_of_all, task_of,
 };
 use lrc_explore::found::{settled_start, taken};
-use lrc_explore::task::{End, Origin, Task, Trapping};
+use lrc_explore::task::{End, Origin, Sought, Task, Trapping};
 use lrc_orders::outcomes::Outcome;
 use lrc_orders::search::{ExploreFault, Findings, Verdict};
 use lrc_program::Program;
 use lrc_trace::act::Act;
 use std::alloc::{AllocError, Global};
 
+/// What a search for races answers.
+#[derive(Drop)]
+pub enum Explored {
+    /// The verdict on the program.
+    Told(Verdict),
+    /// There are more states to tell apart than may be, and no two nodes meet at those that were met. These are the
+    /// findings at them: an order that gets stuck exactly if the program is stuck at one of them, and an order in which a
+    /// node traps if one traps on the way to them.
+    Many(Findings),
+}
+
+/// What a search that looks for no races answers.
+#[derive(Drop)]
+pub enum Searched {
+    /// The findings of all orders.
+    All(Findings),
+    /// There are more states to tell apart than may be. These are the findings at those that were met, as in `Explored`.
+    Many(Findings),
+}
+
 /// Searches the settled states of a program on this many nodes, and makes undisputed acts at once. It tells whether an
 /// order races, and if none does, whether one gets stuck and whether a node traps in one. If there is something to tell,
 /// the order told is that of the search that makes no undisputed acts, unless that one gives up with `TooMany`. It fails
-/// with `BadNodes` exactly if the number of nodes is not 1 to 16. It gives up with `TooMany` only if there are more states
-/// to tell apart than `most`, at none of which two nodes meet, or if a thread makes 1,000,000 + 20 * `most` free acts one
-/// after another. It fails if memory runs out.
+/// with `BadNodes` exactly if the number of nodes is not 1 to 16. If there are more states to tell apart than `most`, at
+/// none of which two nodes meet, it tells what it met at them, by any order that shows it. It gives up with `TooMany` only
+/// if a thread makes 1,000,000 + 20 * `most` free acts one after another. It fails if memory runs out.
 pub fn explore(
     alloc: Global,
     program: &Program,
     nodes: u32,
     most: usize,
-) -> Result<Verdict, ExploreFault>
-    ensures answer { IfOk result (IsAnswer program.now nodes) }
+) -> Result<Explored, ExploreFault>
+    ensures answer { IfOk result (IsExplored program.now nodes most) }
     ensures bad_nodes { (result ≡ Err ExploreFault.BadNodes) ↔ (¬ AreNodes nodes) }
     ensures too_many { IfErr result (λ fault. fault ≡ ExploreFault.TooMany
         → MetTooMany program.now nodes most false true) }
+    ensures too_long { IfErr result (λ fault. fault ≡ ExploreFault.TooMany
+        → ComputesTooLong program.now nodes most) }
 {
     let count = count_of(nodes)?;
     let code = Code::new(alloc, program)?;
     let soon = is_told_soon(alloc, &code, count, most, true)?;
     if soon {
         match explore_all(alloc, program, nodes, most) {
-            Ok(told) => return Ok(told),
+            Ok(told) => return Ok(Explored::Told(told)),
             Err(ExploreFault::TooMany) => {}
-            Err(fault) => return Err(fault),
+            Err(ExploreFault::BadNodes) => return Err(ExploreFault::BadNodes),
+            Err(ExploreFault::NoMemory) => return Err(ExploreFault::NoMemory),
         }
     }
-    let verdict = explore_code(alloc, &code, count, most)?;
-    if soon || is_plain(&verdict) {
-        return Ok(verdict);
+    let explored = explore_code(alloc, &code, count, most)?;
+    if soon || is_last(&explored) {
+        return Ok(explored);
     }
     match explore_all(alloc, program, nodes, most) {
-        Ok(told) => Ok(told),
-        Err(ExploreFault::TooMany) => Ok(verdict),
-        Err(fault) => Err(fault),
+        Ok(told) => Ok(Explored::Told(told)),
+        Err(ExploreFault::TooMany) => Ok(explored),
+        Err(ExploreFault::BadNodes) => Err(ExploreFault::BadNodes),
+        Err(ExploreFault::NoMemory) => Err(ExploreFault::NoMemory),
     }
 }
 
@@ -83,9 +108,11 @@ fn explore_code(
     code: &Code<'_>,
     nodes: u8,
     most: usize,
-) -> Result<Verdict, ExploreFault>
-    ensures answer { IfOk result (IsAnswer code.now nodes) }
+) -> Result<Explored, ExploreFault>
+    ensures answer { IfOk result (IsExplored code.now nodes most) }
     ensures faults { IfErr result (IsFaultOf code.now nodes most false true) }
+    ensures too_long { IfErr result (λ fault. fault ≡ ExploreFault.TooMany
+        → ComputesTooLong code.now nodes most) }
 {
     let task = task_of(alloc, code, nodes, most, false)?;
     let mut less = Less::none(alloc, nodes as usize);
@@ -93,36 +120,41 @@ fn explore_code(
 }
 
 /// Searches as `explore` does, whether or not an order races, and tells whether one gets stuck and whether a node traps in
-/// one. It fails as `explore` does, but that two nodes may meet at these states.
+/// one. Two nodes may meet at its states. If there are more than `most`, but the program was stuck at one that was met, and
+/// a node traps on the way to one, then these are all findings that there are. It fails as `explore` does.
 pub fn findings(
     alloc: Global,
     program: &Program,
     nodes: u32,
     most: usize,
-) -> Result<Findings, ExploreFault>
-    ensures findings { IfOk result (AreFindings program.now nodes) }
+) -> Result<Searched, ExploreFault>
+    ensures findings { IfOk result (IsSearched program.now nodes most) }
     ensures bad_nodes { (result ≡ Err ExploreFault.BadNodes) ↔ (¬ AreNodes nodes) }
     ensures too_many { IfErr result (λ fault. fault ≡ ExploreFault.TooMany
         → MetTooMany program.now nodes most false false) }
+    ensures too_long { IfErr result (λ fault. fault ≡ ExploreFault.TooMany
+        → ComputesTooLong program.now nodes most) }
 {
     let count = count_of(nodes)?;
     let code = Code::new(alloc, program)?;
     let soon = is_told_soon(alloc, &code, count, most, false)?;
     if soon {
         match findings_of_all(alloc, program, nodes, most) {
-            Ok(told) => return Ok(told),
+            Ok(told) => return Ok(Searched::All(told)),
             Err(ExploreFault::TooMany) => {}
-            Err(fault) => return Err(fault),
+            Err(ExploreFault::BadNodes) => return Err(ExploreFault::BadNodes),
+            Err(ExploreFault::NoMemory) => return Err(ExploreFault::NoMemory),
         }
     }
-    let findings = findings_of(alloc, &code, count, most)?;
-    if soon || findings.stuck.is_none() && findings.trap.is_none() {
-        return Ok(findings);
+    let searched = findings_of(alloc, &code, count, most)?;
+    if soon || are_last(&searched) {
+        return Ok(searched);
     }
     match findings_of_all(alloc, program, nodes, most) {
-        Ok(told) => Ok(told),
-        Err(ExploreFault::TooMany) => Ok(findings),
-        Err(fault) => Err(fault),
+        Ok(told) => Ok(Searched::All(told)),
+        Err(ExploreFault::TooMany) => Ok(searched),
+        Err(ExploreFault::BadNodes) => Err(ExploreFault::BadNodes),
+        Err(ExploreFault::NoMemory) => Err(ExploreFault::NoMemory),
     }
 }
 
@@ -132,9 +164,11 @@ fn findings_of(
     code: &Code<'_>,
     nodes: u8,
     most: usize,
-) -> Result<Findings, ExploreFault>
-    ensures findings { IfOk result (AreFindings code.now nodes) }
+) -> Result<Searched, ExploreFault>
+    ensures findings { IfOk result (IsSearched code.now nodes most) }
     ensures faults { IfErr result (IsFaultOf code.now nodes most false false) }
+    ensures too_long { IfErr result (λ fault. fault ≡ ExploreFault.TooMany
+        → ComputesTooLong code.now nodes most) }
 {
     let task = task_of(alloc, code, nodes, most, false)?;
     let mut less = Less::none(alloc, nodes as usize);
@@ -176,11 +210,31 @@ fn outcomes_of(
     Ok(ended.outcomes)
 }
 
-// Whether a verdict names no order.
-fn is_plain(verdict: &Verdict) -> bool {
-    match verdict {
-        Verdict::RaceFree(findings) => findings.stuck.is_none() && findings.trap.is_none(),
-        Verdict::Racy { .. } => false,
+// Whether no other order is to be told: the verdict names none, or there are too many states.
+fn is_last(explored: &Explored) -> bool {
+    match explored {
+        Explored::Told(Verdict::RaceFree(found)) => found.stuck.is_none() && found.trap.is_none(),
+        Explored::Told(Verdict::Racy { .. }) => false,
+        Explored::Many(_) => true,
+    }
+}
+
+// The same where no races are looked for.
+fn are_last(searched: &Searched) -> bool {
+    match searched {
+        Searched::All(found) => found.stuck.is_none() && found.trap.is_none(),
+        Searched::Many(_) => true,
+    }
+}
+
+// What was met among too many states, as an answer: if both are told, nothing else is to be found.
+fn searched_of(met: Findings) -> Searched
+    ensures { result ≡ searched_of (tells_both met) met }
+{
+    if met.stuck.is_some() && met.trap.is_some() {
+        Searched::All(met)
+    } else {
+        Searched::Many(met)
     }
 }
 
@@ -211,36 +265,55 @@ impl Less {
     ghost use Rattle.std.specs.Prelude.{◌≡◌, IfErr, IfOk, false, length, option_map, true};
     ghost use Rattle.lrc_orders.specs.Verdict.{AreFindings, TellsStuck, TellsTrap};
     ghost use Rattle.lrc_explore.specs.declared.task.Trapping.TheVariants.{Step};
-    ghost use Rattle.lrc_explore.specs.Answers.{IsAnswer, IsFault, IsSearchFault};
+    ghost use Rattle.lrc_explore.specs.Answers.{IsAnswer, IsFault};
     ghost use Rattle.lrc_explore.specs.Reached.{IsTask};
     ghost use Rattle.lrc_explore.specs.Traps.{IsTrapping, LeadIntoTrap};
     ghost use Rattle.lrc_explore_less.specs.Passing.{AreLess, IsNone, IsSound};
     ghost use Rattle.lrc_explore_less.specs.Enough.{AreDone, HasBegun, IsEnd, IsStuckOpen, IsThrough};
+    ghost use Rattle.lrc_explore_less.specs.Met.{IsTaskExplored, IsTaskSearched};
 
     // From the settled start on, where there are no states yet: what is answered.
-    fn answer(&mut self, alloc: Global, task: &Task<'_>) -> Result<Verdict, ExploreFault>
+    fn answer(&mut self, alloc: Global, task: &Task<'_>) -> Result<Explored, ExploreFault>
         requires task { IsTask task.now }
         requires none { IsNone task.now self.old }
-        ensures answer { IfOk result (IsAnswer task.now.program.now task.now.flat.nodes) }
-        ensures faults { IfErr result (IsSearchFault task.now true) }
+        ensures answer { IfOk result (IsTaskExplored task.now) }
+        ensures faults { IfErr result (IsFault task.now) }
     {
         self.begin(alloc, task)?;
-        let end = self.seek(alloc, task, true)?;
-        self.verdict(alloc, task, end)
+        let sought = self.seek(alloc, task, true)?;
+        match sought {
+            Sought::Ended(end) => {
+                let verdict = self.verdict(alloc, task, end)?;
+                Ok(Explored::Told(verdict))
+            }
+            Sought::Many { stuck, trap } => {
+                let met = self.found.met_told(alloc, task, true, stuck, trap)?;
+                Ok(Explored::Many(met))
+            }
+        }
     }
 
     // The same where races are not looked for.
-    fn all_findings(&mut self, alloc: Global, task: &Task<'_>) -> Result<Findings, ExploreFault>
+    fn all_findings(&mut self, alloc: Global, task: &Task<'_>) -> Result<Searched, ExploreFault>
         requires task { IsTask task.now }
         requires none { IsNone task.now self.old }
-        ensures findings { IfOk result (AreFindings task.now.program.now task.now.flat.nodes) }
-        ensures faults { IfErr result (IsSearchFault task.now false) }
+        ensures findings { IfOk result (IsTaskSearched task.now) }
+        ensures faults { IfErr result (IsFault task.now) }
     {
         self.begin(alloc, task)?;
-        let end = self.seek(alloc, task, false)?;
-        match end {
-            End::Meeting { .. } => unreachable!(),
-            End::Through { stuck, trap } => self.findings_told(alloc, task, stuck, trap),
+        let sought = self.seek(alloc, task, false)?;
+        match sought {
+            Sought::Ended(end) => match end {
+                End::Meeting { .. } => unreachable!(),
+                End::Through { stuck, trap } => {
+                    let found = self.findings_told(alloc, task, stuck, trap)?;
+                    Ok(Searched::All(found))
+                }
+            },
+            Sought::Many { stuck, trap } => {
+                let met = self.found.met_told(alloc, task, false, stuck, trap)?;
+                Ok(searched_of(met))
+            }
         }
     }
 

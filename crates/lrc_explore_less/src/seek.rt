@@ -7,7 +7,7 @@ ghost use Rattle.lrc_explore.specs.Answers.{AddsOnly, first_stuck};
 
 use crate::less::{Less, most_rows};
 use indexmap::IndexSet;
-use lrc_explore::task::{End, Task};
+use lrc_explore::task::{End, Sought, Task};
 use lrc_orders::outcomes::Outcome;
 use lrc_orders::search::ExploreFault;
 use lrc_orders_table::rows::Row;
@@ -51,41 +51,49 @@ impl Less {
     ghost use Rattle.lrc_orders_table.specs.Rows.{row_count};
     ghost use Rattle.lrc_orders_table.specs.Tables.{IsKnown, IsRowOf, IsTable};
     ghost use Rattle.lrc_explore.specs.Answers.{AreSound, IsFault, IsSearchFault};
-    ghost use Rattle.lrc_explore.specs.Reached.{AreFound, IsTask};
-    ghost use Rattle.lrc_explore_less.specs.Passing.{AreLess, Widens};
+    ghost use Rattle.lrc_explore.specs.Reached.{AreCalm, AreFound, IsTask};
+    ghost use Rattle.lrc_explore_less.specs.Passing.{AreLess, IsSound, Widens};
     ghost use Rattle.lrc_explore_less.specs.Enough.{HasBegun, IsEnd, IsVisit};
+    ghost use Rattle.lrc_explore_less.specs.Met.{IsSought};
     ghost use Rattle.lrc_explore_less.specs.Outcomes.{AreGathered, IsGatheredAt};
 
     /// Looks for a state where two nodes meet, if `races` is true. If there is none, enough states are found, and the
     /// answer tells the first of them at which the program is stuck, if any, and where a node traps first, if one does.
-    /// Where it gives up for too many states, no two nodes meet at any of those that were found, if `races` is true.
-    pub fn seek(&mut self, alloc: Global, task: &Task<'_>, races: bool) -> Result<End, ExploreFault>
+    /// Where there are too many states, no two nodes meet at any of those that were found, if `races` is true, and the
+    /// answer tells the first of them at which the program is stuck. It fails if a node makes so many free acts that the
+    /// limit is reached, or if memory runs out.
+    pub fn seek(
+        &mut self,
+        alloc: Global,
+        task: &Task<'_>,
+        races: bool,
+    ) -> Result<Sought, ExploreFault>
         requires task { IsTask task.now }
         requires less { AreLess task.now self.old }
         requires begun { HasBegun task.now self.old }
         ensures less { OnOk result (AreLess task.now self.new) }
         ensures begun { OnOk result (HasBegun task.now self.new) }
-        ensures end { IfOk result (IsEnd task.now self.new races) }
-        ensures faults { IfErr result (IsSearchFault task.now races) }
+        ensures sought { IfOk result (IsSought task.now self.new races) }
+        ensures faults { IfErr result (IsFault task.now) }
     {
         let mut stuck = None;
         let mut index = 0;
         while index < self.opens.len() {
             let many = self.are_too_many(task);
             if many {
-                return self.meeting_of_all(task, races);
+                return Ok(self.end_of_all(task, races));
             }
             let place = self.opens[index];
             match self.visit(alloc, task, place, races)? {
-                Visit::Meeting(p, q) => return Ok(End::Meeting { place, p, q }),
+                Visit::Meeting(p, q) => return Ok(Sought::Ended(End::Meeting { place, p, q })),
                 Visit::Past { stuck: halts } => stuck = first_stuck(stuck, halts, place),
             }
             index += 1;
         }
-        Ok(End::Through {
+        Ok(Sought::Ended(End::Through {
             stuck,
             trap: self.trap,
-        })
+        }))
     }
 
     // Whether there are more states than may be: those from which every step is taken, or all that are kept.
@@ -97,22 +105,39 @@ impl Less {
         self.opens.len() > task.most || self.found.table.rows.len() > most_rows(task)
     }
 
-    // The first state where two nodes meet, if that is looked for, where there are more states than may be. If there is
-    // none, there are too many.
-    fn meeting_of_all(&self, task: &Task<'_>, races: bool) -> Result<End, ExploreFault>
-        requires found { AreFound task.now self.now.found }
+    // Where a search ends that has found more states than may be: at the first where two nodes meet, if that is looked
+    // for; or with what it met at them.
+    fn end_of_all(&self, task: &Task<'_>, races: bool) -> Sought
+        requires sound { IsSound task.now self.now }
         requires many { task.now.most < row_count self.now.found.table.rows }
-        ensures end { IfOk result (IsEnd task.now self.now races) }
-        ensures faults { IfErr result (IsSearchFault task.now races) }
+        ensures { IsSought task.now self.now races result }
+    {
+        match self.meeting_of_all(task, races) {
+            Some(end) => Sought::Ended(end),
+            None => {
+                let stuck = self.found.stuck_of_all(task);
+                Sought::Many {
+                    stuck,
+                    trap: self.trap,
+                }
+            }
+        }
+    }
+
+    // The first of all states where two nodes meet, if that is looked for.
+    fn meeting_of_all(&self, task: &Task<'_>, races: bool) -> Option<End>
+        requires found { AreFound task.now self.now.found }
+        ensures { MatchOption result (races ≡ true → AreCalm task.now self.now.found.table.rows
+            (row_count self.now.found.table.rows)) (IsEnd task.now self.now races) }
     {
         let _most = task.most;
         for place in 0..self.found.table.rows.len() {
             let row = self.found.table.rows.row(place);
             if let Some((p, q)) = self.meeting(&row, races) {
-                return Ok(End::Meeting { place, p, q });
+                return Some(End::Meeting { place, p, q });
             }
         }
-        Err(ExploreFault::TooMany)
+        None
     }
 
     // Looks at a state, and finds those to which steps lead from it, but where two nodes meet there and that is looked for.

@@ -47,10 +47,8 @@ module _ (wording : Wording) (program : Program) (nodes : ℕ) (lines : List ℕ
   of_joined none head before last besides lost first b says (Ok p) text status =
       behind none head before last (whole_text p.parts.items) besides p.status lost first b says text status
 
-  pub of_raced : races ≡ true → (r : Result Printout AllocError)
-      → IfOk r (λ p. TellsOrders wording program nodes lines (whole_text p.parts.items) p.status) → IfOk r (λ p. p.status ≡ 3)
-      → IfOk r (λ p. TellsEnds wording program nodes lines races (whole_text p.parts.items) p.status)
-  of_raced is (Err fault) text status = tt
-  of_raced is (Ok p) text status =
-      subst (λ s. TellsEnds wording program nodes lines races (whole_text p.parts.items) s) (sym status)
-      (raced is (subst (λ s. TellsOrders wording program nodes lines (whole_text p.parts.items) s) status text))
+  pub told_raced : races ≡ true → (out : List ℕ) (status : ℕ) → TellsOrders wording program nodes lines out status → status ≡ 3
+      → TellsEnds wording program nodes lines races out status
+  told_raced is out status told three =
+      subst (λ s. TellsEnds wording program nodes lines races out s) (sym three)
+      (raced is (subst (λ s. TellsOrders wording program nodes lines out s) three told))

@@ -16,10 +16,12 @@ use Rattle.lrc_orders.specs.Stuck.{GetsStuck}
 use Rattle.lrc_orders.specs.Traps.{NodeTraps}
 use Rattle.lrc_explore_causes.specs.Told.{TellsRace}
 use Rattle.lrc_explore.specs.Answers.{MetTooMany}
-use Rattle.lrc_explore_text.specs.declared.explored.Printout.{Printout}
-use Rattle.lrc_explore_text.specs.Explored.{Explores, MeetsTooMany, tells_orders, tells_outcomes}
+use Rattle.lrc_explore_text.specs.declared.explored.Told.{Told}
+use Rattle.lrc_explore_text.specs.declared.explored.Told.TheVariants.{All, Many}
+use Rattle.lrc_explore_text.specs.Met.{IsTold, TellsMet}
+use Rattle.lrc_explore_text.specs.Explored.{Explores, MeetsMany, MeetsTooMany, tells_orders, tells_outcomes}
 use Rattle.lrc_explore_text.specs.LastRaces.{AreRacesAt}
-use Rattle.lrc_explore_text.specs.Orders.{SaysStuck, SaysTrap, TellsFindings, TellsOrders, ends_text, findings_status, free, order_text, racy, some_stuck, some_trap, tells_findings}
+use Rattle.lrc_explore_text.specs.Orders.{SaysStuck, SaysTrap, TellsFindings, TellsOrders, ends_text, findings_status, free, no_stuck, no_trap, order_text, racy, some_stuck, some_trap, tells_findings}
 use Rattle.lrc_explore_text.specs.Outcomes.{TellsOutcomes}
 use Rattle.lrc_explore_text.specs.Sections.{TellsBehind}
 use Rattle.lrc_explore_text.specs.Trapped.{trapped_text}
@@ -27,20 +29,26 @@ use Rattle.lrc_explore_text.proofs.Led.{plain_stuck, plain_traps}
 
 -- ---- either question
 
-module _ (wording : Wording) (program : Program) (nodes : ℕ) (lines : List ℕ) (outcomes : Bool) where
-  pub of_outcomes : (r : Result Printout ExploreFault) → outcomes ≡ true → IfOk r (λ p. TellsOutcomes program nodes (whole_text p.parts.items))
-      → IfOk r (λ p. p.status ≡ 0) → IfOk r (λ p. Explores wording program nodes lines outcomes (whole_text p.parts.items) p.status)
-  of_outcomes (Err fault) is text status = tt
-  of_outcomes (Ok p) is text status =
-      subst (λ b. Explores wording program nodes lines b (whole_text p.parts.items) p.status) (sym is)
-      (subst (λ s. Explores wording program nodes lines true (whole_text p.parts.items) s) (sym status) (tells_outcomes text))
+module _ (wording : Wording) (program : Program) (nodes : ℕ) (lines : List ℕ) (most : ℕ) (outcomes : Bool) where
+  pub of_outcomes : outcomes ≡ true → (out : List ℕ) (status : ℕ) → TellsOutcomes program nodes out → status ≡ 0
+      → Explores wording program nodes lines outcomes out status
+  of_outcomes is out status text ends =
+      subst (λ b. Explores wording program nodes lines b out status) (sym is)
+      (subst (λ s. Explores wording program nodes lines true out s) (sym ends) (tells_outcomes text))
 
-  pub of_orders : (r : Result Printout ExploreFault) → outcomes ≡ false → IfOk r (λ p. TellsOrders wording program nodes lines (whole_text p.parts.items) p.status)
-      → IfOk r (λ p. Explores wording program nodes lines outcomes (whole_text p.parts.items) p.status)
+  of_told : outcomes ≡ false → (told : Told) → IsTold (TellsOrders wording program nodes lines) (TellsMet wording program nodes lines most true) told
+      → IsTold (Explores wording program nodes lines outcomes) (MeetsMany wording program nodes lines most outcomes) told
+  of_told is (All printout) text =
+      subst (λ b. Explores wording program nodes lines b (whole_text printout.parts.items) printout.status) (sym is) (tells_orders text)
+  of_told is (Many parts) met = (is, met)
+
+  pub of_orders : (r : Result Told ExploreFault) → outcomes ≡ false
+      → IfOk r (IsTold (TellsOrders wording program nodes lines) (TellsMet wording program nodes lines most true))
+      → IfOk r (IsTold (Explores wording program nodes lines outcomes) (MeetsMany wording program nodes lines most outcomes))
   of_orders (Err fault) is text = tt
-  of_orders (Ok p) is text = subst (λ b. Explores wording program nodes lines b (whole_text p.parts.items) p.status) (sym is) (tells_orders text)
+  of_orders (Ok told) is text = of_told is told text
 
-module _ (program : Program) (nodes most : ℕ) (outcomes : Bool) (r : Result Printout ExploreFault) where
+module _ (program : Program) (nodes most : ℕ) (outcomes : Bool) (r : Result Told ExploreFault) where
   -- why it gives up
   pub gives_up : (b : Bool) → outcomes ≡ b → IfErr r (λ fault. fault ≡ TooMany → MetTooMany program nodes most b (not b))
       → IfErr r (λ fault. fault ≡ TooMany → MeetsTooMany program nodes most outcomes)
@@ -64,6 +72,17 @@ module _ (wording : Wording) (program : Program) (nodes : ℕ) (lines : List ℕ
       let same : acts ≡ traps.acts = same_Some acts traps.acts (sym led ∙ plain_traps program nodes order traps) in
       let whole = is ∙ ap (λ a. codes "some order traps:\n" ++ order_text program nodes lines a ++ trapped_text wording program nodes lines a) same in
       subst (λ o. SaysTrap wording program nodes lines true o) (sym whole) (some_trap traps)
+
+-- where an order is known, one is told
+pub told_stuck : (wording : Wording) (program : Program) (nodes : ℕ) (lines order : List ℕ) → GetsStuck program nodes order → (told : Bool) (out : List ℕ)
+    → SaysStuck wording program nodes lines told out → SaysStuck wording program nodes lines true out
+told_stuck wording program nodes lines order gets true out says = says
+told_stuck wording program nodes lines order gets false out (no_stuck never) = absurd (never order gets)
+
+pub told_trap : (wording : Wording) (program : Program) (nodes : ℕ) (lines order : List ℕ) → NodeTraps program nodes order → (told : Bool) (out : List ℕ)
+    → SaysTrap wording program nodes lines told out → SaysTrap wording program nodes lines true out
+told_trap wording program nodes lines order traps true out says = says
+told_trap wording program nodes lines order traps false out (no_trap never) = absurd (never order traps)
 
 -- ---- what is found besides races
 

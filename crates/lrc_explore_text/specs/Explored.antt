@@ -1,8 +1,9 @@
 -- What is printed of every order of a program, and the status after it.
-use Rattle.std.specs.Prelude.{ℕ, Bool, true, false, List, not}
+use Rattle.std.specs.Prelude.{◌≡◌, ℕ, Bool, true, false, List, not}
 use Rattle.lrc_program.specs.declared.Program.{Program}
 use Rattle.lrc_explain_waits.specs.Traps.{Wording}
 use Rattle.lrc_explore.specs.Answers.{MetTooMany}
+use Rattle.lrc_explore_text.specs.Met.{TellsMet}
 use Rattle.lrc_explore_text.specs.Orders.{TellsOrders}
 use Rattle.lrc_explore_text.specs.Outcomes.{TellsOutcomes}
 
@@ -14,3 +15,7 @@ pub data Explores (wording : Wording) (program : Program) (nodes : ℕ) (lines :
 -- the search met more states than it may, or looked at more acts; where outcomes are asked for, its states are told apart by their notes too
 abbrev pub MeetsTooMany : Program → (nodes most : ℕ) → (outcomes : Bool) → Type 0
 MeetsTooMany program nodes most outcomes = MetTooMany program nodes most outcomes (not outcomes)
+
+-- what was met among too many states is told, where no outcomes are asked for
+abbrev pub MeetsMany : Wording → Program → (nodes : ℕ) → (lines : List ℕ) → (most : ℕ) → (outcomes : Bool) → List ℕ → Type 0
+MeetsMany wording program nodes lines most outcomes out = (outcomes ≡ false) × TellsMet wording program nodes lines most true out

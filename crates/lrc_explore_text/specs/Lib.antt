@@ -6,3 +6,4 @@ pub mod OutcomeRun
 pub mod Trapped
 pub mod Sections
 pub mod Ends
+pub mod Met

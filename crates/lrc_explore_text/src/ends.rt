@@ -1,17 +1,20 @@
 // Whether every order of a program can end, as it is printed.
 
-ghost use Rattle.std.specs.Prelude.{◌≡◌, ◌≢◌, ◌++◌, false, IfErr, IfOk, map, option_map};
+ghost use Rattle.std.specs.Prelude.{◌≡◌, ◌≢◌, ◌++◌, false, true, IfErr, IfOk, map, option_map};
 ghost use Rattle.lrc_explain_waits.specs.Traps.{wording_of};
 ghost use Rattle.lrc_text.specs.Parts.{whole_text};
 ghost use Rattle.lrc_exec.specs.Nodes.{AreNodes};
 ghost use Rattle.lrc_explore.specs.Answers.{FitsSettled, MetTooMany};
-ghost use Rattle.lrc_explore_ends.specs.Answers.{GoesThrough, IsEndAnswer};
-ghost use Rattle.lrc_explore_ends.specs.declared.answers.EndVerdict.TheVariants.{Through};
+ghost use Rattle.lrc_explore.specs.Met.{ComputesTooLong};
+ghost use Rattle.lrc_consistency_laws.specs.Racing.{HasNoRace};
+ghost use Rattle.lrc_explore_ends.specs.Answers.{AreEndFindings};
+ghost use Rattle.lrc_explore_text.specs.Met.{IsTold, TellsMet};
 ghost use Rattle.lrc_explore_text.specs.Ends.{SaysEnds, TellsEnds, ends_status, first_line};
 ghost use Rattle.lrc_explore_text.specs.Sections.{section_text};
 ghost use Rattle.lrc_orders_ends.specs.Ends.{CannotEnd, EveryOrderCanEnd, TellsEnd};
 
-use crate::explored::Printout;
+use crate::explored::{Printout, Told};
+use crate::met::met_told;
 use crate::orders::{Section, acts_of, acts_told, ends_told, found_told, line_alone, race_told};
 use lrc_explain_waits::Wording;
 use lrc_explore_ends::answers::{EndFindings, EndVerdict, explore_ends};
@@ -21,7 +24,8 @@ use std::alloc::{AllocError, Global};
 
 /// Searches every order in which `nodes` nodes can run a program, and returns what is printed: whether an order races, if
 /// `races` is true, and if none does, whether one gets stuck, whether a node traps in one, and whether every order can
-/// end. The lines of nodes have the labels of words and locks. Fails as `explored` does.
+/// end; or what was met among too many states. The lines of nodes have the labels of words and locks. Fails as `explored`
+/// does.
 pub fn explored_ends(
     alloc: Global,
     wording: &Wording<'_, '_>,
@@ -30,43 +34,33 @@ pub fn explored_ends(
     nodes: u32,
     most: usize,
     races: bool,
-) -> Result<Printout, ExploreFault>
+) -> Result<Told, ExploreFault>
     requires { AreNodes nodes }
-    ensures ok { IfOk result (λ printout.
-        TellsEnds (wording_of wording.now) program.now nodes lines.now races
-        (whole_text printout.parts.items) printout.status) }
-    ensures fits { IfOk result (λ printout. printout.status ≢ 3
-        → FitsSettled program.now nodes most) }
+    ensures ok { IfOk result (IsTold
+        (TellsEnds (wording_of wording.now) program.now nodes lines.now races)
+        (TellsMet (wording_of wording.now) program.now nodes lines.now most races)) }
+    ensures fits { IfOk result (IsTold (λ _ status. status ≢ 3
+        → FitsSettled program.now nodes most) (λ _. Unit)) }
     ensures nodes { IfErr result (λ fault. fault ≢ ExploreFault.BadNodes) }
     ensures too_many { IfErr result (λ fault. fault ≡ ExploreFault.TooMany
         → MetTooMany program.now nodes most false races) }
+    ensures too_long { IfErr result (λ fault. fault ≡ ExploreFault.TooMany
+        → ComputesTooLong program.now nodes most) }
 {
-    let verdict = explore_ends(alloc, program, nodes, most, races)?;
-    let printout = answer_told(alloc, wording, program, lines, nodes as u8, races, &verdict)?;
-    Ok(printout)
-}
-
-fn answer_told(
-    alloc: Global,
-    wording: &Wording<'_, '_>,
-    program: &Program,
-    lines: &[u32],
-    nodes: u8,
-    races: bool,
-    verdict: &EndVerdict,
-) -> Result<Printout, AllocError>
-    requires nodes { AreNodes nodes }
-    requires verdict { IsEndAnswer program.now nodes races verdict.now }
-    ensures ok { IfOk result (λ printout.
-        TellsEnds (wording_of wording.now) program.now nodes lines.now races
-        (whole_text printout.parts.items) printout.status) }
-    ensures free { IfOk result (λ printout. printout.status ≢ 3 → GoesThrough verdict.now) }
-{
-    match verdict {
+    match explore_ends(alloc, program, nodes, most, races)? {
         EndVerdict::Through(found) => {
-            through_told(alloc, wording, program, lines, nodes, races, found)
+            let count = nodes as u8;
+            let printout = through_told(alloc, wording, program, lines, count, races, &found)?;
+            Ok(Told::All(printout))
         }
-        EndVerdict::Racy { order } => race_told(alloc, wording, program, lines, nodes, order),
+        EndVerdict::Racy { order } => {
+            let printout = race_told(alloc, wording, program, lines, nodes as u8, &order)?;
+            Ok(Told::All(printout))
+        }
+        EndVerdict::Many(met) => {
+            let parts = met_told(alloc, wording, program, lines, nodes as u8, &met)?;
+            Ok(Told::Many(parts))
+        }
     }
 }
 
@@ -81,7 +75,8 @@ fn through_told(
     found: &EndFindings,
 ) -> Result<Printout, AllocError>
     requires nodes { AreNodes nodes }
-    requires found { IsEndAnswer program.now nodes races (Through found.now) }
+    requires free { races ≡ true → HasNoRace program.now nodes }
+    requires found { AreEndFindings program.now nodes found.now }
     ensures { IfOk result (λ printout.
         TellsEnds (wording_of wording.now) program.now nodes lines.now races
         (whole_text printout.parts.items) printout.status) }

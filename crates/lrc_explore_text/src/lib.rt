@@ -6,6 +6,7 @@ pub mod ends;
 pub mod explored;
 mod last_races;
 pub mod laws;
+mod met;
 pub mod orders;
 pub mod outcome_run;
 pub mod outcomes;

@@ -7,22 +7,25 @@ ghost use Rattle.lrc_text.specs.Parts.{whole_text};
 ghost use Rattle.lrc_exec.specs.Plain.{plain};
 ghost use Rattle.lrc_exec.specs.Nodes.{AreNodes};
 ghost use Rattle.lrc_explore.specs.Answers.{IsAnswer, MetTooMany};
+ghost use Rattle.lrc_explore.specs.Met.{ComputesTooLong};
 ghost use Rattle.lrc_orders.specs.Stuck.{GetsStuck};
 ghost use Rattle.lrc_orders.specs.Traps.{NeverTraps, NodeTraps};
 ghost use Rattle.lrc_orders.specs.Verdict.{AreFindings, EndsInRace, FindsNoRace, NeverStuck, TellsStuck, TellsTrap};
 ghost use Rattle.lrc_explore_causes.specs.Told.{TellsRace};
 ghost use Rattle.lrc_trace.specs.declared.act.Act.{Act as ActType};
+ghost use Rattle.lrc_explore_text.specs.Met.{IsTold, TellsMet};
 ghost use Rattle.lrc_explore_text.specs.Orders.{SaysStuck, SaysTrap, TellsFindings, TellsOrders, ends_text, findings_status, order_text};
 ghost use Rattle.lrc_explore_text.specs.Sections.{TellsBehind, section_text};
 
-use crate::explored::Printout;
+use crate::explored::{Printout, Told};
 use crate::last_races::races_at;
+use crate::met::met_told;
 use crate::trapped::trapped_part;
 use lrc_acts_text::acts_part;
 use lrc_exec::code::Code;
 use lrc_exec::plain::plain_run;
 use lrc_explain_waits::{Wording, stuck_part};
-use lrc_explore_less::answers::{explore, findings};
+use lrc_explore_less::answers::{Explored, Searched, explore, findings};
 use lrc_lines::walks::lines_of_acts;
 use lrc_orders::search::{ExploreFault, Findings, Verdict};
 use lrc_program::Program;
@@ -30,8 +33,8 @@ use lrc_text::{first_race_part, races_part};
 use lrc_trace::act::Act;
 use std::alloc::{AllocError, Global};
 
-/// Returns what is printed of the verdict on a program, and of the order that it names. The lines of stuck nodes have
-/// the labels of words and locks.
+/// Returns what is printed of the verdict on a program, and of the order that it names, or of what was met among too many
+/// states. The lines of stuck nodes have the labels of words and locks.
 pub(crate) fn orders_told(
     alloc: Global,
     wording: &Wording<'_, '_>,
@@ -39,22 +42,31 @@ pub(crate) fn orders_told(
     lines: &[u32],
     nodes: u32,
     most: usize,
-) -> Result<Printout, ExploreFault>
+) -> Result<Told, ExploreFault>
     requires { AreNodes nodes }
-    ensures ok { IfOk result (λ printout.
-        TellsOrders (wording_of wording.now) program.now nodes lines.now
-        (whole_text printout.parts.items) printout.status) }
+    ensures ok { IfOk result (IsTold
+        (TellsOrders (wording_of wording.now) program.now nodes lines.now)
+        (TellsMet (wording_of wording.now) program.now nodes lines.now most true)) }
     ensures nodes { IfErr result (λ fault. fault ≢ ExploreFault.BadNodes) }
     ensures too_many { IfErr result (λ fault. fault ≡ ExploreFault.TooMany
         → MetTooMany program.now nodes most false true) }
+    ensures too_long { IfErr result (λ fault. fault ≡ ExploreFault.TooMany
+        → ComputesTooLong program.now nodes most) }
 {
-    let verdict = explore(alloc, program, nodes, most)?;
-    let printout = verdict_told(alloc, wording, program, lines, nodes as u8, &verdict)?;
-    Ok(printout)
+    match explore(alloc, program, nodes, most)? {
+        Explored::Told(verdict) => {
+            let printout = verdict_told(alloc, wording, program, lines, nodes as u8, &verdict)?;
+            Ok(Told::All(printout))
+        }
+        Explored::Many(met) => {
+            let parts = met_told(alloc, wording, program, lines, nodes as u8, &met)?;
+            Ok(Told::Many(parts))
+        }
+    }
 }
 
-/// Returns what is printed of stuck orders and of traps of a program, whether or not an order races. The lines of nodes
-/// have the labels of words and locks. Fails as `explored` does.
+/// Returns what is printed of stuck orders and of traps of a program, whether or not an order races, or of what was met
+/// among too many states. The lines of nodes have the labels of words and locks. Fails as `explored` does.
 pub fn findings_told(
     alloc: Global,
     wording: &Wording<'_, '_>,
@@ -62,18 +74,27 @@ pub fn findings_told(
     lines: &[u32],
     nodes: u32,
     most: usize,
-) -> Result<Printout, ExploreFault>
+) -> Result<Told, ExploreFault>
     requires { AreNodes nodes }
-    ensures ok { IfOk result (λ printout.
-        TellsFindings (wording_of wording.now) program.now nodes lines.now
-        (whole_text printout.parts.items) printout.status) }
+    ensures ok { IfOk result (IsTold
+        (TellsFindings (wording_of wording.now) program.now nodes lines.now)
+        (TellsMet (wording_of wording.now) program.now nodes lines.now most false)) }
     ensures nodes { IfErr result (λ fault. fault ≢ ExploreFault.BadNodes) }
     ensures too_many { IfErr result (λ fault. fault ≡ ExploreFault.TooMany
         → MetTooMany program.now nodes most false false) }
+    ensures too_long { IfErr result (λ fault. fault ≡ ExploreFault.TooMany
+        → ComputesTooLong program.now nodes most) }
 {
-    let found = findings(alloc, program, nodes, most)?;
-    let printout = found_told(alloc, b"", wording, program, lines, nodes as u8, &found)?;
-    Ok(printout)
+    match findings(alloc, program, nodes, most)? {
+        Searched::All(found) => {
+            let printout = found_told(alloc, b"", wording, program, lines, nodes as u8, &found)?;
+            Ok(Told::All(printout))
+        }
+        Searched::Many(met) => {
+            let parts = met_told(alloc, wording, program, lines, nodes as u8, &met)?;
+            Ok(Told::Many(parts))
+        }
+    }
 }
 
 fn verdict_told(
@@ -141,7 +162,7 @@ fn findings_status(stuck: bool, traps: bool) -> u8
 }
 
 // The parts of a text of a first line and two sections.
-fn parts_of(
+pub(crate) fn parts_of(
     alloc: Global,
     head: &[u8],
     first: Section,
@@ -215,7 +236,7 @@ fn none_stuck(
 }
 
 // An order that gets stuck, and where it leaves the nodes.
-fn stuck_told(
+pub(crate) fn stuck_told(
     alloc: Global,
     wording: &Wording<'_, '_>,
     program: &Program,
@@ -280,7 +301,7 @@ fn none_traps(
 }
 
 // An order in which a node traps, and the nodes that have trapped after it.
-fn trap_told(
+pub(crate) fn trap_told(
     alloc: Global,
     wording: &Wording<'_, '_>,
     program: &Program,

@@ -4,9 +4,9 @@ ghost use Rattle.std.specs.Prelude.{◌≡◌, ◌<◌, ◌↔◌, ℕ, List, []
 ghost use Rattle.std.specs.Char.{is_ascii_digit};
 ghost use Rattle.std.specs.List.{list_all};
 ghost use Rattle.std.specs.Str.Parse.{IsNumeral, digits_value};
-ghost use Rattle.lrc_lang.specs.Lexemes.{keyword_text};
 ghost use Rattle.lrc_labels.specs.Name.{is_keyword, is_letter, is_name, is_numeral, is_word_byte};
 
+use lrc_lang::lexer::spelling_of;
 use lrc_lang::token::Keyword;
 use lrc_text::read_number;
 
@@ -57,25 +57,6 @@ fn is_keyword(word: &[u8]) -> bool
     ensures { result ≡ is_keyword word.now }
 {
     KEYWORDS.iter().any(|keyword| spelling_of(*keyword) == word)
-}
-
-// How a keyword is spelled.
-fn spelling_of(keyword: Keyword) -> &'static [u8]
-    ensures { result.now ≡ keyword_text keyword }
-{
-    match keyword {
-        Keyword::Words => b"words",
-        Keyword::Locks => b"locks",
-        Keyword::Acquire => b"acquire",
-        Keyword::Release => b"release",
-        Keyword::Barrier => b"barrier",
-        Keyword::Print => b"print",
-        Keyword::If => b"if",
-        Keyword::Else => b"else",
-        Keyword::While => b"while",
-        Keyword::Me => b"me",
-        Keyword::Nodes => b"nodes",
-    }
 }
 
 /// Returns whether these bytes are one or more decimal digits.

@@ -248,8 +248,8 @@ fn keyword_of(word: &[u8]) -> Option<Keyword>
         .copied()
 }
 
-// How a keyword is spelled.
-fn spelling_of(keyword: Keyword) -> &'static [u8]
+/// Returns how a keyword is spelled.
+pub fn spelling_of(keyword: Keyword) -> &'static [u8]
     ensures { result.now ≡ keyword_text keyword }
 {
     match keyword {

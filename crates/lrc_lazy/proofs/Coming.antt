@@ -1,17 +1,16 @@
 -- Threads that come by deeds to where they stand, and runs by one act more or less.
-use Rattle.std.proofs.Common.{◌≡◌, ℕ, ◌<◌, true, false, List, [], ◌∷◌, ◌++◌, length, map, inl, inr, refl, sym, subst, ◌∙◌, ap, arith}
-use Rattle.std.specs.Prelude.{◌==◌, Option, Some, None, filter}
+use Rattle.std.proofs.Common.{◌≡◌, ℕ, ◌<◌, true, false, List, [], ◌∷◌, ◌++◌, length, inl, inr, refl, sym, subst, ◌∙◌, ap, arith}
+use Rattle.std.specs.Prelude.{Option, Some, None}
 use Rattle.std.proofs.lemmas.Bool.{cases_eq}
-use Rattle.std.proofs.lemmas.List.{append-nil, map-append, take-append-le}
-use Rattle.std.proofs.lemmas.List.Elements.{filter-append}
+use Rattle.std.proofs.lemmas.List.{append-nil, take-append-le}
 use Rattle.lrc_program.specs.declared.Program.{Program}
 use Rattle.lrc_trace.specs.declared.act.Act.{Act}
 use Rattle.lrc_trace.specs.declared.act.Deed.{Deed}
 use Rattle.lrc_trace.specs.declared.act.Deed.TheVariants.{Read, Acquire, Release, Depart}
 use Rattle.lrc_trace.specs.Run.{act_of, is_arrive, is_depart, arrives_before, departs_before}
 use Rattle.lrc_trace.specs.Synchronization.{Holds, MayGoOn}
-use Rattle.lrc_trace.proofs.Positions.{Does-longer, Does-cases, arrives_before-prefix, departs_before-prefix}
-use Rattle.lrc_trace.proofs.Prefixes.{Holds-longer, Holds-shorter, IsWellSynchronized-shorter, ReadsLazily-shorter}
+use Rattle.lrc_trace.proofs.Positions.{Does-cases, arrives_before-prefix, departs_before-prefix}
+use Rattle.lrc_trace.proofs.Prefixes.{Holds-longer, Holds-shorter}
 use Rattle.lrc_exec.specs.Meaning.{Thread, Next, next_of}
 use Rattle.lrc_exec.specs.Plain.{Plain, start_of}
 use Rattle.lrc_exec.proofs.NextLaws.{IsFine, Stays}
@@ -23,21 +22,10 @@ use Rattle.lrc_consistency_laws.proofs.Runs.{SoundAt, deeds_of-other}
 use Rattle.lrc_consistency_laws.proofs.UpToRace.{in_range}
 use Rattle.lrc_lazy.specs.Lazy.{IsLazyRun}
 use Rattle.lrc_lazy.proofs.Onward.{deeds_more-own, all_in_range}
+use Rattle.lrc_lazy.proofs.Deeds.{deeds_joined, goes_one, lazy_front}
 use Rattle.lrc_lazy.specs.Standing.{Comes, there, onward}
 
 -- ---- deeds of a thread
-
-goes_one : {n : Next} {d e : Deed} {s t : Option Thread} → Goes n d s → Goes n e t → d ≡ e → s ≡ t
-goes_one quietly quietly same = refl
-goes_one printing printing same = refl
-goes_one (reading {t = f} {w = w} {v = v}) (reading {v = u}) same = let value : v ≡ u = cc in ap (λ x. Some (f x)) value
-goes_one writing writing same = refl
-goes_one acquiring acquiring same = refl
-goes_one releasing releasing same = refl
-goes_one arriving arriving same = refl
-goes_one departing departing same = refl
-goes_one trapping trapping same = refl
-goes_one ending ending same = refl
 
 pub comes_makes : {o t : Option Thread} {ds : List Deed} → Comes o ds t → Makes o ds
 comes_makes there = nothing_more
@@ -60,32 +48,15 @@ comes_goes [] there (and_then g m) = record { thread = _; stands = refl; after =
 comes_goes (x ∷ ds) {d} (onward g c) (and_then h m) =
     comes_goes ds c (subst (λ o. Makes o (ds ++ d ∷ [])) (goes_one h g refl) m)
 
-makes_front : {o : Option Thread} (ds es : List Deed) → Makes o (ds ++ es) → Makes o ds
-makes_front [] es m = nothing_more
-makes_front (d ∷ ds) es (and_then g m) = and_then g (makes_front ds es m)
-
 -- ---- the deeds of a node in a run of one act more
-
-deeds_append : (n : ℕ) (run more : List Act) → deeds_of n (run ++ more) ≡ deeds_of n run ++ deeds_of n more
-deeds_append n run more =
-    ap (map (λ (x : Act). x.deed)) (filter-append (λ (x : Act). x.node == n) run more)
-    ∙ map-append (λ (x : Act). x.deed) (filter (λ (x : Act). x.node == n) run) (filter (λ (x : Act). x.node == n) more)
 
 pub deeds_same : (n : ℕ) (run : List Act) (a : Act) → (a.node ≡ n → ⊥) → deeds_of n (run ++ a ∷ []) ≡ deeds_of n run
 deeds_same n run a other =
-    deeds_append n run (a ∷ []) ∙ ap (λ ds. deeds_of n run ++ ds) (deeds_of-other a [] n other) ∙ append-nil (deeds_of n run)
+    deeds_joined n run (a ∷ []) ∙ ap (λ ds. deeds_of n run ++ ds) (deeds_of-other a [] n other) ∙ append-nil (deeds_of n run)
 
 -- a lazy run of one act less
 pub lazy_shorter : (program : Program) (nodes : ℕ) (run : List Act) (a : Act) → IsLazyRun program nodes (run ++ a ∷ []) → IsLazyRun program nodes run
-lazy_shorter program nodes run a lazy = record {
-  follows = record {
-    in_range = all_in_range nodes run (λ k n d does. in_range lazy.follows k n d (Does-longer (a ∷ []) does));
-    each = λ n lt. makes_front (deeds_of n run) (deeds_of n (a ∷ []))
-        (subst (λ ds. Makes (Some (start_of program nodes n)) ds) (deeds_append n run (a ∷ [])) (lazy.follows.each n lt));
-  };
-  synchronized = IsWellSynchronized-shorter run (a ∷ []) nodes lazy.synchronized;
-  lazily = ReadsLazily-shorter run (a ∷ []) lazy.lazily;
-}
+lazy_shorter program nodes run a lazy = lazy_front program nodes run (a ∷ []) lazy
 
 pub follows_more : (program : Program) (nodes : ℕ) (run : List Act) (node : ℕ) (deed : Deed) → FollowsText program nodes run → node < nodes
     → Makes (Some (start_of program nodes node)) (deeds_of node run ++ deed ∷ []) → FollowsText program nodes (run ++ act_of node deed ∷ [])

@@ -89,7 +89,7 @@ lazy_front program nodes run more lazy = record {
 
 -- ---- a thread makes one deed next, but for the value that it reads
 
-goes_one : {n : Next} {d e : Deed} {s t : Option Thread} → Goes n d s → Goes n e t → d ≡ e → s ≡ t
+pub goes_one : {n : Next} {d e : Deed} {s t : Option Thread} → Goes n d s → Goes n e t → d ≡ e → s ≡ t
 goes_one quietly quietly is = refl
 goes_one printing printing is = refl
 goes_one (reading {t = f} {w = w} {v = v}) (reading {v = u}) is = let value : v ≡ u = cc in ap (λ x. Some (f x)) value

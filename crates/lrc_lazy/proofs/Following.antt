@@ -1,57 +1,33 @@
 -- Where the plain machine stands that follows the acts of a lazy run.
-use Rattle.std.proofs.Common.{◌≡◌, ℕ, ◌+◌, ◌<◌, List, [], ◌∷◌, ◌++◌, length, map, inl, inr, refl, sym, subst, ◌∙◌, ap, arith}
-use Rattle.std.specs.Prelude.{◌==◌, Option, Some, None, filter, slice_index}
+use Rattle.std.proofs.Common.{◌≡◌, ℕ, ◌+◌, ◌<◌, List, [], ◌∷◌, ◌++◌, length, inl, inr, refl, sym, subst, ◌∙◌, ap, arith}
+use Rattle.std.specs.Prelude.{Option, Some, None, slice_index}
 use Rattle.std.proofs.lemmas.Bool.{cases_eq}
-use Rattle.std.proofs.lemmas.List.{length_push, length-replicate, map-append}
-use Rattle.std.proofs.lemmas.List.Elements.{filter-append}
+use Rattle.std.proofs.lemmas.List.{length_push, length-replicate}
 use Rattle.lrc_program.specs.declared.Program.{Program}
 use Rattle.lrc_trace.specs.declared.act.Act.{Act}
 use Rattle.lrc_trace.specs.declared.act.Deed.{Deed}
 use Rattle.lrc_trace.specs.declared.act.Deed.TheVariants.{Read}
 use Rattle.lrc_trace.specs.Run.{act_of}
 use Rattle.lrc_trace.specs.Synchronization.{MayGoOn}
-use Rattle.lrc_trace.proofs.Positions.{Does-longer, Does-last}
-use Rattle.lrc_trace.proofs.Prefixes.{IsWellSynchronized-shorter, ReadsLazily-shorter}
+use Rattle.lrc_trace.proofs.Positions.{Does-last}
 use Rattle.lrc_exec.specs.Meaning.{Thread, Next, next_of}
 use Rattle.lrc_exec.specs.Plain.{Plain, thread_in, plain_start, plain_step, start_of}
 use Rattle.lrc_exec.proofs.NextLaws.{IsFine, next_of-fine}
 use Rattle.lrc_exec.proofs.PlainParts.{thread_within}
-use Rattle.lrc_exec.specs.Follows.{Goes, reading, Makes, nothing_more, and_then, deeds_of, FollowsText}
+use Rattle.lrc_exec.specs.Follows.{Goes, reading, Makes, deeds_of, FollowsText}
 use Rattle.lrc_consistency_laws.specs.Matching.{Matches}
 use Rattle.lrc_consistency_laws.proofs.Plainly.{facts}
-use Rattle.lrc_consistency_laws.proofs.Step.{IsNoLock, step, passes_on}
-use Rattle.lrc_consistency_laws.proofs.Runs.{CanDo, can_do, is_sound, start_matches, thread_at_start}
+use Rattle.lrc_consistency_laws.proofs.Runs.{CanDo, can_do, start_matches, thread_at_start}
 use Rattle.lrc_consistency_laws.proofs.UpToRace.{in_range}
 use Rattle.lrc_orders.specs.Stuck.{IsAtRest}
-use Rattle.lrc_orders.proofs.Effects.{after_of, goes_on, memory_after, length-memory, length-arrivals}
+use Rattle.lrc_orders.proofs.Effects.{after_of, length-arrivals}
 use Rattle.lrc_orders_laws.proofs.Parts.{stepped, can_step}
-use Rattle.lrc_lazy.specs.Lazy.{IsLazyRun, IsOver}
-use Rattle.lrc_lazy.proofs.Onward.{deeds_more-own, free_read, all_in_range}
+use Rattle.lrc_lazy.specs.Lazy.{IsOver}
+use Rattle.lrc_lazy.proofs.Onward.{deeds_more-own}
 use Rattle.lrc_lazy.specs.Standing.{with_memory, Comes, there}
-use Rattle.lrc_lazy.proofs.Coming.{comes_makes, comes_more, comes_goes, deeds_same, follows_more, matches_longer}
-use Rattle.lrc_lazy.proofs.Coming.{read_stays, may_go, sound_of}
-
--- ---- the front of a lazy run
-
-deeds_front : (n : ℕ) (run more : List Act) → deeds_of n (run ++ more) ≡ deeds_of n run ++ deeds_of n more
-deeds_front n run more =
-    ap (map (λ (x : Act). x.deed)) (filter-append (λ (x : Act). x.node == n) run more)
-    ∙ map-append (λ (x : Act). x.deed) (filter (λ (x : Act). x.node == n) run) (filter (λ (x : Act). x.node == n) more)
-
-makes_front : {o : Option Thread} (ds es : List Deed) → Makes o (ds ++ es) → Makes o ds
-makes_front [] es m = nothing_more
-makes_front (d ∷ ds) es (and_then g m) = and_then g (makes_front ds es m)
-
-pub lazy_front : (program : Program) (nodes : ℕ) (run more : List Act) → IsLazyRun program nodes (run ++ more) → IsLazyRun program nodes run
-lazy_front program nodes run more lazy = record {
-  follows = record {
-    in_range = all_in_range nodes run (λ k n d does. in_range lazy.follows k n d (Does-longer more does));
-    each = λ n lt. makes_front (deeds_of n run) (deeds_of n more)
-        (subst (λ ds. Makes (Some (start_of program nodes n)) ds) (deeds_front n run more) (lazy.follows.each n lt));
-  };
-  synchronized = IsWellSynchronized-shorter run more nodes lazy.synchronized;
-  lazily = ReadsLazily-shorter run more lazy.lazily;
-}
+use Rattle.lrc_lazy.proofs.Coming.{comes_makes, comes_more, comes_goes, deeds_same, follows_more}
+use Rattle.lrc_lazy.proofs.Coming.{read_stays, sound_of}
+use Rattle.lrc_lazy.proofs.Going.{matches_after, may_after}
 
 -- ---- where the machine stands
 
@@ -74,9 +50,6 @@ stands_first program nodes = record {
   leads = λ n lt. subst (λ o. Comes (Some (start_of program nodes n)) [] o) (sym (thread_at_start program nodes n lt)) there;
 }
 
-no_lock_read : (w v : ℕ) → IsNoLock (Read w v)
-no_lock_read w v = record { acquires_not = λ l e. cc; releases_not = λ l e. cc }
-
 -- a read of any value
 any_read : {n : Next} {w u : ℕ} {t : Option Thread} (v : ℕ) → Goes n (Read w u) t → (later : Option Thread) × Goes n (Read w v) later
 any_read v (reading {t = f}) = (Some (f v), reading)
@@ -96,34 +69,6 @@ module _ (program : Program) (nodes : ℕ) (acts : List Act) (machine : Plain) (
         let size = s.size in
         omega arith
 
-    -- the machine after a deed, whatever its words
-    matches_after : (memory : List ℕ) (d : Deed) (t : Option Thread) → Goes (next_of thread) d t → CanDo (with_memory machine memory) node d
-        → (words : List ℕ) × Matches (acts ++ act_of node d ∷ []) (length acts + 1) (with_memory (after_of machine node d t) words) × (length words ≡ length s.memory)
-    matches_after memory (Read w v) t goes can =
-        let stays = read_stays fine goes in
-        let u = stays.1.0 in
-        let run = acts ++ act_of node (Read w v) ∷ [] in (
-          s.memory,
-          subst (λ x. Matches run (length acts + 1) (with_memory (after_of machine node (Read w v) x) s.memory)) (sym stays.1.1)
-              (passes_on run (length acts) node now thread at (matches_longer acts (act_of node (Read w v) ∷ []) now s.matches) (Read w v)
-              (Does-last acts (act_of node (Read w v))) (no_lock_read w v) (λ x y. refl) (λ x. cc) (λ x. cc) u stays.1.2),
-          refl,
-        )
-    matches_after memory d t goes can =
-        let run = acts ++ act_of node d ∷ [] in (
-          memory_after d s.memory,
-          step run (length acts) node now thread at (matches_longer acts (act_of node d ∷ []) now s.matches) (next_of thread) fine d
-              (after_of now node d t) (goes_on now node goes can) (Does-last acts (act_of node d)),
-          length-memory d s.memory,
-        )
-
-    -- it may be made
-    may_after : (memory : List ℕ) (d : Deed) (t : Option Thread) → Goes (next_of thread) d t → CanDo (with_memory machine memory) node d
-        → MayGoOn nodes acts (act_of node d)
-    may_after memory (Read w v) t goes can = free_read nodes acts node w v
-    may_after memory d t goes can =
-        may_go nodes acts node d (λ w v e. cc) (is_sound acts nodes (length acts) node now thread at s.matches s.size goes fine can)
-
     follows_after : (d : Deed) (t : Option Thread) → Goes (next_of thread) d t → FollowsText program nodes (acts ++ act_of node d ∷ [])
     follows_after d t goes = follows_more program nodes acts node d s.follows below
         (comes_makes (comes_more (subst (λ o. Comes (Some (start_of program nodes node)) (deeds_of node acts) o) at (s.leads node below)) goes))
@@ -139,7 +84,7 @@ module _ (program : Program) (nodes : ℕ) (acts : List Act) (machine : Plain) (
       let goes = made.took.goes in
       let act = act_of node deed in
       let run = acts ++ act ∷ [] in
-      let found = matches_after node thread at memory deed t goes made.took.can in
+      let found = matches_after acts machine s.memory s.matches node thread at memory deed t goes made.took.can in
       let words = found.0 in
       let is : with_memory after words ≡ with_memory (after_of machine node deed t) words = ap (λ (m : Plain). with_memory m words) made.took.is in
       let lt = below node thread at in
@@ -221,7 +166,7 @@ module _ (program : Program) (nodes : ℕ) (acts : List Act) (machine : Plain) (
           let t = made.took.goes_on_as in
           absurd (over (act_of node deed) (record {
             follows = follows_after node made.thread made.there deed t made.took.goes;
-            may = may_after node made.thread made.there memory deed t made.took.goes made.took.can;
+            may = may_after nodes acts machine s.memory s.matches s.size node made.thread made.there memory deed t made.took.goes made.took.can;
           }))
 
   none_next : (memory : List ℕ) → IsAtRest (with_memory machine memory) → (node : ℕ) (deed : Deed) → Coming node deed

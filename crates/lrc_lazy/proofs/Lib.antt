@@ -23,5 +23,7 @@ pub mod Beginning
 pub mod Deeds
 pub mod Changing
 pub mod Front
+pub mod Going
 pub mod Following
 pub mod Steps
+pub mod Flats

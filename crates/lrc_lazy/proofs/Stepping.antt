@@ -20,26 +20,23 @@ use Rattle.lrc_exec.proofs.PlainParts.{thread_within}
 use Rattle.lrc_exec.specs.Follows.{Goes, Makes, deeds_of}
 use Rattle.lrc_consistency_laws.specs.Matching.{Matches, IsPaired}
 use Rattle.lrc_consistency_laws.proofs.Matching.{arrives-same, departs-same}
-use Rattle.lrc_consistency_laws.proofs.Step.{IsNoLock, step, passes_on}
-use Rattle.lrc_consistency_laws.proofs.Runs.{CanDo, can_do, is_sound}
+use Rattle.lrc_consistency_laws.proofs.Runs.{CanDo, can_do}
 use Rattle.lrc_consistency_laws.proofs.UpToRace.{in_range}
-use Rattle.lrc_orders.proofs.Effects.{after_of, goes_on, memory_after, length-memory, length-holders, length-arrivals}
+use Rattle.lrc_orders.proofs.Effects.{after_of, length-holders, length-arrivals}
 use Rattle.lrc_orders_laws.proofs.Parts.{stepped, can_step}
 use Rattle.lrc_lazy.specs.Lazy.{IsLazyRun, IsOver}
-use Rattle.lrc_lazy.proofs.Onward.{deeds_more-own, free_read}
+use Rattle.lrc_lazy.proofs.Onward.{deeds_more-own}
 use Rattle.lrc_lazy.proofs.Plainly.{over_stops, stops_over}
 use Rattle.lrc_lazy_known.specs.declared.known.Knowledge.{Knowledge}
 use Rattle.lrc_lazy_known.specs.Effect.{word_of, IsKnowledgeAfter, AreCounts, AreOf}
 use Rattle.lrc_lazy_known.proofs.Stepping.{knowledge_on}
 use Rattle.lrc_lazy_known.proofs.Giving.{gives_read}
 use Rattle.lrc_lazy.specs.Standing.{advanced, with_memory, Comes, Stands, effect_at, MayGive, CanMake}
-use Rattle.lrc_lazy.proofs.Coming.{comes_makes, comes_more, comes_goes, deeds_same, follows_more, matches_longer}
-use Rattle.lrc_lazy.proofs.Coming.{read_stays, acquire_below, release_below, depart_waits, stops_then, may_go, sound_of}
+use Rattle.lrc_lazy.proofs.Coming.{comes_makes, comes_more, comes_goes, deeds_same, follows_more}
+use Rattle.lrc_lazy.proofs.Coming.{read_stays, acquire_below, release_below, depart_waits, stops_then, sound_of}
+use Rattle.lrc_lazy.proofs.Going.{matches_after, may_after}
 use Rattle.lrc_lazy.proofs.Advancing.{can_moved, can_back, after_moved}
 use Rattle.lrc_lazy.proofs.Renewing.{arrived}
-
-no_lock_read : (w v : ℕ) → IsNoLock (Read w v)
-no_lock_read w v = record { acquires_not = λ l e. cc; releases_not = λ l e. cc }
 
 module _ (program : Program) (nodes : ℕ) (acts : List Act) (machine : Plain) (knowledge : Knowledge) (s : Stands program nodes acts machine knowledge) where
   -- the machine where no barrier is gone
@@ -68,34 +65,6 @@ module _ (program : Program) (nodes : ℕ) (acts : List Act) (machine : Plain) (
     size_is : length whole.arrivals ≡ nodes
     size_is = length-map machine.arrivals (λ count. s.gone + count) ∙ s.size
 
-    -- the machine after a deed, whatever its words
-    matches_after : (memory : List ℕ) (d : Deed) (t : Option Thread) → Goes (next_of thread) d t → CanDo (with_memory whole memory) node d
-        → (words : List ℕ) × Matches (acts ++ act_of node d ∷ []) (length acts + 1) (with_memory (after_of whole node d t) words) × (length words ≡ length s.memory)
-    matches_after memory (Read w v) t goes can =
-        let stays = read_stays fine goes in
-        let u = stays.1.0 in
-        let run = acts ++ act_of node (Read w v) ∷ [] in (
-          s.memory,
-          subst (λ x. Matches run (length acts + 1) (with_memory (after_of whole node (Read w v) x) s.memory)) (sym stays.1.1)
-              (passes_on run (length acts) node now thread at (matches_longer acts (act_of node (Read w v) ∷ []) now s.matches) (Read w v)
-              (Does-last acts (act_of node (Read w v))) (no_lock_read w v) (λ x y. refl) (λ x. cc) (λ x. cc) u stays.1.2),
-          refl,
-        )
-    matches_after memory d t goes can =
-        let run = acts ++ act_of node d ∷ [] in (
-          memory_after d s.memory,
-          step run (length acts) node now thread at (matches_longer acts (act_of node d ∷ []) now s.matches) (next_of thread) fine d
-              (after_of now node d t) (goes_on now node goes can) (Does-last acts (act_of node d)),
-          length-memory d s.memory,
-        )
-
-    -- it may be made
-    may_after : (memory : List ℕ) (d : Deed) (t : Option Thread) → Goes (next_of thread) d t → CanDo (with_memory whole memory) node d
-        → MayGoOn nodes acts (act_of node d)
-    may_after memory (Read w v) t goes can = free_read nodes acts node w v
-    may_after memory d t goes can =
-        may_go nodes acts node d (λ w v e. cc) (is_sound acts nodes (length acts) node now thread at s.matches size_is goes fine can)
-
     lazily_after : (d : Deed) → MayGive knowledge node d
         → (word value : ℕ) → d ≡ Read word value → MayRead (acts ++ act_of node d ∷ []) (length acts) word value
     lazily_after d gives word value is =
@@ -107,7 +76,8 @@ module _ (program : Program) (nodes : ℕ) (acts : List Act) (machine : Plain) (
     run_after memory d t goes can gives = record {
       follows = follows_more program nodes acts node d s.run.follows below
           (comes_makes (comes_more (subst (λ o. Comes (Some (start_of program nodes node)) (deeds_of node acts) o) at (s.leads node below)) goes));
-      synchronized = IsWellSynchronized-more acts (act_of node d) nodes s.run.synchronized (may_after memory d t goes (can_moved s.gone machine node counted memory d can));
+      synchronized = IsWellSynchronized-more acts (act_of node d) nodes s.run.synchronized
+          (may_after nodes acts whole s.memory s.matches size_is node thread at memory d t goes (can_moved s.gone machine node counted memory d can));
       lazily = ReadsLazily-more acts (act_of node d) s.run.lazily (lazily_after d gives);
     }
 
@@ -196,7 +166,7 @@ module _ (program : Program) (nodes : ℕ) (acts : List Act) (machine : Plain) (
       let act = act_of node deed in
       let run = acts ++ act ∷ [] in
       let within = counted node thread at in
-      let found = matches_after node thread at memory deed t goes (can_moved s.gone machine node within memory deed made.took.can) in
+      let found = matches_after acts whole s.memory s.matches node thread at memory deed t goes (can_moved s.gone machine node within memory deed made.took.can) in
       let words = found.0 in
       let is : with_memory (advanced s.gone after) words ≡ with_memory (after_of whole node deed t) words =
       ap (λ (m : Plain). with_memory (advanced s.gone m) words) made.took.is

@@ -16,7 +16,8 @@ use Rattle.lrc_exec.specs.States.{plain_at, IsStateOf}
 use Rattle.lrc_orders.proofs.Counting.{step_counts}
 use Rattle.lrc_lazy.specs.Lazy.{IsLazyRun}
 use Rattle.lrc_lazy.specs.Following.{IsFlatOf, IsFollowed, MayFollow, machine_for, poked}
-use Rattle.lrc_lazy.proofs.Following.{StandsAt, coming, lazy_front, makes_other, makes_read, read_within, stands_next}
+use Rattle.lrc_lazy.proofs.Deeds.{lazy_front}
+use Rattle.lrc_lazy.proofs.Following.{StandsAt, coming, makes_other, makes_read, read_within, stands_next}
 
 -- ---- the acts so far, and one more
 

@@ -1,5 +1,5 @@
 -- Where each node has stopped or waits, no node can act.
-use Rattle.std.proofs.Common.{◌≡◌, ℕ, zero, suc, List, [], ◌∷◌, ◌++◌, length, inl, inr, refl, sym, subst, ◌∙◌, arith}
+use Rattle.std.proofs.Common.{◌≡◌, ℕ, zero, suc, List, [], ◌∷◌, ◌++◌, length, inl, inr, refl, subst, arith}
 use Rattle.std.specs.Prelude.{Option, Some, None}
 use Rattle.std.proofs.lemmas.Bool.{cases_eq}
 use Rattle.std.proofs.lemmas.Option.{same_Some}
@@ -7,66 +7,18 @@ use Rattle.lrc_program.specs.declared.Program.{Program}
 use Rattle.lrc_trace.specs.declared.act.Act.{Act}
 use Rattle.lrc_trace.specs.declared.act.Cause.{Cause}
 use Rattle.lrc_trace.specs.declared.act.Deed.{Deed}
-use Rattle.lrc_trace.specs.declared.act.Deed.TheVariants.{Read, Acquire, Depart, Trap, End}
+use Rattle.lrc_trace.specs.declared.act.Deed.TheVariants.{Acquire, Depart, Trap, End}
 use Rattle.lrc_trace.specs.Run.{Does, act_of}
 use Rattle.lrc_trace.proofs.Positions.{Does-within, Does-last}
-use Rattle.lrc_exec.specs.Meaning.{Thread, Next, quiet, prints, reads, writes, acquires, releases, arrives, departs, traps, ends, next_of}
+use Rattle.lrc_exec.specs.Meaning.{Thread, Next, next_of}
 use Rattle.lrc_exec.specs.Plain.{start_of}
-use Rattle.lrc_exec.specs.Follows.{Goes, quietly, printing, reading, writing, acquiring, releasing, arriving}
-use Rattle.lrc_exec.specs.Follows.{departing, trapping, ending, Makes, and_then, deeds_of, FollowsText}
-use Rattle.lrc_consistency_laws.specs.Kinds.{SameKind, same, reads as alike_reads}
+use Rattle.lrc_exec.specs.Follows.{Goes, trapping, ending, Makes, deeds_of, FollowsText}
+use Rattle.lrc_consistency_laws.specs.Kinds.{SameKind, same}
 use Rattle.lrc_consistency_laws.proofs.Runs.{makes_first, deeds_of-own, deeds_of-other}
 use Rattle.lrc_consistency_laws.proofs.UpToRace.{in_range}
 use Rattle.lrc_lazy.specs.Lazy.{MayComeNext, IsOver, HasStopped, ended, trapped, Waits, for_lock, at_barrier, AllHaveStoppedOrWait}
 use Rattle.lrc_lazy.proofs.Onward.{deeds_more-own}
-
--- ---- a thread makes one deed next, but for the value of a read
-
--- the value that a deed reads
-abbrev value_read : Deed → ℕ
-value_read (Read w v) = v
-value_read d = 0
-
--- the thread after a deed
-abbrev after_of : Next → Deed → Option Thread
-after_of (quiet t) d = Some t
-after_of (prints v t) d = Some t
-after_of (reads w t) d = Some (t (value_read d))
-after_of (writes w v t) d = Some t
-after_of (acquires l t) d = Some t
-after_of (releases l t) d = Some t
-after_of (arrives t) d = Some t
-after_of (departs t) d = Some t
-after_of (traps cause) d = None
-after_of ends d = None
-
-goes_to : {n : Next} {d : Deed} {t : Option Thread} → Goes n d t → t ≡ after_of n d
-goes_to quietly = refl
-goes_to printing = refl
-goes_to reading = refl
-goes_to writing = refl
-goes_to acquiring = refl
-goes_to releasing = refl
-goes_to arriving = refl
-goes_to departing = refl
-goes_to trapping = refl
-goes_to ending = refl
-
-one_kind : {n : Next} {d e : Deed} {s t : Option Thread} → Goes n d s → Goes n e t → SameKind d e
-one_kind quietly quietly = same
-one_kind printing printing = same
-one_kind reading reading = alike_reads
-one_kind writing writing = same
-one_kind acquiring acquiring = same
-one_kind releasing releasing = same
-one_kind arriving arriving = same
-one_kind departing departing = same
-one_kind trapping trapping = same
-one_kind ending ending = same
-
-kind_after : {o : Option Thread} (ds : List Deed) (d e : Deed) → Makes o (ds ++ d ∷ []) → Makes o (ds ++ e ∷ []) → SameKind d e
-kind_after [] d e (and_then g m) (and_then h k) = one_kind g h
-kind_after (x ∷ ds) d e (and_then g m) (and_then h k) = kind_after ds d e m (subst (λ o. Makes o (ds ++ e ∷ [])) (goes_to h ∙ sym (goes_to g)) k)
+use Rattle.lrc_lazy.proofs.Deeds.{kind_next}
 
 acquire_kind : {l : ℕ} {d : Deed} → SameKind (Acquire l) d → d ≡ Acquire l
 acquire_kind same = refl
@@ -127,11 +79,11 @@ module _ (program : Program) (nodes : ℕ) (acts : List Act) where
 
   waits_no_more : (act : Act) → MayComeNext program nodes acts act → Waits program nodes acts act.node → ⊥
   waits_no_more act next (for_lock {lock = lock} {other = other} follows holds) =
-      let kind = kind_after (deeds_of act.node acts) (Acquire lock) act.deed (makes_next (act_of act.node (Acquire lock)) follows)
+      let kind = kind_next (deeds_of act.node acts) (Acquire lock) act.deed (makes_next (act_of act.node (Acquire lock)) follows)
       (makes_next act next.follows) in
       next.may.acquires lock (acquire_kind kind) other holds
   waits_no_more act next (at_barrier {other = other} follows lt behind) =
-      let kind = kind_after (deeds_of act.node acts) Depart act.deed (makes_next (act_of act.node Depart) follows) (makes_next act next.follows) in
+      let kind = kind_next (deeds_of act.node acts) Depart act.deed (makes_next (act_of act.node Depart) follows) (makes_next act next.follows) in
       let more = next.may.departs (depart_kind kind) other lt in
       absurd (omega (arith, behind, more))
 

@@ -1,10 +1,8 @@
 // Whether a lazy run has ended.
 
-ghost use Rattle.std.specs.Prelude.{◌≡◌, ◌↔◌, ◌≤◌, IfOk, IsTrue, length};
+ghost use Rattle.std.specs.Prelude.{◌↔◌, IfOk, IsTrue};
 ghost use Rattle.lrc_exec.specs.Nodes.{AreNodes};
 ghost use Rattle.lrc_exec.specs.Spots.{IsFlat};
-ghost use Rattle.lrc_exec.specs.Plain.{plain_start};
-ghost use Rattle.lrc_exec.specs.States.{machine_begun};
 ghost use Rattle.lrc_lazy.specs.Lazy.{IsLazyRun, IsOver};
 ghost use Rattle.lrc_lazy.specs.Following.{IsFlatOf, IsFollowed, MayFollow};
 
@@ -38,23 +36,8 @@ fn is_over_of(alloc: Global, code: &Code<'_>, nodes: u8, acts: &[Act]) -> Result
     requires run { IsLazyRun code.now nodes acts.now }
     ensures { IfOk result (λ over. IsTrue over ↔ IsOver code.now nodes acts.now) }
 {
-    let (flat, start) = flat_of(code, nodes);
+    let (flat, start) = Flat::of(code, nodes);
     is_over_in(alloc, code.program(), &flat, start, acts)
-}
-
-// A program's flat code, and the place where its text begins.
-fn flat_of<'c>(code: &'c Code<'c>, nodes: u8) -> (Flat<'c>, usize)
-    requires { AreNodes nodes }
-    ensures { IsFlatOf code.now nodes result.0 result.1 }
-{
-    let (instructions, start) = code.parts();
-    let flat = Flat {
-        code: instructions,
-        words: code.words(),
-        locks: code.locks(),
-        nodes,
-    };
-    (flat, start)
 }
 
 // The same by instructions.

@@ -3,7 +3,7 @@ use Rattle.std.proofs.Common.{◌≡◌, ℕ, ◌+◌, ◌<◌, ◌≤◌, List,
 use Rattle.std.specs.Prelude.{Some, None, Option, if◌then◌else◌, not, reverse, slice_get, slice_index}
 use Rattle.std.specs.List.{IsDistinct}
 use Rattle.std.proofs.lemmas.Bool.{cases_lt}
-use Rattle.std.proofs.lemmas.List.{append-nil, append_assoc, get_or-replicate, get_or_past, length-replicate, length_push, reverse-append}
+use Rattle.std.proofs.lemmas.List.{append-nil, append_assoc, get_or-replicate, get_or_past, length-replicate, length_push, reverse-append, reverse-reverse}
 use Rattle.std.proofs.lemmas.Option.{same_Some, slice_get_within}
 use Rattle.lrc_trace.specs.declared.act.Act.{Act}
 use Rattle.lrc_trace.specs.declared.act.Deed.{Deed}
@@ -27,7 +27,7 @@ use Rattle.lrc_lazy_run.specs.declared.sought.Sought.{Sought}
 use Rattle.lrc_lazy_run.specs.declared.ways.Origin.{Origin}
 use Rattle.lrc_lazy_run.specs.Ended.{IsEndedLazyRun}
 use Rattle.lrc_lazy_run.specs.Ways.{AreKeptIn, BeginsThere, CanMakeAt, ComesFrom, HasAllStepsAt, HasStepAt, IsEndWith, IsFound, IsPut, IsSought, LeadTo, LeadsFrom, LeadsTo}
-use Rattle.lrc_lazy_run.proofs.Leading.{ended_there, leads_first, leads_fresh, leads_on}
+use Rattle.lrc_lazy_run.proofs.Leading.{ended_there, leads_first}
 
 -- ---- an item that is put, or was there
 
@@ -53,14 +53,14 @@ last_item old new x y k is le at =
 front_item : {A : Type 0} (old new : List A) (x y : A) (k : ℕ) → new ≡ old ++ x ∷ [] → k < length old → slice_get new k ≡ Some y → slice_get old k ≡ Some y
 front_item old new x y k is lt at = sym (slice_get-front old (x ∷ []) k lt) ∙ ap (λ l. slice_get l k) (sym is) ∙ at
 
-comes_on : {flat : Flat} {old new : List LazyState} {place : ℕ} {origin : Origin} {key : LazyState} → Grows old new → ComesFrom flat old place origin key
-    → ComesFrom flat new place origin key
-comes_on {origin = origin} g c = record { before = c.before; parent = c.parent; there = stays origin.parent c.parent g c.there; next = c.next; steps = c.steps; fresh = c.fresh }
+comes_on : {sought : Sought} {old new : List LazyState} {place : ℕ} {origin : Origin} {key : LazyState} → Grows old new → ComesFrom sought old place origin key
+    → ComesFrom sought new place origin key
+comes_on {origin = origin} g c = record { before = c.before; parent = c.parent; there = stays origin.parent c.parent g c.there; leads = c.leads }
 
 -- one state more
 pub kept_more : (sought : Sought) (old new : List LazyState) (origins more : List Origin) (settled : List ℕ) (key : LazyState) (origin : Origin)
     → new ≡ old ++ key ∷ [] → more ≡ origins ++ origin ∷ [] → IsDistinct eq-value.it new → AreKeptIn sought old origins settled
-    → IsReached sought.program.now sought.flat key (length old) → ComesFrom sought.flat old (length old) origin key → AreKeptIn sought new more settled
+    → IsReached sought.program.now sought.flat key (length old) → ComesFrom sought old (length old) origin key → AreKeptIn sought new more settled
 kept_more sought old new origins more settled key origin is origins_are distinct kept reached comes =
     let grown : Grows old new = record { more = key ∷ []; is = is } in
     let long = ap length is ∙ length_push old key in
@@ -76,8 +76,8 @@ kept_more sought old new origins more settled key origin is origins_are distinct
         | inr le ↦
             let last = last_item old new key found place is le at in
             let last_from = last_item origins more origin from place origins_are (omega (arith, le, kept.count)) stands in
-            comes_on grown (subst (λ o. ComesFrom sought.flat old place o found) last_from.1
-            (subst (λ k. ComesFrom sought.flat old place origin k) last.1 (subst (λ p. ComesFrom sought.flat old p origin key) (sym last.0) comes)))
+            comes_on grown (subst (λ o. ComesFrom sought old place o found) last_from.1
+            (subst (λ k. ComesFrom sought old place origin k) last.1 (subst (λ p. ComesFrom sought old p origin key) (sym last.0) comes)))
       ];
       within = λ k place at. let lt = kept.within k place at in omega (arith, lt, long);
       room = let few = kept.room in omega (arith, few, long);
@@ -163,18 +163,18 @@ leads_here sought keys place back none front key last at there led =
     subst (λ acts. LeadsTo sought.program.now sought.flat acts last) (sym (ap (λ l. front ++ reverse l) none ∙ append-nil front))
     (subst (LeadsTo sought.program.now sought.flat front) (same_Some key last (sym at ∙ there)) led)
 
-pub leads_back : (sought : Sought) (keys : List LazyState) (from place : ℕ) (back more : List Act) (origin : Origin) (key : LazyState) → IsSought sought
-    → slice_get keys from ≡ Some key → ComesFrom sought.flat keys from origin key → more ≡ back ++ origin.act ∷ [] → LeadsFrom sought keys from back place
+pub leads_back : (sought : Sought) (keys : List LazyState) (from place : ℕ) (back more : List Act) (origin : Origin) (key : LazyState)
+    → slice_get keys from ≡ Some key → ComesFrom sought keys from origin key → more ≡ back ++ reverse origin.acts.items → LeadsFrom sought keys from back place
     → LeadsFrom sought keys origin.parent more place
-leads_back sought keys from place back more origin key is there comes put leads front parent last at end led =
-    let act = origin.act in
+leads_back sought keys from place back more origin key is comes put leads front parent last at end led =
+    let acts = origin.acts.items in
     let same = same_Some parent comes.parent (sym at ∙ comes.there) in
-    let here = leads_fresh sought.program.now sought.flat is.words is.locks (front ++ act ∷ []) comes.next key
-    (leads_on sought.program.now sought.flat is.words is.locks front comes.parent comes.next act.node act.deed
-    (subst (LeadsTo sought.program.now sought.flat front) same led) comes.steps) comes.fresh in
-    let turned : (front ++ act ∷ []) ++ reverse back ≡ front ++ reverse more =
-    append_assoc front (act ∷ []) (reverse back) ∙ ap (λ l. front ++ l) (sym (ap reverse put ∙ reverse-append back (act ∷ []))) in
-    subst (λ acts. LeadsTo sought.program.now sought.flat acts last) turned (leads (front ++ act ∷ []) key last there end here)
+    let here = comes.leads front (subst (LeadsTo sought.program.now sought.flat front) same led) in
+    let back_again : reverse more ≡ acts ++ reverse back =
+    ap reverse put ∙ (reverse-append back (reverse acts) ∙ ap (λ l. l ++ reverse back) (reverse-reverse acts)) in
+    let turned : (front ++ acts) ++ reverse back ≡ front ++ reverse more =
+    append_assoc front acts (reverse back) ∙ ap (λ l. front ++ l) (sym back_again) in
+    subst (λ l. LeadsTo sought.program.now sought.flat l last) turned (leads (front ++ acts) key last is end here)
 
 -- ---- what can be done stays so
 

@@ -3,3 +3,4 @@ pub mod Seeded
 pub mod Keeping
 pub mod Leading
 pub mod Passing
+pub mod Striding

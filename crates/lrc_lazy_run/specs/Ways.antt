@@ -8,13 +8,16 @@ use Rattle.lrc_exec.specs.declared.spot.Flat.{Flat}
 use Rattle.lrc_exec.specs.Flat.{IsCodeOf}
 use Rattle.lrc_exec.specs.Plain.{plain_start}
 use Rattle.lrc_exec.specs.Spots.{IsFlat}
+use Rattle.lrc_orders.specs.declared.search.ExploreFault.{ExploreFault}
+use Rattle.lrc_orders.specs.declared.search.ExploreFault.TheVariants.{BadNodes, TooMany}
 use Rattle.lrc_orders.specs.Notes.{notes_of}
-use Rattle.lrc_exec.specs.States.{machine_begun, plain_at}
+use Rattle.lrc_exec.specs.States.{machine_begun, plain_at, IsStateOf}
 use Rattle.lrc_lazy.specs.Lazy.{IsLazyOutcome}
 use Rattle.lrc_lazy.specs.Standing.{CanMake, Stands}
+use Rattle.lrc_lazy.specs.Swapped.{IsNoAcquire}
 use Rattle.lrc_lazy_search.specs.declared.state.LazyState.{LazyState}
 use Rattle.lrc_lazy_search.specs.contracts.state.LazyStatePartialEq.TheImpl.{eq-value}
-use Rattle.lrc_lazy_search.specs.Searching.{AreReached, HasKey, IsFresh, Steps}
+use Rattle.lrc_lazy_search.specs.Searching.{AreReached, HasKey, IsAhead, IsFresh, IsNeat, MeetsMore, Steps}
 use Rattle.lrc_lazy_run.specs.declared.sought.Sought.{Sought}
 use Rattle.lrc_lazy_run.specs.declared.ways.Origin.{Origin}
 use Rattle.lrc_lazy_run.specs.declared.ways.Ways.{Ways}
@@ -35,14 +38,17 @@ pub record LeadsTo (program : Program) (flat : Flat) (acts : List Act) (key : La
   pub stands : Stands program flat.nodes acts (plain_at flat key.state) key.knowledge
   pub noted : notes_of flat.nodes acts ≡ key.notes.items
 
--- a state that was found at a place is one after an earlier state, by an act, and barriers that are gone are left out
-pub record ComesFrom (flat : Flat) (keys : List LazyState) (place : ℕ) (origin : Origin) (key : LazyState) : Type 0 where
+-- These acts lead on from one state to another: behind all acts that lead to the first.
+abbrev pub LeadOn : Sought → (before : LazyState) → List Act → (after : LazyState) → Type 0
+LeadOn sought before acts after =
+    (front : List Act) → LeadsTo sought.program.now sought.flat front before → LeadsTo sought.program.now sought.flat (front ++ acts) after
+
+-- a state that was found at a place is one to which acts lead on from an earlier state
+pub record ComesFrom (sought : Sought) (keys : List LazyState) (place : ℕ) (origin : Origin) (key : LazyState) : Type 0 where
   pub before : origin.parent < place
   pub parent : LazyState
   pub there : slice_get keys origin.parent ≡ Some parent
-  pub next : LazyState
-  pub steps : Steps flat parent origin.act.node origin.act.deed next
-  pub fresh : IsFresh flat next key
+  pub leads : LeadOn sought parent origin.acts.items key
 
 -- no acts lead to the first state
 pub record BeginsThere (program : Program) (flat : Flat) (keys : List LazyState) : Type 0 where
@@ -58,23 +64,37 @@ pub record AreKeptIn (sought : Sought) (keys : List LazyState) (origins : List O
   pub begun : BeginsThere sought.program.now sought.flat keys
   pub count : length origins ≡ length keys
   pub come : (place : ℕ) (key : LazyState) (origin : Origin) → 0 < place → slice_get keys place ≡ Some key → slice_get origins place ≡ Some origin
-      → ComesFrom sought.flat keys place origin key
+      → ComesFrom sought keys place origin key
   pub within : (k place : ℕ) → slice_get settled k ≡ Some place → place < length keys
   pub room : length settled ≤ length keys
 
 abbrev pub AreKept : Sought → Ways → Type 0
 AreKept sought ways = AreKeptIn sought ways.states.keys ways.origins.items ways.settled.items
 
--- so they are, and there are no more than one past the most
+-- so they are for a task, and there are no more than one past the most
 pub record AreWays (sought : Sought) (ways : Ways) : Type 0 where
+  pub task : IsSought sought
   pub kept : AreKept sought ways
   pub few : length ways.states.keys ≤ sought.most + 1
   pub small : length ways.states.keys < 2 ^ 63
+
+-- The search for the task may fail so: it has nodes, and it meets too many states only where lazy runs lead to more than the most.
+abbrev pub MayFail : Sought → ExploreFault → Type 0
+MayFail sought fault = (fault ≢ BadNodes) × (fault ≡ TooMany → MeetsMore sought.program.now sought.flat.nodes sought.most)
 
 -- a node can do this at the state at a place
 abbrev pub CanMakeAt : Flat → List LazyState → (place node : ℕ) → Deed → Type 0
 CanMakeAt flat keys place node deed =
     (key : LazyState) → slice_get keys place ≡ Some key → CanMake flat.words (plain_at flat key.state) key.knowledge node deed
+
+-- the state is one after that at a place, by a deed of one of the nodes
+pub record IsAfterAt (sought : Sought) (keys : List LazyState) (place node : ℕ) (deed : Deed) (after : LazyState) : Type 0 where
+  pub key : LazyState
+  pub there : slice_get keys place ≡ Some key
+  pub steps : Steps sought.flat key node deed after
+  pub valid : IsStateOf sought.flat after.state
+  pub neat : IsNeat sought.flat after
+  pub below : node < sought.flat.nodes
 
 -- a node's deed leads to a state that is among them
 pub record HasAfter (flat : Flat) (keys : List LazyState) (key : LazyState) (node : ℕ) (deed : Deed) : Type 0 where
@@ -145,6 +165,21 @@ HasAllStepsAt flat keys place node = (deed : Deed) → CanMakeAt flat keys place
 abbrev pub CanMakeIfAny : Flat → List LazyState → (place : ℕ) → Option (ℕ × Deed) → Type 0
 CanMakeIfAny flat keys place (Some act) = CanMakeAt flat keys place act.0 act.1
 CanMakeIfAny flat keys place None = Unit {0}
+
+-- the node can do this alone, and no other node's act changes that
+pub record IsFree (flat : Flat) (key : LazyState) (node : ℕ) (deed : Deed) : Type 0 where
+  pub can : CanMake flat.words (plain_at flat key.state) key.knowledge node deed
+  pub only : (other : Deed) → CanMake flat.words (plain_at flat key.state) key.knowledge node other → other ≡ deed
+  pub free : IsNoAcquire deed
+
+abbrev pub IsFreeIfAny : Flat → LazyState → Option (ℕ × Deed) → Type 0
+IsFreeIfAny flat key (Some act) = IsFree flat key act.0 act.1
+IsFreeIfAny flat key None = Unit {0}
+
+-- Such acts lead from one state to another that lies ahead of it. Those that lead on to the first, and these behind them, lead on to the other.
+pub record IsAlong (sought : Sought) (before : LazyState) (acts : List Act) (after : LazyState) (more : List Act) : Type 0 where
+  pub ahead : IsAhead sought.flat before after
+  pub leads : (first : LazyState) → LeadOn sought first acts before → LeadOn sought first more after
 
 -- these acts, turned round, lead from the state at one place to that at another
 abbrev pub LeadsFrom : Sought → List LazyState → (from : ℕ) → (back : List Act) → (place : ℕ) → Type 0

@@ -26,15 +26,10 @@ pub fn sought_in<'c>(code: &'c Code<'c>, nodes: u8, most: usize) -> Sought<'c>
     ensures nodes { result.flat.nodes ≡ nodes }
     ensures most { result.most ≡ most }
 {
-    let (instructions, start) = code.parts();
+    let (flat, start) = Flat::of(code, nodes);
     Sought {
         program: code.program(),
-        flat: Flat {
-            code: instructions,
-            words: code.words(),
-            locks: code.locks(),
-            nodes,
-        },
+        flat,
         start,
         most,
     }

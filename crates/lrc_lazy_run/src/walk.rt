@@ -2,6 +2,7 @@
 
 ghost use Rattle.std.specs.Prelude.{◌<◌, IfSome, length};
 
+use crate::along::free_act;
 use crate::sought::Sought;
 use crate::ways::Ways;
 use lrc_orders::search::ExploreFault;
@@ -9,10 +10,9 @@ use lrc_trace::act::{Act, Deed};
 use std::alloc::{AllocError, Global};
 
 impl Ways {
-    ghost use Rattle.std.specs.Prelude.{◌≡◌, ◌≢◌, ◌<◌, ◌≤◌, ℕ, IfErr, IfOk, OnOk, length, option_map};
+    ghost use Rattle.std.specs.Prelude.{◌<◌, ℕ, IfErr, IfOk, OnOk, length};
     ghost use Rattle.lrc_orders.specs.Kept.{Grows};
-    ghost use Rattle.lrc_lazy_search.specs.Searching.{MeetsMore};
-    ghost use Rattle.lrc_lazy_run.specs.Ways.{AreWays, CanMakeAt, CanMakeIfAny, HasAllStepsAt, IsEndFor, IsEndIfFound, IsSought};
+    ghost use Rattle.lrc_lazy_run.specs.Ways.{AreWays, CanMakeAt, CanMakeIfAny, HasAllStepsAt, IsEndFor, IsEndIfFound, MayFail};
 
     /// Returns the place of a state at which no node can act and that has these notes, or nothing if no lazy run has
     /// them. It is the first such state to which steps lead, which is tested and not proved. It gives up with `TooMany`
@@ -23,14 +23,11 @@ impl Ways {
         sought: &Sought<'_>,
         notes: &[Act],
     ) -> Result<Option<usize>, ExploreFault>
-        requires sought { IsSought sought.now }
         requires ways { AreWays sought.now self.old }
         requires none { length self.old.settled.items < length self.old.states.keys }
         ensures ways { OnOk result (AreWays sought.now self.new) }
         ensures found { IfOk result (IsEndFor sought.now self.new.states.keys notes.now) }
-        ensures nodes { IfErr result (λ fault. fault ≢ ExploreFault.BadNodes) }
-        ensures too_many { IfErr result (λ fault. fault ≡ ExploreFault.TooMany
-            → MeetsMore sought.now.program.now sought.now.flat.nodes sought.now.most) }
+        ensures fails { IfErr result (MayFail sought.now) }
     {
         match self.find_by_steps(alloc, sought, notes)? {
             Some(place) => Ok(Some(place)),
@@ -45,14 +42,11 @@ impl Ways {
         sought: &Sought<'_>,
         notes: &[Act],
     ) -> Result<Option<usize>, ExploreFault>
-        requires sought { IsSought sought.now }
         requires ways { AreWays sought.now self.old }
         requires none { length self.old.settled.items < length self.old.states.keys }
         ensures ways { OnOk result (AreWays sought.now self.new) }
         ensures found { IfOk result (IsEndIfFound sought.now self.new.states.keys notes.now) }
-        ensures nodes { IfErr result (λ fault. fault ≢ ExploreFault.BadNodes) }
-        ensures too_many { IfErr result (λ fault. fault ≡ ExploreFault.TooMany
-            → MeetsMore sought.now.program.now sought.now.flat.nodes sought.now.most) }
+        ensures fails { IfErr result (MayFail sought.now) }
     {
         self.settle(alloc, sought, 0)?;
         let mut next = 0;
@@ -74,13 +68,10 @@ impl Ways {
         sought: &Sought<'_>,
         notes: &[Act],
     ) -> Result<Option<usize>, ExploreFault>
-        requires sought { IsSought sought.now }
         requires ways { AreWays sought.now self.old }
         ensures ways { OnOk result (AreWays sought.now self.new) }
         ensures found { IfOk result (IsEndFor sought.now self.new.states.keys notes.now) }
-        ensures nodes { IfErr result (λ fault. fault ≢ ExploreFault.BadNodes) }
-        ensures too_many { IfErr result (λ fault. fault ≡ ExploreFault.TooMany
-            → MeetsMore sought.now.program.now sought.now.flat.nodes sought.now.most) }
+        ensures fails { IfErr result (MayFail sought.now) }
     {
         let mut place = 0;
         while place < self.states.len() {
@@ -100,16 +91,13 @@ impl Ways {
         sought: &Sought<'_>,
         place: usize,
     ) -> Result<(), ExploreFault>
-        requires sought { IsSought sought.now }
         requires ways { AreWays sought.now self.old }
         requires within { place < length self.old.states.keys }
         ensures ways { OnOk result (AreWays sought.now self.new) }
         ensures grows { OnOk result (Grows self.old.states.keys self.new.states.keys) }
         ensures all { OnOk result ((node : ℕ) → HasAllStepsAt sought.now.flat self.new.states.keys
             place node) }
-        ensures nodes { IfErr result (λ fault. fault ≢ ExploreFault.BadNodes) }
-        ensures too_many { IfErr result (λ fault. fault ≡ ExploreFault.TooMany
-            → MeetsMore sought.now.program.now sought.now.flat.nodes sought.now.most) }
+        ensures fails { IfErr result (MayFail sought.now) }
     {
         for node in 0..sought.flat.nodes as usize {
             self.add_of(alloc, sought, place, node)?;
@@ -125,15 +113,12 @@ impl Ways {
         place: usize,
         node: usize,
     ) -> Result<(), ExploreFault>
-        requires sought { IsSought sought.now }
         requires ways { AreWays sought.now self.old }
         requires within { place < length self.old.states.keys }
         ensures ways { OnOk result (AreWays sought.now self.new) }
         ensures grows { OnOk result (Grows self.old.states.keys self.new.states.keys) }
         ensures all { OnOk result (HasAllStepsAt sought.now.flat self.new.states.keys place node) }
-        ensures nodes { IfErr result (λ fault. fault ≢ ExploreFault.BadNodes) }
-        ensures too_many { IfErr result (λ fault. fault ≡ ExploreFault.TooMany
-            → MeetsMore sought.now.program.now sought.now.flat.nodes sought.now.most) }
+        ensures fails { IfErr result (MayFail sought.now) }
     {
         let deeds = self.deeds_at(alloc, sought, place, node)?;
         for index in 0..deeds.len() {
@@ -142,27 +127,24 @@ impl Ways {
         Ok(())
     }
 
-    // From a state on, the lowest node that can make a free act makes it, as long as there is one and the state to
-    // which it leads is new. Steps lead on from where that ends.
+    // From a state on, the lowest node that can make a free act makes it, as long as there is one and each state that is
+    // kept on the way is new. Steps lead on from where that ends.
     fn settle(
         &mut self,
         alloc: Global,
         sought: &Sought<'_>,
         place: usize,
     ) -> Result<(), ExploreFault>
-        requires sought { IsSought sought.now }
         requires ways { AreWays sought.now self.old }
         requires within { place < length self.old.states.keys }
         requires room { length self.old.settled.items < length self.old.states.keys }
         ensures ways { OnOk result (AreWays sought.now self.new) }
         ensures grows { OnOk result (Grows self.old.states.keys self.new.states.keys) }
-        ensures nodes { IfErr result (λ fault. fault ≢ ExploreFault.BadNodes) }
-        ensures too_many { IfErr result (λ fault. fault ≡ ExploreFault.TooMany
-            → MeetsMore sought.now.program.now sought.now.flat.nodes sought.now.most) }
+        ensures fails { IfErr result (MayFail sought.now) }
     {
         let mut at = place;
         while let Some((node, deed)) = self.free_act(alloc, sought, at)? {
-            match self.step(alloc, sought, at, node, deed)? {
+            match self.stride(alloc, sought, at, node, deed)? {
                 Some(next) => at = next,
                 None => return Ok(()),
             }
@@ -177,18 +159,11 @@ impl Ways {
         sought: &Sought<'_>,
         place: usize,
     ) -> Result<Option<(usize, Deed)>, AllocError>
-        requires sought { IsSought sought.now }
         requires ways { AreWays sought.now self.now }
         requires within { place < length self.now.states.keys }
         ensures { IfOk result (CanMakeIfAny sought.now.flat self.now.states.keys place) }
     {
-        for node in 0..sought.flat.nodes as usize {
-            let deeds = self.deeds_at(alloc, sought, place, node)?;
-            if deeds.len() == 1 && is_free(deeds[0]) {
-                return Ok(Some((node, deeds[0])));
-            }
-        }
-        Ok(None)
+        free_act(alloc, &sought.flat, &self.states.as_slice()[place])
     }
 
     // Adds the states to which steps lead from one of them.
@@ -198,13 +173,10 @@ impl Ways {
         sought: &Sought<'_>,
         place: usize,
     ) -> Result<(), ExploreFault>
-        requires sought { IsSought sought.now }
         requires ways { AreWays sought.now self.old }
         requires within { place < length self.old.states.keys }
         ensures ways { OnOk result (AreWays sought.now self.new) }
-        ensures nodes { IfErr result (λ fault. fault ≢ ExploreFault.BadNodes) }
-        ensures too_many { IfErr result (λ fault. fault ≡ ExploreFault.TooMany
-            → MeetsMore sought.now.program.now sought.now.flat.nodes sought.now.most) }
+        ensures fails { IfErr result (MayFail sought.now) }
     {
         match self.reader(alloc, sought, place)? {
             Some(node) => self.read_each(alloc, sought, place, node),
@@ -219,7 +191,6 @@ impl Ways {
         sought: &Sought<'_>,
         place: usize,
     ) -> Result<Option<usize>, AllocError>
-        requires sought { IsSought sought.now }
         requires ways { AreWays sought.now self.now }
         requires within { place < length self.now.states.keys }
     {
@@ -239,13 +210,10 @@ impl Ways {
         place: usize,
         node: usize,
     ) -> Result<(), ExploreFault>
-        requires sought { IsSought sought.now }
         requires ways { AreWays sought.now self.old }
         requires within { place < length self.old.states.keys }
         ensures ways { OnOk result (AreWays sought.now self.new) }
-        ensures nodes { IfErr result (λ fault. fault ≢ ExploreFault.BadNodes) }
-        ensures too_many { IfErr result (λ fault. fault ≡ ExploreFault.TooMany
-            → MeetsMore sought.now.program.now sought.now.flat.nodes sought.now.most) }
+        ensures fails { IfErr result (MayFail sought.now) }
     {
         let deeds = self.deeds_at(alloc, sought, place, node)?;
         let mut last = None;
@@ -266,13 +234,10 @@ impl Ways {
         sought: &Sought<'_>,
         place: usize,
     ) -> Result<(), ExploreFault>
-        requires sought { IsSought sought.now }
         requires ways { AreWays sought.now self.old }
         requires within { place < length self.old.states.keys }
         ensures ways { OnOk result (AreWays sought.now self.new) }
-        ensures nodes { IfErr result (λ fault. fault ≢ ExploreFault.BadNodes) }
-        ensures too_many { IfErr result (λ fault. fault ≡ ExploreFault.TooMany
-            → MeetsMore sought.now.program.now sought.now.flat.nodes sought.now.most) }
+        ensures fails { IfErr result (MayFail sought.now) }
     {
         for node in 0..sought.flat.nodes as usize {
             let deeds = self.deeds_at(alloc, sought, place, node)?;
@@ -296,17 +261,14 @@ impl Ways {
         node: usize,
         deed: Deed,
     ) -> Result<(), ExploreFault>
-        requires sought { IsSought sought.now }
         requires ways { AreWays sought.now self.old }
         requires within { place < length self.old.states.keys }
         requires can { CanMakeAt sought.now.flat self.old.states.keys place node deed }
         ensures ways { OnOk result (AreWays sought.now self.new) }
         ensures grows { OnOk result (Grows self.old.states.keys self.new.states.keys) }
-        ensures nodes { IfErr result (λ fault. fault ≢ ExploreFault.BadNodes) }
-        ensures too_many { IfErr result (λ fault. fault ≡ ExploreFault.TooMany
-            → MeetsMore sought.now.program.now sought.now.flat.nodes sought.now.most) }
+        ensures fails { IfErr result (MayFail sought.now) }
     {
-        match self.step(alloc, sought, place, node, deed)? {
+        match self.stride(alloc, sought, place, node, deed)? {
             Some(next) => self.settle(alloc, sought, next),
             None => Ok(()),
         }
@@ -319,13 +281,10 @@ impl Ways {
         sought: &Sought<'_>,
         place: usize,
     ) -> Result<(), ExploreFault>
-        requires sought { IsSought sought.now }
         requires ways { AreWays sought.now self.old }
         requires within { place < length self.old.states.keys }
         ensures ways { OnOk result (AreWays sought.now self.new) }
-        ensures nodes { IfErr result (λ fault. fault ≢ ExploreFault.BadNodes) }
-        ensures too_many { IfErr result (λ fault. fault ≡ ExploreFault.TooMany
-            → MeetsMore sought.now.program.now sought.now.flat.nodes sought.now.most) }
+        ensures fails { IfErr result (MayFail sought.now) }
     {
         match self.departed(alloc, sought, place)? {
             Some(at) => self.settle(alloc, sought, at),
@@ -340,15 +299,12 @@ impl Ways {
         sought: &Sought<'_>,
         place: usize,
     ) -> Result<Option<usize>, ExploreFault>
-        requires sought { IsSought sought.now }
         requires ways { AreWays sought.now self.old }
         requires within { place < length self.old.states.keys }
         ensures ways { OnOk result (AreWays sought.now self.new) }
         ensures found { IfOk result (λ at. IfSome at (λ at. (at < length self.new.states.keys)
             × (length self.new.settled.items < length self.new.states.keys))) }
-        ensures nodes { IfErr result (λ fault. fault ≢ ExploreFault.BadNodes) }
-        ensures too_many { IfErr result (λ fault. fault ≡ ExploreFault.TooMany
-            → MeetsMore sought.now.program.now sought.now.flat.nodes sought.now.most) }
+        ensures fails { IfErr result (MayFail sought.now) }
     {
         let mut at = None;
         for node in 0..sought.flat.nodes as usize {
@@ -364,11 +320,6 @@ impl Ways {
         }
         Ok(at)
     }
-}
-
-// Whether such a deed depends on nothing that another node does. A read does where it may give several values.
-fn is_free(deed: Deed) -> bool {
-    !matches!(deed, Deed::Acquire(_) | Deed::Depart)
 }
 
 // The value that a read gives.

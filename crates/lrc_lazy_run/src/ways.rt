@@ -1,34 +1,40 @@
 // States of the machine that makes lazy runs, and how they were found.
 
+ghost use Rattle.std.specs.Prelude.{◌≡◌, ◌++◌, OnOk, reverse};
+
+use crate::along::{act_by, go_along};
 use crate::sought::Sought;
 use indexmap::IndexSet;
-use lrc_lazy_search::state::LazyState;
+use lrc_lazy_known::word::copied;
+use lrc_lazy_search::state::{LONG_WAYS, LazyState};
 use lrc_orders::search::ExploreFault;
 use lrc_trace::act::{Act, Deed};
 use std::alloc::{AllocError, Global};
 
-/// How a state was found: from the state at which place, and by which act.
-#[derive(Clone, Copy)]
+/// How a state was found: from the state at which place, and by which acts, one after another.
+#[derive(Drop)]
 pub struct Origin {
     pub parent: usize,
-    pub act: Act,
+    pub acts: Vec<Act>,
 }
 
-/// States, each once, in the order in which they were found; how each was found; and the places of those from which
-/// steps lead on.
+/// States, each once, in the order in which they were found; how each was found; the places of those from which steps
+/// lead on; and how many long ways are to spare. Of a way on which each act is the only one that can be made, the last
+/// state alone is kept.
 #[derive(Drop)]
 pub struct Ways {
     pub states: IndexSet<LazyState>,
     pub origins: Vec<Origin>,
     pub settled: Vec<usize>,
+    pub spare: u32,
 }
 
 impl Ways {
-    ghost use Rattle.std.specs.Prelude.{◌≡◌, ◌≢◌, ◌<◌, ◌↔◌, ℕ, IfOk, IfErr, OnOk, IsTrue, Some, length, slice_get};
+    ghost use Rattle.std.specs.Prelude.{◌≡◌, ◌<◌, ◌↔◌, ℕ, IfOk, IfErr, OnOk, IsTrue, Some, length, slice_get};
     ghost use Rattle.lrc_trace.specs.declared.act.Deed.{Deed as DeedType};
     ghost use Rattle.lrc_orders.specs.Kept.{Grows};
-    ghost use Rattle.lrc_lazy_search.specs.Searching.{HasKey, IsReached, MeetsMore};
-    ghost use Rattle.lrc_lazy_run.specs.Ways.{AreKept, AreWays, CanMakeAt, ComesFrom, HasNotesAt, HasStepAt, IsEndWith, IsFound, IsPut, IsSought, IsStillAt, LeadTo};
+    ghost use Rattle.lrc_lazy_search.specs.Searching.{HasKey, IsReached};
+    ghost use Rattle.lrc_lazy_run.specs.Ways.{AreKept, AreWays, CanMakeAt, ComesFrom, HasNotesAt, HasStepAt, IsAfterAt, IsEndWith, IsFound, IsPut, IsSought, IsStillAt, LeadTo, MayFail};
 
     /// Returns the beginning of the program as the only state. It fails if memory runs out.
     pub fn begin(alloc: Global, sought: &Sought<'_>) -> Result<Ways, AllocError>
@@ -40,17 +46,13 @@ impl Ways {
         let mut states = IndexSet::new(alloc);
         states.insert_full(first)?;
         let mut origins = Vec::new(alloc);
-        origins.push(Origin {
-            parent: 0,
-            act: Act {
-                node: 0,
-                deed: Deed::Quiet,
-            },
-        })?;
+        let acts = Vec::new(alloc);
+        origins.push(Origin { parent: 0, acts })?;
         Ok(Ways {
             states,
             origins,
             settled: Vec::new(alloc),
+            spare: LONG_WAYS,
         })
     }
 
@@ -62,7 +64,6 @@ impl Ways {
         place: usize,
         node: usize,
     ) -> Result<Vec<Deed>, AllocError>
-        requires sought { IsSought sought.now }
         requires ways { AreWays sought.now self.now }
         requires within { place < length self.now.states.keys }
         ensures sound { IfOk result (λ deeds. (k : ℕ) (deed : DeedType)
@@ -85,7 +86,6 @@ impl Ways {
         node: usize,
         deed: Deed,
     ) -> Result<Option<usize>, ExploreFault>
-        requires sought { IsSought sought.now }
         requires ways { AreWays sought.now self.old }
         requires within { place < length self.old.states.keys }
         requires can { CanMakeAt sought.now.flat self.old.states.keys place node deed }
@@ -95,17 +95,96 @@ impl Ways {
         ensures has { OnOk result (HasStepAt sought.now.flat self.new.states.keys place node deed) }
         ensures found { IfOk result (IsFound sought.now.most self.old.states.keys
             self.new.states.keys) }
-        ensures nodes { IfErr result (λ fault. fault ≢ ExploreFault.BadNodes) }
-        ensures too_many { IfErr result (λ fault. fault ≡ ExploreFault.TooMany
-            → MeetsMore sought.now.program.now sought.now.flat.nodes sought.now.most) }
+        ensures fails { IfErr result (MayFail sought.now) }
     {
-        let mut next = self.states.as_slice()[place].after(alloc, &sought.flat, node, deed)?;
+        let mut next = self.after_at(alloc, sought, place, node, deed)?;
         next.renew(alloc, &sought.flat)?;
-        let act = Act {
-            node: node as u8,
-            deed,
+        let acts = copied(alloc, &[act_by(node, deed)])?;
+        let origin = Origin {
+            parent: place,
+            acts,
         };
-        let added = self.put(sought, next, Origin { parent: place, act })?;
+        let added = self.keep(sought, next, origin)?;
+        Ok(added)
+    }
+
+    /// Adds the state after a deed of a node and the free acts behind it, up to an arrive, and returns its place if it is
+    /// new. Where it sees that these acts turn for ever, it adds none. It gives up with `TooMany` if there are then more
+    /// states than the task allows, and fails if memory runs out.
+    pub fn stride(
+        &mut self,
+        alloc: Global,
+        sought: &Sought<'_>,
+        place: usize,
+        node: usize,
+        deed: Deed,
+    ) -> Result<Option<usize>, ExploreFault>
+        requires ways { AreWays sought.now self.old }
+        requires within { place < length self.old.states.keys }
+        requires can { CanMakeAt sought.now.flat self.old.states.keys place node deed }
+        ensures ways { OnOk result (AreWays sought.now self.new) }
+        ensures grows { OnOk result (Grows self.old.states.keys self.new.states.keys) }
+        ensures same { OnOk result (self.new.settled ≡ self.old.settled) }
+        ensures found { IfOk result (IsFound sought.now.most self.old.states.keys
+            self.new.states.keys) }
+        ensures fails { IfErr result (MayFail sought.now) }
+    {
+        let mut next = self.after_at(alloc, sought, place, node, deed)?;
+        let mut acts = copied(alloc, &[act_by(node, deed)])?;
+        let mut spare = self.spare;
+        let turns = go_along(alloc, sought, &mut next, &mut acts, &mut spare)?;
+        self.spare = spare;
+        if turns {
+            return Ok(None);
+        }
+        next.renew(alloc, &sought.flat)?;
+        let origin = Origin {
+            parent: place,
+            acts,
+        };
+        let added = self.keep(sought, next, origin)?;
+        Ok(added)
+    }
+
+    // The state after a deed of a node.
+    fn after_at(
+        &self,
+        alloc: Global,
+        sought: &Sought<'_>,
+        place: usize,
+        node: usize,
+        deed: Deed,
+    ) -> Result<LazyState, AllocError>
+        requires ways { AreWays sought.now self.now }
+        requires within { place < length self.now.states.keys }
+        requires can { CanMakeAt sought.now.flat self.now.states.keys place node deed }
+        ensures { IfOk result (IsAfterAt sought.now self.now.states.keys place node deed) }
+    {
+        let next = self.states.as_slice()[place].after(alloc, &sought.flat, node, deed)?;
+        Ok(next)
+    }
+
+    // Adds a state that was found so, and returns its place if it is new. It gives up if there are then too many.
+    fn keep(
+        &mut self,
+        sought: &Sought<'_>,
+        state: LazyState,
+        origin: Origin,
+    ) -> Result<Option<usize>, ExploreFault>
+        requires ways { AreWays sought.now self.old }
+        requires reached { IsReached sought.now.program.now sought.now.flat state
+            (length self.old.states.keys) }
+        requires comes { ComesFrom sought.now self.old.states.keys
+            (length self.old.states.keys) origin state }
+        ensures ways { OnOk result (AreWays sought.now self.new) }
+        ensures grows { OnOk result (Grows self.old.states.keys self.new.states.keys) }
+        ensures same { OnOk result (self.new.settled ≡ self.old.settled) }
+        ensures has { OnOk result (HasKey self.new.states.keys state) }
+        ensures found { IfOk result (IsFound sought.now.most self.old.states.keys
+            self.new.states.keys) }
+        ensures fails { IfErr result (MayFail sought.now) }
+    {
+        let added = self.put(sought, state, origin)?;
         if self.states.len() > sought.most {
             return Err(ExploreFault::TooMany);
         }
@@ -122,7 +201,7 @@ impl Ways {
         requires kept { AreKept sought.now self.old }
         requires reached { IsReached sought.now.program.now sought.now.flat state
             (length self.old.states.keys) }
-        requires comes { ComesFrom sought.now.flat self.old.states.keys
+        requires comes { ComesFrom sought.now self.old.states.keys
             (length self.old.states.keys) origin state }
         ensures kept { OnOk result (AreKept sought.now self.new) }
         ensures grows { OnOk result (Grows self.old.states.keys self.new.states.keys) }
@@ -160,7 +239,6 @@ impl Ways {
         place: usize,
         notes: &[Act],
     ) -> Result<bool, AllocError>
-        requires sought { IsSought sought.now }
         requires ways { AreWays sought.now self.now }
         requires within { place < length self.now.states.keys }
         ensures { IfOk result (λ ends. IsTrue ends
@@ -177,7 +255,6 @@ impl Ways {
         sought: &Sought<'_>,
         place: usize,
     ) -> Result<bool, AllocError>
-        requires sought { IsSought sought.now }
         requires ways { AreWays sought.now self.now }
         requires within { place < length self.now.states.keys }
         ensures { IfOk result (λ still. IsTrue still
@@ -207,7 +284,6 @@ impl Ways {
         sought: &Sought<'_>,
         place: usize,
     ) -> Result<Vec<Act>, AllocError>
-        requires sought { IsSought sought.now }
         requires ways { AreWays sought.now self.now }
         requires within { place < length self.now.states.keys }
         ensures { IfOk result (λ acts. LeadTo sought.now self.now.states.keys acts.items place) }
@@ -215,11 +291,20 @@ impl Ways {
         let mut acts = Vec::new(alloc);
         let mut at = place;
         while at > 0 {
-            let origin = self.origins[at];
-            acts.push(origin.act)?;
+            let origin = &self.origins[at];
+            push_back(alloc, &mut acts, &origin.acts)?;
             at = origin.parent;
         }
         acts.reverse();
         Ok(acts)
     }
+}
+
+// Appends acts, the last one first.
+fn push_back(alloc: Global, acts: &mut Vec<Act>, more: &[Act]) -> Result<(), AllocError>
+    ensures { OnOk result (acts.new.items ≡ acts.old.items ++ reverse more.now) }
+{
+    let mut turned = copied(alloc, more)?;
+    turned.reverse();
+    acts.extend_from_slice(&turned)
 }

@@ -73,15 +73,10 @@ fn task_of<'c>(code: &'c Code<'c>, nodes: u8, most: usize) -> Task<'c>
     ensures nodes { result.flat.nodes ≡ nodes }
     ensures most { result.most ≡ most }
 {
-    let (instructions, start) = code.parts();
+    let (flat, start) = Flat::of(code, nodes);
     Task {
         program: code.program(),
-        flat: Flat {
-            code: instructions,
-            words: code.words(),
-            locks: code.locks(),
-            nodes,
-        },
+        flat,
         start,
         most,
     }

@@ -16,10 +16,10 @@ use lrc_trace::act::{Act, Deed};
 use std::alloc::{AllocError, Global};
 
 /// How many acts are made one after another before it is looked for whether they come round.
-const SHORT: usize = 64;
+pub const SHORT: usize = 64;
 
 /// The most acts made one after another between two states that are told apart, as long as long ways are to spare.
-const LONGEST: usize = 1 << 20;
+pub const LONGEST: usize = 1 << 20;
 
 /// How many ways of the most acts a search makes. Behind them states are told apart after a short way, so that those of a
 /// program that counts for ever are soon too many.
@@ -35,9 +35,9 @@ pub struct LazyState {
     pub notes: Vec<Act>,
 }
 
-/// Where a state was: without its words, which are 0, and without what was noted.
+/// Where a state was: without its words, which are 0, and without what was noted. Such a value comes from `seen` alone.
 #[derive(Drop)]
-pub(crate) struct Seen {
+pub struct Seen {
     holders: Vec<Option<usize>>,
     arrivals: Vec<u64>,
     spots: Vec<Spot>,
@@ -282,8 +282,8 @@ impl LazyState {
         Ok(())
     }
 
-    // Makes what a node can do.
-    fn make(
+    /// Makes what a node can do. It fails if memory runs out.
+    pub fn make(
         &mut self,
         alloc: Global,
         flat: &Flat,
@@ -419,8 +419,8 @@ impl LazyState {
         Ok(false)
     }
 
-    // Where the state is.
-    fn seen(&self, alloc: Global) -> Result<Seen, AllocError>
+    /// Returns where the state is, whatever was noted. It fails if memory runs out.
+    pub fn seen(&self, alloc: Global) -> Result<Seen, AllocError>
         ensures { IfOk result (IsSeen self.now) }
     {
         Ok(Seen {
@@ -431,8 +431,8 @@ impl LazyState {
         })
     }
 
-    // Whether the state is where one was.
-    fn is_again(&self, earlier: &Seen) -> bool
+    /// Returns whether the state is where one was, whatever was noted.
+    pub fn is_again(&self, earlier: &Seen) -> bool
         ensures { result ≡ true → IsSeen self.now earlier.now }
     {
         if self.state.spots != earlier.spots {

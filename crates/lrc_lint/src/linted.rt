@@ -1,7 +1,8 @@
 // What is answered of a text.
 
-ghost use Rattle.std.specs.Prelude.{◌≡◌, ◌++◌, ◌⊎◌, ◌≤◌, [], IfOk, OnOk, length, map};
-ghost use Rattle.lrc_lang.specs.Faults.{IsText};
+ghost use Rattle.std.specs.Prelude.{◌≡◌, ◌++◌, ◌⊎◌, ◌≤◌, [], ℕ, IfOk, OnOk, length, map};
+ghost use Rattle.lrc_lang.specs.declared.fault.FaultKind.{FaultKind as FaultKindSeen};
+ghost use Rattle.lrc_lang.specs.Faults.{HasFirstFault, IsText};
 ghost use Rattle.lrc_program.specs.Tree.{program_of};
 ghost use Rattle.lrc_text.specs.Parts.{whole_text};
 ghost use Rattle.lrc_lint_fault.specs.Told.{TellsNoProgram};
@@ -10,6 +11,7 @@ ghost use Rattle.lrc_lint.specs.Linted.{LintsProgram};
 use crate::seen::{names_of, spots_of, tokens_of};
 use crate::told::push_warned;
 use lrc_labels::read_labels;
+use lrc_lang::fault::FaultKind;
 use lrc_lang::parse;
 use lrc_lang::positions::positions_of;
 use lrc_lint_fault::{Linted, lint_fault};
@@ -24,12 +26,26 @@ pub fn lint(alloc: Global, file: &[u8], text: &[u8]) -> Result<Linted, AllocErro
         (TellsNoProgram file.now text.now (whole_text linted.parts.items) × (linted.status ≡ 1))
         ⊎ (LintsProgram file.now text.now (whole_text linted.parts.items) × (linted.status ≡ 0))) }
 {
-    if let Some(linted) = lint_fault(alloc, file, text)? {
-        return Ok(linted);
+    match lint_fault(alloc, file, text)? {
+        Some(linted) => Ok(linted),
+        None => lint_sound(alloc, file, text),
     }
+}
+
+// The same of a text that has no fault.
+fn lint_sound(alloc: Global, file: &[u8], text: &[u8]) -> Result<Linted, AllocError>
+    requires { (line : ℕ) (kind : FaultKindSeen) → HasFirstFault text.now line kind → ⊥ }
+    ensures lines { IfOk result (λ linted. LintsProgram file.now text.now
+        (whole_text linted.parts.items)) }
+    ensures status { IfOk result (λ linted. linted.status ≡ 0) }
+{
     match parse(alloc, text) {
         Ok(program) => lint_program(alloc, file, text, &program),
-        Err(_) => Err(AllocError),
+        Err(fault) => match fault.kind {
+            FaultKind::NoMemory => Err(AllocError),
+            // The text has no fault.
+            _ => unreachable!(),
+        },
     }
 }
 

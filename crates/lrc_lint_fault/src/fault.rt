@@ -1,7 +1,7 @@
 // A fault, with what stands around it.
 
 ghost use Rattle.std.specs.Prelude.{◌≡◌, ◌↔◌, drop, IsTrue};
-ghost use Rattle.lrc_lang.specs.Lexemes.{keyword_text, sign_text};
+ghost use Rattle.lrc_lang.specs.Lexemes.{sign_text};
 ghost use Rattle.lrc_lang.specs.Parser.View.{lexeme_of};
 ghost use Rattle.lrc_lang.specs.Token.{finish, token};
 ghost use Rattle.std.specs.Option.{option_map};
@@ -12,9 +12,10 @@ ghost use Rattle.lrc_lint_fault.specs.Spelled.{digits_of, is_digit, spelled};
 
 use lrc_lang::fault::FaultKind;
 use lrc_lang::kind::Kind;
+use lrc_lang::lexer::spelling_of;
 use lrc_lang::positions::Located;
 use lrc_lang::token::{Keyword, Lexeme, Sign, Token};
-use lrc_lint_lines::kind::{has, has_all};
+use lrc_lint_lines::kind::{has, has_all, phrase, unquoted};
 use lrc_lint_lines::{operand_kinds, operator_kinds, statement_kinds};
 
 /// The first fault of a text.
@@ -252,7 +253,7 @@ pub fn spelling<'t>(text: &'t [u8], located: Located<'t>) -> &'t [u8]
 {
     match located.lexeme {
         Lexeme::Token(Token::Name(name)) => name,
-        Lexeme::Token(Token::Keyword(keyword)) => keyword_text(keyword),
+        Lexeme::Token(Token::Keyword(keyword)) => spelling_of(keyword),
         Lexeme::Token(Token::Sign(sign)) => sign_text(sign),
         Lexeme::Token(Token::Number(_)) => digits_from(text, located.offset as usize),
         Lexeme::Token(Token::End) | Lexeme::BadByte | Lexeme::BadNumber => b"",
@@ -288,47 +289,8 @@ fn is_digit(byte: u8) -> bool
     byte >= b'0' && byte <= b'9'
 }
 
-/// Returns the spelling of a keyword.
-pub fn keyword_text(keyword: Keyword) -> &'static [u8]
-    ensures { result.now ≡ keyword_text keyword }
-{
-    match keyword {
-        Keyword::Words => b"words",
-        Keyword::Locks => b"locks",
-        Keyword::Acquire => b"acquire",
-        Keyword::Release => b"release",
-        Keyword::Barrier => b"barrier",
-        Keyword::Print => b"print",
-        Keyword::If => b"if",
-        Keyword::Else => b"else",
-        Keyword::While => b"while",
-        Keyword::Me => b"me",
-        Keyword::Nodes => b"nodes",
-    }
-}
-
 fn sign_text(sign: Sign) -> &'static [u8]
     ensures { result.now ≡ sign_text sign }
 {
-    match sign {
-        Sign::Semicolon => b";",
-        Sign::Assign => b"=",
-        Sign::OpenBracket => b"[",
-        Sign::CloseBracket => b"]",
-        Sign::OpenBrace => b"{",
-        Sign::CloseBrace => b"}",
-        Sign::OpenParenthesis => b"(",
-        Sign::CloseParenthesis => b")",
-        Sign::Plus => b"+",
-        Sign::Minus => b"-",
-        Sign::Star => b"*",
-        Sign::Slash => b"/",
-        Sign::Percent => b"%",
-        Sign::Equal => b"==",
-        Sign::NotEqual => b"!=",
-        Sign::Less => b"<",
-        Sign::LessOrEqual => b"<=",
-        Sign::Greater => b">",
-        Sign::GreaterOrEqual => b">=",
-    }
+    unquoted(phrase(Kind::Sign(sign)))
 }

@@ -14,8 +14,9 @@ ghost use Rattle.lrc_lint_fault.specs.HintTable.{shared_write_row, statement_row
 
 use crate::bad_byte::{byte_at, header};
 use crate::brackets::Brackets;
-use crate::fault::{Fault, is_sign, keyword_text, spelling};
+use crate::fault::{Fault, is_sign, spelling};
 use crate::hint::Hint;
+use lrc_lang::lexer::spelling_of;
 use lrc_lang::positions::Located;
 use lrc_lang::token::{Keyword, Sign};
 
@@ -165,9 +166,7 @@ fn keyword_set<'t>(fault: &Fault<'t>) -> Option<Hint<'t>>
     ensures { words_of result ≡ keyword_set_row (seen_of fault.now) }
 {
     let keyword = fault.keyword_before()?;
-    Hint::Keyword(keyword_text(keyword)).only_if(
-        fault.is(Sign::Assign) && fault.may_begin_operand(),
-    )
+    Hint::Keyword(spelling_of(keyword)).only_if(fault.is(Sign::Assign) && fault.may_begin_operand())
 }
 
 // Where a statement may stand.

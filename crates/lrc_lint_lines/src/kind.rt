@@ -1,7 +1,7 @@
 // How kinds of tokens are called.
 
-ghost use Rattle.std.specs.Prelude.{◌≡◌};
-ghost use Rattle.lrc_lint_lines.specs.Kind.{has, has_all, keyword_phrase, phrase, sign_phrase};
+ghost use Rattle.std.specs.Prelude.{◌≡◌, ℕ, List};
+ghost use Rattle.lrc_lint_lines.specs.Kind.{has, has_all, keyword_phrase, phrase, quoted, sign_phrase};
 
 use lrc_lang::kind::Kind;
 use lrc_lang::token::{Keyword, Sign};
@@ -60,6 +60,17 @@ fn sign_phrase(sign: Sign) -> &'static [u8]
         Sign::LessOrEqual => b"`<=`",
         Sign::Greater => b"`>`",
         Sign::GreaterOrEqual => b"`>=`",
+    }
+}
+
+/// Returns what a phrase has in backquotes.
+pub fn unquoted(phrase: &[u8]) -> &[u8]
+    ensures { (text : List ℕ) → phrase.now ≡ quoted text → result.now ≡ text }
+{
+    if phrase.len() < 2 {
+        phrase
+    } else {
+        &phrase[1..phrase.len() - 1]
     }
 }
 

@@ -1,30 +1,11 @@
 // What is known of an expression, by what is known of its parts.
 
 ghost use Rattle.std.specs.Prelude.{◌≡◌};
-ghost use Rattle.lrc_exec.specs.Meaning.{operated};
 ghost use Rattle.lrc_named_constants.specs.Combine.{joined, truth_of, unless_varies, both_of, either_of};
 
 use crate::constancy::Constancy;
+use lrc_exec::value::apply;
 use lrc_program::Operator;
-
-// What an operator gives; none is a division by zero.
-fn apply(operator: Operator, x: u64, y: u64) -> Option<u64>
-    ensures { result ≡ operated operator x y }
-{
-    match operator {
-        Operator::Add => Some(x.wrapping_add(y)),
-        Operator::Subtract => Some(x.wrapping_sub(y)),
-        Operator::Multiply => Some(x.wrapping_mul(y)),
-        Operator::Divide => x.checked_div(y),
-        Operator::Remainder => x.checked_rem(y),
-        Operator::Equal => Some(u64::from(x == y)),
-        Operator::NotEqual => Some(u64::from(x != y)),
-        Operator::Less => Some(u64::from(x < y)),
-        Operator::LessOrEqual => Some(u64::from(x <= y)),
-        Operator::Greater => Some(u64::from(x > y)),
-        Operator::GreaterOrEqual => Some(u64::from(x >= y)),
-    }
-}
 
 /// Returns what is known of an operator and its sides.
 pub fn join(operator: Operator, left: Constancy, right: Constancy) -> Constancy

@@ -4,6 +4,7 @@ ghost use Rattle.std.specs.Prelude.{◌≡◌};
 ghost use Rattle.lrc_named_tokens.specs.Lexemes.{keyword_text, sign_text};
 ghost use Rattle.lrc_named_expected.specs.Kind.{has, has_all, keyword_phrase, phrase, sign_phrase};
 
+use lrc_lint_lines::kind::unquoted;
 use lrc_named_may::kind::Kind;
 use lrc_named_tokens::token::{Keyword, Sign};
 
@@ -83,61 +84,14 @@ fn sign_phrase(sign: Sign) -> &'static [u8]
 pub fn keyword_text(keyword: Keyword) -> &'static [u8]
     ensures { result.now ≡ keyword_text keyword }
 {
-    match keyword {
-        Keyword::Words => b"words",
-        Keyword::Locks => b"locks",
-        Keyword::Acquire => b"acquire",
-        Keyword::Release => b"release",
-        Keyword::Barrier => b"barrier",
-        Keyword::Print => b"print",
-        Keyword::If => b"if",
-        Keyword::Else => b"else",
-        Keyword::While => b"while",
-        Keyword::Me => b"me",
-        Keyword::Nodes => b"nodes",
-        Keyword::Const => b"const",
-        Keyword::Shared => b"shared",
-        Keyword::Lock => b"lock",
-        Keyword::Fn => b"fn",
-        Keyword::For => b"for",
-        Keyword::In => b"in",
-        Keyword::With => b"with",
-        Keyword::Assert => b"assert",
-        Keyword::And => b"and",
-        Keyword::Or => b"or",
-        Keyword::Not => b"not",
-    }
+    unquoted(keyword_phrase(keyword))
 }
 
 /// Returns the spelling of a sign.
 pub fn sign_text(sign: Sign) -> &'static [u8]
     ensures { result.now ≡ sign_text sign }
 {
-    match sign {
-        Sign::Semicolon => b";",
-        Sign::Assign => b"=",
-        Sign::OpenBracket => b"[",
-        Sign::CloseBracket => b"]",
-        Sign::OpenBrace => b"{",
-        Sign::CloseBrace => b"}",
-        Sign::OpenParenthesis => b"(",
-        Sign::CloseParenthesis => b")",
-        Sign::Plus => b"+",
-        Sign::Minus => b"-",
-        Sign::Star => b"*",
-        Sign::Slash => b"/",
-        Sign::Percent => b"%",
-        Sign::Equal => b"==",
-        Sign::NotEqual => b"!=",
-        Sign::Less => b"<",
-        Sign::LessOrEqual => b"<=",
-        Sign::Greater => b">",
-        Sign::GreaterOrEqual => b">=",
-        Sign::Comma => b",",
-        Sign::Range => b"..",
-        Sign::AddAssign => b"+=",
-        Sign::SubtractAssign => b"-=",
-    }
+    unquoted(sign_phrase(sign))
 }
 
 /// Returns whether a kind is among these.

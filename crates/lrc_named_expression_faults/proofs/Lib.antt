@@ -5,4 +5,5 @@ pub mod First
 pub mod Inside
 pub mod Places
 pub mod Senses
+pub mod Spelling
 pub mod Whole

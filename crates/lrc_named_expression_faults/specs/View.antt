@@ -16,4 +16,4 @@ sense_seen Private = private_name
 sense_seen Unknown = unknown
 
 abbrev pub scope_of : code_scope.Scope → Scope
-scope_of s = record { declared = declared_of s.names.now; known = map known_of s.known.now; assigned = bytes_of (map named_of s.assigned.now); constant = s.is_constant }
+scope_of s = record { declared = declared_of s.names.now; known = map known_of s.known.now; assigned = bytes_of (map named_of s.assigned.now.names.now); constant = s.is_constant }

@@ -8,5 +8,6 @@ mod expressions;
 pub mod extent;
 pub mod fault;
 pub mod scope;
+pub mod spelled;
 
 pub use expressions::{indexed, wrong_indices};

@@ -4,13 +4,14 @@ ghost use Rattle.std.specs.Prelude.{◌≡◌, length, map};
 ghost use Rattle.std.specs.Str.{bytes_eq};
 ghost use Rattle.lrc_named_tree.specs.View.{named_of};
 ghost use Rattle.lrc_named_names.specs.View.{declared_of, entry_of};
+ghost use Rattle.lrc_named_constants.specs.Constant.{names_of};
+ghost use Rattle.lrc_named_constants.specs.View.{known_of};
 ghost use Rattle.lrc_named_constants.specs.Well.{bytes_of, is_among};
 ghost use Rattle.lrc_named_expression_faults.specs.Scope.{is_shared, lock_sizes, sense_of, shared_sizes, undeclared_sense};
-ghost use Rattle.lrc_named_expression_faults.specs.View.{scope_of, sense_seen};
 
 use crate::extent::Extent;
+use crate::spelled::Spelled;
 use lrc_named_constants::constancy::Known;
-use lrc_named_constants::known_parameter;
 use lrc_named_names::names::{Declared, Meaning, Names};
 use lrc_named_tree::tree::Name;
 use std::alloc::Global;
@@ -28,6 +29,8 @@ pub enum Sense<'t, 'n, 'p> {
 }
 
 impl<'t> Sense<'t, '_, '_> {
+    ghost use Rattle.lrc_named_expression_faults.specs.View.{sense_seen};
+
     /// Returns the sizes of a shared item; nothing else has any.
     pub fn shared_sizes(self) -> &'t [u32]
         ensures { result.now ≡ shared_sizes (sense_seen self.entry) }
@@ -76,12 +79,15 @@ pub struct Scope<'t, 'n, 'p> {
     pub names: &'t Names<'n, 'p>,
     /// What stands in the bodies of functions: at the place of each function among the names.
     pub extents: &'t [Extent],
-    /// The parameters of the function in whose body it stands.
+    /// The parameters of the function in whose body it stands, and what is known of them.
     pub known: &'t [Known<'p>],
+    /// The names of these parameters.
+    pub parameters: &'t Spelled<'t, 'p>,
     /// The names that some statement of the text sets, where these may stand.
-    pub assigned: &'t [Name<'p>],
+    pub assigned: &'t Spelled<'t, 'p>,
     /// Whether it has to be constant: a constant's value, or a size.
     pub is_constant: bool,
+    pub ghost alike: { names_of (map known_of known.now) ≡ bytes_of (map named_of parameters.now.names.now) },
 }
 
 // Whether a name is spelled so.
@@ -111,6 +117,8 @@ fn count_of(declared: &[Declared<'_, '_>]) -> usize
 }
 
 impl<'t, 'n, 'p> Scope<'t, 'n, 'p> {
+    ghost use Rattle.lrc_named_expression_faults.specs.View.{scope_of, sense_seen};
+
     /// Returns how many names are declared before it.
     pub fn count(&self) -> usize
         ensures { result ≡ length (declared_of self.now.names.now) }
@@ -122,7 +130,7 @@ impl<'t, 'n, 'p> Scope<'t, 'n, 'p> {
     pub fn sense(&self, name: &[u8]) -> Sense<'t, 'n, 'p>
         ensures { sense_seen result ≡ sense_of (scope_of self.now) name.now }
     {
-        if known_parameter(self.known, name).is_some() {
+        if self.parameters.has(name) {
             return Sense::Parameter;
         }
         match self.names.meaning(self.names.place(name)) {
@@ -135,7 +143,7 @@ impl<'t, 'n, 'p> Scope<'t, 'n, 'p> {
     fn undeclared(&self, name: &[u8]) -> Sense<'t, 'n, 'p>
         ensures { sense_seen result ≡ undeclared_sense (is_among (scope_of self.now).assigned name.now) }
     {
-        if is_one_of(self.assigned, name) {
+        if self.assigned.has(name) {
             Sense::Private
         } else {
             Sense::Unknown

@@ -25,7 +25,7 @@ pub clean_constant : (table : List Declared) (e : Expression) (v : ℕ) → IsCo
     → IsNone (λ f. IsInConstant (constant_scope table) e f)
 clean_constant table e v h = λ f k. elim k [ inl inside ↦ h.0 f inside | inr own ↦ own.0.1 v h.1 ]
 
-varying_names : (own : List Named) → names_of (varying own) ≡ bytes_of own
+pub varying_names : (own : List Named) → names_of (varying own) ≡ bytes_of own
 varying_names [] = refl
 varying_names (p ∷ own) = ap (λ l. p.bytes ∷ l) (varying_names own)
 

@@ -18,6 +18,7 @@ use lrc_named_constants::constancy::{Constancy, Known};
 use lrc_named_expression_faults::extent::Extent;
 use lrc_named_expression_faults::fault::{Fault, FaultKind, Limit, earlier};
 use lrc_named_expression_faults::scope::Scope;
+use lrc_named_expression_faults::spelled::Spelled;
 use lrc_named_names::names::Meaning;
 use lrc_named_tree::tree::{Declaration, Expression, Name};
 use std::alloc::{AllocError, Global};
@@ -76,12 +77,14 @@ impl<'n, 'p> Layout<'n, 'p> {
         ensures { IfOk result (λ found. IsConstantFound (constant_scope (declared_of self.now.names))
             (expression_of value.now) found) }
     {
+        let none = Spelled::none(alloc);
         let scope = Scope {
             alloc,
             names: &self.names,
             extents: &self.extents,
             known: &[],
-            assigned: &[],
+            parameters: &none,
+            assigned: &none,
             is_constant: true,
         };
         constant_value(&scope, value)
@@ -121,12 +124,15 @@ impl<'n, 'p> Layout<'n, 'p> {
             (map named_of parameters.now)) (expression_of expression.now) found) }
     {
         let known = varying(alloc, parameters)?;
+        let spelled = Spelled::of(alloc, parameters)?;
+        let none = Spelled::none(alloc);
         let scope = Scope {
             alloc,
             names: &self.names,
             extents: &self.extents,
             known: &known,
-            assigned: &[],
+            parameters: &spelled,
+            assigned: &none,
             is_constant: false,
         };
         body(&scope, expression)
@@ -145,7 +151,8 @@ impl<'n, 'p> Layout<'n, 'p> {
             (map named_of parameters.now) (expression_of expression.now) found) }
     {
         let first = in_name(&self.names, false, name);
-        let others = in_parameters(&self.names, name, parameters);
+        let spelled = Spelled::of(alloc, parameters)?;
+        let others = in_parameters(&self.names, name, &spelled);
         let own = earlier(first, others);
         let found = self.body(alloc, parameters, expression)?;
         match found {

@@ -17,6 +17,7 @@ use crate::values::{Found, in_name, size, told};
 use lrc_named_expression_faults::extent::Extent;
 use lrc_named_expression_faults::fault::{Fault, FaultKind, Limit, earlier};
 use lrc_named_expression_faults::scope::Scope;
+use lrc_named_expression_faults::spelled::Spelled;
 use lrc_named_names::item::Item;
 use lrc_named_names::names::Meaning;
 use lrc_named_tree::tree::{Expression, Place};
@@ -132,12 +133,14 @@ impl<'n, 'p> Layout<'n, 'p> {
         ensures { IfOk result (λ found. AreSizesFound (declared_of self.now.names)
             (expressions_of expressions.now) found) }
     {
+        let none = Spelled::none(alloc);
         let scope = Scope {
             alloc,
             names: &self.names,
             extents: &self.extents,
             known: &[],
-            assigned: &[],
+            parameters: &none,
+            assigned: &none,
             is_constant: true,
         };
         sizes(&scope, expressions)

@@ -1,6 +1,6 @@
 // The faults of names, constants, sizes and bodies.
 
-ghost use Rattle.std.specs.Prelude.{◌≡◌, ◌≤◌, ◌||◌, ◌⊎◌, ◌∷◌, IfOk, Some, true, is_some, length, [], map, take};
+ghost use Rattle.std.specs.Prelude.{◌≡◌, ◌||◌, ◌⊎◌, ◌∷◌, IfOk, Some, true, is_some, [], map, take};
 ghost use Rattle.std.specs.Str.{bytes_eq};
 ghost use Rattle.lrc_named_tree.specs.Ends.{first_of};
 ghost use Rattle.lrc_named_tree.specs.View.{expression_of, named_of};
@@ -18,7 +18,8 @@ ghost use Rattle.lrc_named_faults.specs.Values.{IsBodyFound, IsConstantFound, Is
 
 use lrc_named_expression_faults::extent::Extent;
 use lrc_named_expression_faults::fault::{Fault, FaultKind, Limit, earlier};
-use lrc_named_expression_faults::scope::{Scope, is_one_of};
+use lrc_named_expression_faults::scope::Scope;
+use lrc_named_expression_faults::spelled::Spelled;
 use lrc_named_names::names::Names;
 use lrc_named_statement_faults::reserved;
 use lrc_named_tree::tree::{Expression, Name};
@@ -56,35 +57,27 @@ pub fn in_name(names: &Names<'_, '_>, stood: bool, name: Name<'_>) -> Option<Fau
     earlier(own, reserved(name))
 }
 
-// Whether a name is that of a function, or of one of the parameters before.
-fn stands(function: Name<'_>, before: &[Name<'_>], name: &[u8]) -> bool
-    ensures { result ≡ is_among ((named_of function.entry).bytes ∷ bytes_of (map named_of before.now)) name.now }
+// Whether a name is that of a function, or of one of its first so many parameters.
+fn stands(function: Name<'_>, parameters: &Spelled<'_, '_>, count: usize, name: &[u8]) -> bool
+    ensures { result ≡ is_among ((named_of function.entry).bytes
+        ∷ bytes_of (map named_of (take count parameters.now.names.now))) name.now }
 {
-    is_spelled(function.bytes, name) || is_one_of(before, name)
-}
-
-// The first so many of the parameters.
-fn front<'a, 'p>(parameters: &'a [Name<'p>], count: usize) -> &'a [Name<'p>]
-    requires { count ≤ length parameters.now }
-    ensures { result.now ≡ take count parameters.now }
-{
-    &parameters[..count]
+    is_spelled(function.bytes, name) || parameters.has_before(count, name)
 }
 
 /// Returns the first fault of the parameters of a function, if they have one.
 pub fn in_parameters(
     names: &Names<'_, '_>,
     function: Name<'_>,
-    parameters: &[Name<'_>],
+    parameters: &Spelled<'_, '_>,
 ) -> Option<Fault>
     ensures { IsFirstOf (λ f. IsInParameters (declared_of names.now) ((named_of function.entry).bytes ∷ [])
-        (map named_of parameters.now) f) result }
+        (map named_of parameters.now.names.now) f) result }
 {
     let mut first = None;
-    for i in (0..parameters.len()).rev() {
-        let name = parameters[i];
-        let before = front(parameters, i);
-        let stood = stands(function, before, name.bytes);
+    for i in (0..parameters.names.len()).rev() {
+        let name = parameters.names[i];
+        let stood = stands(function, parameters, i, name.bytes);
         let one = in_name(names, stood, name);
         first = earlier(one, first);
     }

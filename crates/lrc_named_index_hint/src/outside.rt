@@ -18,6 +18,7 @@ use crate::set::names_set;
 use crate::spots::{Spot, spots_in, spots_in_parts};
 use lrc_named_constants::constancy::{Constancy, Known};
 use lrc_named_expression_faults::scope::Scope;
+use lrc_named_expression_faults::spelled::Spelled;
 use lrc_named_faults::check;
 use lrc_named_faults::layout::Layout;
 use lrc_named_faults::values::Found;
@@ -150,12 +151,15 @@ fn body_over<'p>(
         (map spot_seen spots.now) value size) found) }
 {
     let known = varying(alloc, parameters)?;
+    let spelled = Spelled::of(alloc, parameters)?;
+    let none = Spelled::none(alloc);
     let scope = Scope {
         alloc,
         names: &layout.names,
         extents: &layout.extents,
         known: &known,
-        assigned: &[],
+        parameters: &spelled,
+        assigned: &none,
         is_constant: false,
     };
     one_over(&scope, spots)
@@ -211,12 +215,15 @@ fn parts_over<'p>(
         (statement_scope (declared_of layout.now.names) (map part_seen parts.now))
         (map spot_seen spots.now) value size) found) }
 {
-    let assigned = names_set(alloc, parts)?;
+    let set = names_set(alloc, parts)?;
+    let assigned = Spelled::of(alloc, &set)?;
+    let none = Spelled::none(alloc);
     let scope = Scope {
         alloc,
         names: &layout.names,
         extents: &layout.extents,
         known: &[],
+        parameters: &none,
         assigned: &assigned,
         is_constant: false,
     };

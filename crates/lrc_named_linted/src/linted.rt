@@ -1,16 +1,19 @@
 // What is told of a text that is read as a named program.
 
 ghost use Rattle.std.specs.Prelude.{◌≡◌, ◌++◌, IfOk, MatchOption, map};
+ghost use Rattle.lrc_lang.specs.declared.fault.FaultKind.{FaultKind as FaultKindSeen};
 ghost use Rattle.lrc_text.specs.Parts.{whole_text};
 ghost use Rattle.lrc_named_check.specs.Program.{IsClean};
 ghost use Rattle.lrc_named_expression_faults.specs.Fault.{IsFirstOf};
 ghost use Rattle.lrc_named_faults.specs.Program.{IsFaultOf};
 ghost use Rattle.lrc_named_linted.specs.Linted.{IsSound, TellsNamed};
-ghost use Rattle.lrc_named_parse.specs.Faults.{IsNamed};
+ghost use Rattle.lrc_named_parse.specs.Faults.{HasFirstFault, IsNamed};
+ghost use Rattle.lrc_named_tokens.specs.Token.{Place as PlaceSeen};
 ghost use Rattle.lrc_named_tokens.specs.View.{located_of};
 ghost use Rattle.lrc_named_tree.specs.View.{program_of};
 ghost use Rattle.lrc_named.specs.Lines.{lines_of};
 
+use lrc_lang::fault::FaultKind;
 use lrc_lint_fault::Linted;
 use lrc_named_check::names_of;
 use lrc_named_expression_faults::fault::Fault;
@@ -41,6 +44,7 @@ pub fn lint_named(alloc: Global, file: &[u8], text: &[u8]) -> Result<Option<Lint
 
 // The same, of a text that has no fault as such.
 fn lint_parsed(alloc: Global, file: &[u8], text: &[u8]) -> Result<Option<Linted>, AllocError>
+    requires { (place : PlaceSeen) (kind : FaultKindSeen) → HasFirstFault text.now place kind → ⊥ }
     ensures { IfOk result (λ told. MatchOption told (IsSound text.now)
         (λ linted. TellsNamed file.now text.now (whole_text linted.parts.items)
         × (linted.status ≡ 1))) }
@@ -50,7 +54,11 @@ fn lint_parsed(alloc: Global, file: &[u8], text: &[u8]) -> Result<Option<Linted>
             let Parsed { program, tokens } = parsed;
             lint_program(alloc, file, text, &tokens, program)
         }
-        Err(_) => Err(AllocError),
+        Err(fault) => match fault.kind {
+            FaultKind::NoMemory => Err(AllocError),
+            // The text has no fault.
+            _ => unreachable!(),
+        },
     }
 }
 

@@ -15,6 +15,7 @@ use crate::privates::{names_set, too_many};
 use lrc_named_expression_faults::extent::Extent;
 use lrc_named_expression_faults::fault::{Fault, FaultKind, earlier};
 use lrc_named_expression_faults::scope::{Scope, Sense};
+use lrc_named_expression_faults::spelled::Spelled;
 use lrc_named_expression_faults::{indexed, wrong_indices};
 use lrc_named_names::names::{Meaning, Names};
 use lrc_named_tree::tree::{Expression, Name, Place, Statement};
@@ -179,12 +180,15 @@ pub fn first_fault<'p>(
 {
     let mut parts = Vec::new(alloc);
     push_parts(&mut parts, statements)?;
-    let assigned = names_set(alloc, &parts)?;
+    let set = names_set(alloc, &parts)?;
+    let assigned = Spelled::of(alloc, &set)?;
+    let none = Spelled::none(alloc);
     let scope = Scope {
         alloc,
         names,
         extents,
         known: &[],
+        parameters: &none,
         assigned: &assigned,
         is_constant: false,
     };

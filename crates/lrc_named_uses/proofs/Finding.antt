@@ -1,15 +1,11 @@
 -- What is found among the items of a list that a loop has not passed.
-use Rattle.std.proofs.Common.{◌≡◌, ◌∙◌, ◌<◌, ◌≤◌, ◌+◌, ◌||◌, ℕ, Bool, ap, sym, refl, List, [], ◌∷◌, length, map, drop, get_or}
+use Rattle.std.proofs.Common.{◌≡◌, ◌∙◌, ◌<◌, ◌≤◌, ◌+◌, ◌||◌, ℕ, Bool, ap, sym, List, length, map, drop, get_or}
 use Rattle.std.specs.Prelude.{true, false}
 use Rattle.std.specs.List.{enumerate_from, list_any}
 use Rattle.std.proofs.lemmas.List.{drop_all, drop_more}
 
-pub any_seen : {A B : Type 0} (seen : A → B) (test : B → Bool) (items : List A) → list_any (λ item. test (seen item)) items ≡ list_any test (map seen items)
-any_seen seen test [] = refl
-any_seen seen test (item ∷ others) = ap (λ (b : Bool). test (seen item) || b) (any_seen seen test others)
-
 module _ {A S : Type 0} (seen : A → S) (test : S → Bool) (items : List A) (i : ℕ) where
-  from_here : (d : A) → i < length items
+  pub from_here : (d : A) → i < length items
       → list_any test (map seen (drop i items)) ≡ (test (seen (get_or items i d)) || list_any test (map seen (drop (i + 1) items)))
   from_here d lt = ap (λ (l : List A). list_any test (map seen l)) (drop_more items i d lt)
 
@@ -25,17 +21,8 @@ module _ {A S : Type 0} (seen : A → S) (test : S → Bool) (items : List A) (i
 
 -- the same, of items with their numbers
 module _ {A S : Type 0} (seen : A → S) (test : ℕ × S → Bool) (items : List A) (i : ℕ) where
-  abbrev rest_from : ℕ → Bool
+  abbrev pub rest_from : ℕ → Bool
   rest_from k = list_any test (enumerate_from k (map seen (drop k items)))
 
-  numbered_here : (d : A) → i < length items → rest_from i ≡ (test (i, seen (get_or items i d)) || rest_from (i + 1))
+  pub numbered_here : (d : A) → i < length items → rest_from i ≡ (test (i, seen (get_or items i d)) || rest_from (i + 1))
   numbered_here d lt = ap (λ (l : List A). list_any test (enumerate_from i (map seen l))) (drop_more items i d lt)
-
-  pub some_here : (d : A) (all : Bool) → i < length items → all ≡ rest_from i → test (i, seen (get_or items i d)) ≡ true → true ≡ all
-  some_here d all lt is holds = sym (is ∙ numbered_here d lt ∙ ap (λ (b : Bool). b || rest_from (i + 1)) holds)
-
-  pub some_later : (d : A) (all : Bool) → i < length items → all ≡ rest_from i → test (i, seen (get_or items i d)) ≡ false → all ≡ rest_from (i + 1)
-  some_later d all lt is fails = is ∙ numbered_here d lt ∙ ap (λ (b : Bool). b || rest_from (i + 1)) fails
-
-  pub some_nowhere : (all : Bool) → length items ≤ i → all ≡ rest_from i → false ≡ all
-  some_nowhere all past is = sym (is ∙ ap (λ (l : List A). list_any test (enumerate_from i (map seen l))) (drop_all i items past))

@@ -5,7 +5,9 @@
 mod deeds;
 mod loops;
 mod names;
+mod shadows;
 mod shared;
+mod spots;
 mod unused;
 
 pub use loops::loops_in;

@@ -1,22 +1,12 @@
 // The names among the tokens of a text.
 
 ghost use Rattle.std.specs.Prelude.{◌≡◌, drop, map, take};
-ghost use Rattle.lrc_named_tokens.specs.View.{lexeme_of, located_of};
+ghost use Rattle.lrc_named_tokens.specs.View.{located_of};
 ghost use Rattle.lrc_named_tree.specs.View.{expression_of};
-ghost use Rattle.lrc_named_uses.specs.Names.{is_name, tokens_between, tokens_in};
+ghost use Rattle.lrc_named_uses.specs.Names.{tokens_between, tokens_in};
 
-use lrc_named_tokens::token::{Lexeme, Located, Token};
+use lrc_named_tokens::token::Located;
 use lrc_named_tree::tree::Expression;
-
-/// Returns whether this is the name.
-pub(crate) fn is_name(lexeme: Lexeme<'_>, name: &[u8]) -> bool
-    ensures { result ≡ is_name name.now (lexeme_of lexeme.entry) }
-{
-    match lexeme {
-        Lexeme::Token(Token::Name(bytes)) => bytes == name,
-        _ => false,
-    }
-}
 
 /// Returns the tokens of an expression.
 pub(crate) fn tokens_in<'a, 't>(

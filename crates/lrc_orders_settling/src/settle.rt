@@ -115,8 +115,9 @@ fn put_spot(flat: &Flat, state: &mut State, node: usize, spot: Spot)
     state.spots[node] = kept_spot(spot, me);
 }
 
-// What is kept of a thread: of a node that has stopped nothing but its number, so that states do not differ by what it knew.
-fn kept_spot(spot: Spot, me: u8) -> Spot
+/// Returns what is kept of a thread: of a node that has stopped nothing but its number, so that states do not differ by
+/// what it knew.
+pub fn kept_spot(spot: Spot, me: u8) -> Spot
     ensures { result ≡ kept_spot spot me }
 {
     if spot.stopped {
@@ -133,9 +134,9 @@ fn kept_spot(spot: Spot, me: u8) -> Spot
     }
 }
 
-// The locks that these deeds give back are free now.
+/// Frees the locks that these deeds give back.
 #[tactic(auto, using(crate::proofs::Parts::freed_more))]
-fn give_back(holders: &mut Vec<Option<usize>>, deeds: &[Deed])
+pub fn give_back(holders: &mut Vec<Option<usize>>, deeds: &[Deed])
     ensures { holders.new.items ≡ freed deeds.now holders.old.items }
 {
     for deed in deeds {

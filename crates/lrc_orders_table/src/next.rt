@@ -7,12 +7,12 @@ ghost use Rattle.lrc_exec.specs.Meaning.{next_of as next_of_thread};
 ghost use Rattle.lrc_exec.specs.Spots.{spot_thread, thread_at, IsFlat};
 ghost use Rattle.lrc_orders.specs.Traps.{is_trap};
 ghost use Rattle.lrc_orders_settling.specs.Settling.{MakesFree};
-ghost use Rattle.lrc_orders_settling.specs.Gone.{kept_spot};
 ghost use Rattle.lrc_orders_table.specs.Nexts.{SettlesSo, is_seen, next_in, thread_then};
 
 use lrc_exec::machine::Ask;
 use lrc_exec::spot::{Flat, Spot};
 use lrc_orders::traps::is_trap;
+use lrc_orders_settling::settle::kept_spot;
 use lrc_orders_settling::settling::{Settling, settle_thread};
 use lrc_trace::act::Deed;
 use std::alloc::{AllocError, Global};
@@ -89,11 +89,11 @@ pub fn settled_after(
     let there = after_act(flat, spot, value);
     match settle_thread(alloc, flat, &there, looked)? {
         Settling::Waits(last, deeds) => Ok(Some(Settled {
-            spot: kept(last, spot.me),
+            spot: kept_spot(last, spot.me),
             deeds: seen(alloc, &deeds)?,
         })),
         Settling::Turns(last, deeds) => Ok(Some(Settled {
-            spot: kept(last, spot.me),
+            spot: kept_spot(last, spot.me),
             deeds: seen(alloc, &deeds)?,
         })),
         Settling::Open => Ok(None),
@@ -117,25 +117,6 @@ fn after_act(flat: &Flat, spot: &Spot, value: u64) -> Spot
         flat.answer(&mut there, value);
     }
     there
-}
-
-// What is kept of a thread: of a node that has stopped nothing but its number, so that states do not differ by what it
-// knew.
-fn kept(spot: Spot, me: u8) -> Spot
-    ensures { result ≡ kept_spot spot me }
-{
-    if spot.stopped {
-        Spot {
-            me,
-            place: 0,
-            privates: [0; 32],
-            held: [false; 64],
-            arrived: false,
-            stopped: true,
-        }
-    } else {
-        spot
-    }
 }
 
 // The deeds that others can see, or that are noted.

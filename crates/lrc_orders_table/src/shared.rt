@@ -1,9 +1,9 @@
 // What becomes of what nodes share.
 
-ghost use Rattle.std.specs.Prelude.{◌≡◌, ◌||◌, IfOk, None, OnOk, Some, slice_get, slice_set};
+ghost use Rattle.std.specs.Prelude.{◌≡◌, ◌||◌, IfOk, OnOk, Some, slice_get};
 ghost use Rattle.std.specs.List.{list_any};
 ghost use Rattle.lrc_orders.specs.Kept.{Grows};
-ghost use Rattle.lrc_orders_settling.specs.Gone.{freed, freed_by};
+ghost use Rattle.lrc_orders_settling.specs.Gone.{freed};
 ghost use Rattle.lrc_orders_table.specs.declared.parts.Shared.{Shared as SharedType};
 ghost use Rattle.lrc_orders_table.specs.Rows.{AreSharedDistinct, IsSharedAt};
 ghost use Rattle.lrc_orders_table.specs.Shared.{IsFitting, Fits, holders_then, is_change, is_release, words_then};
@@ -12,6 +12,7 @@ use crate::next::Next;
 use crate::parts::{Shared, shared_number, short};
 use crate::table::{Change, Table};
 use indexmap::IndexSet;
+use lrc_orders_settling::settle::give_back;
 use lrc_trace::act::Deed;
 use std::alloc::{AllocError, Global};
 
@@ -121,7 +122,7 @@ fn changed(
 {
     copy(scratch, &all.as_slice()[shared as usize])?;
     act(scratch, node, next);
-    free_all(&mut scratch.holders, deeds);
+    give_back(&mut scratch.holders, deeds);
     number_of(alloc, all, scratch)
 }
 
@@ -147,34 +148,6 @@ fn act(shared: &mut Shared, node: usize, next: Next)
         Next::Writes(word, value) => shared.memory[word as usize] = value,
         Next::Acquires(lock) => shared.holders[lock as usize] = Some(node),
         _ => {}
-    }
-}
-
-// The locks that these deeds give back are free now.
-#[tactic(auto, using(lrc_orders_settling::proofs::Parts::freed_more))]
-fn free_all(holders: &mut Vec<Option<usize>>, deeds: &[Deed])
-    ensures { holders.new.items ≡ freed deeds.now holders.old.items }
-{
-    for deed in deeds {
-        free_by(holders, *deed);
-    }
-}
-
-// The lock that a deed gives back is free now.
-fn free_by(holders: &mut Vec<Option<usize>>, deed: Deed)
-    ensures { holders.new.items ≡ freed_by deed holders.old.items }
-{
-    if let Deed::Release(lock) = deed {
-        free(holders, lock as usize);
-    }
-}
-
-// A lock is free now, if there is one of this number.
-fn free(holders: &mut Vec<Option<usize>>, lock: usize)
-    ensures { holders.new.items ≡ slice_set holders.old.items lock None }
-{
-    if lock < holders.len() {
-        holders[lock] = None;
     }
 }
 

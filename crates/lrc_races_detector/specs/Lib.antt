@@ -1,5 +1,6 @@
 pub mod Chunks
 pub mod Vectors
+pub mod Within
 pub mod Clocks
 pub mod Barriers
 pub mod Variables

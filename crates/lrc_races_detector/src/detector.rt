@@ -134,7 +134,8 @@ pub fn access(
     Ok(())
 }
 
-fn cover_of(placed: Placed) -> Cover
+/// The access, as one of which is known who did it, and where.
+pub fn cover_of(placed: Placed) -> Cover
     ensures position { result.position ≡ placed.position }
     ensures thread { result.thread ≡ placed.event.thread }
 {
@@ -144,8 +145,8 @@ fn cover_of(placed: Placed) -> Cover
     }
 }
 
-// A write of which nothing is told comes behind all accesses of its variable.
-fn cover_behind(placed: Placed, is_write: bool, told: &[Pair]) -> Option<Cover>
+/// A write of which nothing is told comes behind all accesses of its variable.
+pub fn cover_behind(placed: Placed, is_write: bool, told: &[Pair]) -> Option<Cover>
     ensures { IfSome result (λ cover. (cover.position ≡ placed.position)
         × (cover.thread ≡ placed.event.thread) × IsTrue is_write × (length told.now ≡ 0)) }
 {

@@ -1,6 +1,7 @@
 // Vectors: for each thread, one more than the last of its positions that is known, or 0 where none is. Vectors share what
 // they know alike.
 ghost use Rattle.std.specs.Prelude.{◌≡◌, ◌≢◌, ℕ, [], IfOk, OnOk, max, slice_index};
+ghost use Rattle.std.specs.Bool.{OnTrue};
 ghost use Rattle.lrc_races_detector.specs.Chunks.{values};
 ghost use Rattle.lrc_races_detector.specs.Vectors.{IsPut, IsRaised, apart_at, entries, held};
 
@@ -92,6 +93,16 @@ impl Vector {
         }
     }
 
+    /// Whether it knows nothing. It may say no where it does.
+    pub(crate) fn is_nothing(&self) -> bool
+        ensures { OnTrue result (held self.now ≡ []) }
+    {
+        match self.apart {
+            Some(_) => false,
+            None => self.others.is_empty(),
+        }
+    }
+
     /// Returns what it knows.
     pub fn known(&self) -> Known<'_>
         ensures { entries result ≡ held self.now }
@@ -102,8 +113,8 @@ impl Vector {
         }
     }
 
-    // Raises an entry, if it is less. It stands apart, if no other does.
-    fn raise(&mut self, entry: Entry) -> Result<(), AllocError>
+    /// Raises an entry, if it is less. It stands apart, if no other does. It fails if memory runs out.
+    pub(crate) fn raise(&mut self, entry: Entry) -> Result<(), AllocError>
         ensures { OnOk result (IsRaised (held self.old) (held self.new) entry.thread entry.value) }
     {
         match self.apart {

@@ -3,4 +3,5 @@ mod Handing
 mod Giving
 mod Writing
 mod Telling
+mod Covering
 pub mod Collecting

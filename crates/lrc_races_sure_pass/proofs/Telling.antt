@@ -51,7 +51,7 @@ rival_last : (events : List Event) (n v : ℕ) (w : Bool) (last : Last) → IsLa
 rival_last events n v true last is = is.access
 rival_last events n v false last is = is.write
 
-rival_access : (events : List Event) (v u k : ℕ) (w : Bool) → Rival events w v u k → AccessOf events v u k
+pub rival_access : (events : List Event) (v u k : ℕ) (w : Bool) → Rival events w v u k → AccessOf events v u k
 rival_access events v u k true h = h
 rival_access events v u k false (a, at, of, writes) = (a, at, of, inr writes)
 
@@ -81,7 +81,7 @@ module _ (events : List Event) (later : Placed) (here : At events later.position
         | inr h ↦ let never : ⊥ = cc in absurd never
       ]
 
-  race_rival : (u k : ℕ) (a : Event) → At events k a → a.thread ≡ u → IsSureRace events k n → Rival events w v u k
+  pub race_rival : (u k : ℕ) (a : Event) → At events k a → a.thread ≡ u → IsSureRace events k n → Rival events w v u k
   race_rival u k a at of r =
       let first : r.a ≡ a = At-one r.first at in
       let second : r.b ≡ b = At-one r.second here in
@@ -100,7 +100,7 @@ module _ (events : List Event) (later : Placed) (here : At events later.position
   rival_at u k apart h = let (a, at, of, conflict) = rival_conflict w op u k apart h in (a, at, of)
 
   -- whether an access before n is known says whether n was reached by way of it
-  known_before : (k : ℕ) (a : Event) → At events k a → k < n → k < get_or known a.thread 0 → IsByWay events k n
+  pub known_before : (k : ℕ) (a : Event) → At events k a → k < n → k < get_or known a.thread 0 → IsByWay events k n
   known_before k a at lt below = let (m, before, leads) = g.sound k a at below in record { through = m; leads = leads; before = base before }
 
   before_known : (k : ℕ) (a : Event) → At events k a → IsByWay events k n → k < get_or known a.thread 0

@@ -1,2 +1,3 @@
+pub mod Covers
 pub mod Knowing
 pub mod Detecting

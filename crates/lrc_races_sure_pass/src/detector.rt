@@ -5,14 +5,17 @@ ghost use Rattle.lrc_races_trace.specs.Trace.{At};
 ghost use Rattle.lrc_races_trace.specs.Order.{Precedes};
 ghost use Rattle.lrc_races_sure.specs.Sure.{AreSureToldAt};
 ghost use Rattle.lrc_races_detector.specs.Clocks.{row, IsGained};
+ghost use Rattle.lrc_races_detector.specs.Covers.{operation_of};
 ghost use Rattle.lrc_races_detector.specs.Knowing.{AreVariables};
 ghost use Rattle.lrc_races_detector.specs.Vectors.{entries};
+ghost use Rattle.lrc_races_sure_pass.specs.Covers.{AreCovers};
 ghost use Rattle.lrc_races_sure_pass.specs.Knowing.{Gathers, AreThreads, AreLocks, AreBarriers, AreWrites, IsAsked, IsReached, written};
 ghost use Rattle.lrc_races_sure_pass.specs.Detecting.{HasTaken};
 
 use lrc_races_detector::barriers::Barriers;
 use lrc_races_detector::clocks::Clocks;
-use lrc_races_detector::detector::{access, receive};
+use lrc_races_detector::covers::Covers;
+use lrc_races_detector::detector::{access, cover_behind, cover_of, receive};
 use lrc_races_detector::variables::Variables;
 use lrc_races_detector::vectors::Known;
 use lrc_races_trace::event::{Event, Operation, Pair, Placed};
@@ -33,11 +36,45 @@ pub struct SureDetector {
     pub variables: Variables,
     /// For each variable, what was known at its last write.
     pub writes: Clocks,
+    /// The last access of each variable, where all others lead to it.
+    pub covers: Covers,
+}
+
+// Tells the sure pairs of an access, and notes it.
+fn judge_access(
+    variables: &mut Variables,
+    covers: &mut Covers,
+    variable: u32,
+    known: Known<'_>,
+    placed: Placed,
+    is_write: bool,
+    told: &mut Vec<Pair>,
+) -> Result<(), AllocError>
+    ensures { OnOk result ((events : List Event) → At events placed.position placed.event
+        → placed.event.operation ≡ operation_of is_write variable
+        → Gathers events (λ k. Precedes events k placed.position) (entries known.entry)
+        → AreVariables events placed.position variables.old
+        → AreCovers events placed.position covers.old
+        → told.old.items ≡ []
+        → AreVariables events (placed.position + 1) variables.new
+        × AreCovers events (placed.position + 1) covers.new
+        × AreSureToldAt events placed.position told.new.items) }
+{
+    let index = variable as usize;
+    if covers.is_known(index, known) {
+        variables.note(index, placed, is_write)?;
+        covers.set(index, Some(cover_of(placed)))?;
+        return Ok(());
+    }
+    access(variables, index, known, placed, is_write, told)?;
+    covers.set(index, cover_behind(placed, is_write, told.as_slice()))?;
+    Ok(())
 }
 
 // Tells the sure pairs of an event, and notes it.
 fn judge(
     variables: &mut Variables,
+    covers: &mut Covers,
     known: Known<'_>,
     placed: Placed,
     told: &mut Vec<Pair>,
@@ -45,17 +82,19 @@ fn judge(
     ensures { OnOk result ((events : List Event) → At events placed.position placed.event
         → Gathers events (λ k. Precedes events k placed.position) (entries known.entry)
         → AreVariables events placed.position variables.old
+        → AreCovers events placed.position covers.old
         → told.old.items ≡ []
         → AreVariables events (placed.position + 1) variables.new
+        × AreCovers events (placed.position + 1) covers.new
         × AreSureToldAt events placed.position told.new.items) }
 {
     match placed.event.operation {
         Operation::Read(variable) => {
-            access(variables, variable as usize, known, placed, false, told)?;
+            judge_access(variables, covers, variable, known, placed, false, told)?;
             Ok(())
         }
         Operation::Write(variable) => {
-            access(variables, variable as usize, known, placed, true, told)?;
+            judge_access(variables, covers, variable, known, placed, true, told)?;
             Ok(())
         }
         _ => Ok(()),
@@ -153,6 +192,7 @@ impl SureDetector {
             barriers: Barriers::new(alloc),
             variables: Variables::new(alloc),
             writes: Clocks::new(alloc),
+            covers: Covers::new(alloc),
         }
     }
 
@@ -166,6 +206,7 @@ impl SureDetector {
         ensures barriers { self.new.barriers ≡ self.old.barriers }
         ensures variables { self.new.variables ≡ self.old.variables }
         ensures writes { self.new.writes ≡ self.old.writes }
+        ensures covers { self.new.covers ≡ self.old.covers }
     {
         receive(&mut self.threads, &self.locks, &self.barriers, event)?;
         Ok(())
@@ -184,6 +225,7 @@ impl SureDetector {
         ensures barriers { self.new.barriers ≡ self.old.barriers }
         ensures variables { self.new.variables ≡ self.old.variables }
         ensures writes { self.new.writes ≡ self.old.writes }
+        ensures covers { self.new.covers ≡ self.old.covers }
     {
         learn(&mut self.threads, &self.writes, event)?;
         self.threads.mark(event.thread, self.position + 1)?;
@@ -206,7 +248,7 @@ impl SureDetector {
             event,
         };
         let asked = self.threads.row(event.thread as usize);
-        judge(&mut self.variables, asked, placed, told)?;
+        judge(&mut self.variables, &mut self.covers, asked, placed, told)?;
         self.reach(event)?;
         let known = self.threads.row(event.thread as usize);
         give_write(&mut self.writes, known, event)?;

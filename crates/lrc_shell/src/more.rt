@@ -100,8 +100,8 @@ fn linted(alloc: Global, file: &str, text: &[u8]) -> Result<Vec<Vec<u8>>, AllocE
 {
     match answer(alloc, &Choice::Lint(file), text, None) {
         Ok(Answered::Printed(printout)) => Ok(printout.parts),
-        // No judgement is an answer of `lint`.
-        Ok(Answered::Judged(_)) | Err(_) => Err(AllocError),
+        // No judgement and no search is an answer of `lint`.
+        Ok(Answered::Judged(_)) | Ok(Answered::Met(_, _)) | Err(_) => Err(AllocError),
     }
 }
 

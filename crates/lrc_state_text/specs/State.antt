@@ -7,7 +7,7 @@ use Rattle.lrc_state_text.specs.Waits.{clock_members, wait_members}
 use Rattle.lrc_state_text.specs.Tokens.{locks_member}
 use Rattle.lrc_state_text.specs.Manager.{barrier_members}
 use Rattle.lrc_state_text.specs.Copies.{pages_member}
-use Rattle.lrc_state_text.specs.Intervals.{intervals_member, StoredInterval}
+use Rattle.lrc_state_text.specs.Intervals.{intervals_member, intervals_text, StoredInterval}
 
 -- how many messages the node has sent to each node, and taken from each, repeats not counted
 abbrev pub taken_counts : Mail → List ℕ
@@ -34,8 +34,19 @@ memory_members node known =
     pages_member node.options.size node.memory ++ intervals_member node.options.size node.memory known
     ++ collected_member node.memory.collected
 
+-- the same, of the intervals these
+abbrev pub memory_with : Node → (shown : List StoredInterval) → List ℕ
+memory_with node shown =
+    pages_member node.options.size node.memory ++ intervals_text node.options.size shown ++ collected_member node.memory.collected
+
 -- the state of a node whose next statement is in this line, with its private names whose value is not 0
 abbrev pub state_text : Node → (line : ℕ) → List Named → (known : List StoredInterval) → List ℕ
 state_text node line names known =
     codes "{" ++ course_members node line names ++ control_members node ++ memory_members node known
+    ++ mail_members node.mail ++ codes "}"
+
+-- the same, with these intervals
+abbrev pub state_with : Node → (line : ℕ) → List Named → (shown : List StoredInterval) → List ℕ
+state_with node line names shown =
+    codes "{" ++ course_members node line names ++ control_members node ++ memory_with node shown
     ++ mail_members node.mail ++ codes "}"

@@ -105,7 +105,7 @@ fn push_interval(text: &mut Vec<u8>, size: Size, stored: &StoredInterval) -> Res
 {
     push_stamp(text, &stored.interval)?;
     push_pages(text, &stored.interval.pages)?;
-    push_parts_member(text, size, &stored.changes)
+    push_parts_member(text, size, stored.changes.as_slice())
 }
 
 // Adds an interval behind others.

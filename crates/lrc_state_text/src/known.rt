@@ -69,24 +69,40 @@ impl Known {
         self.first_place(stored)
     }
 
-    // Adds an interval to others, unless it was shown with these changes. Returns at which place the next one is likely to
-    // have been shown.
+    // Adds a copy of an interval to others, unless it was shown with these changes. Returns at which place the next one is
+    // likely to have been shown.
     fn push_new(
         &self,
         found: &mut Vec<StoredInterval>,
         likely: usize,
-        stored: StoredInterval,
+        stored: &StoredInterval,
     ) -> Result<usize, AllocError>
         ensures { OnOk result (found.new.items
-            ≡ found.old.items ++ not_known self.now (stored ∷ [])) }
+            ≡ found.old.items ++ not_known self.now (stored.now ∷ [])) }
     {
-        match self.place_of(likely, &stored) {
+        match self.place_of(likely, stored) {
             Some(place) => Ok(place.saturating_add(1)),
             None => {
-                found.push(stored)?;
+                found.push(stored.duplicate(*found.allocator())?)?;
                 Ok(likely)
             }
         }
+    }
+
+    // Copies of those of these intervals that were not shown before, or that have other changes now.
+    fn new_among(
+        &self,
+        alloc: Global,
+        all: &[StoredInterval],
+    ) -> Result<Vec<StoredInterval>, AllocError>
+        ensures { IfOk result (λ found. found.items ≡ not_known self.now all.now) }
+    {
+        let mut found = Vec::new(alloc);
+        let mut likely = 0;
+        for stored in all {
+            likely = self.push_new(&mut found, likely, stored)?;
+        }
+        Ok(found)
     }
 
     /// Returns the intervals of a state that were not shown before, or that have other changes now.
@@ -99,11 +115,23 @@ impl Known {
             ≡ not_known self.now (stored_in state.now.memory)) }
     {
         let all = all_stored(alloc, state)?;
-        let mut found = Vec::new(alloc);
-        let mut likely = 0;
-        for stored in all {
-            likely = self.push_new(&mut found, likely, stored)?;
-        }
+        self.new_among(alloc, &all)
+    }
+
+    /// Returns the intervals of a state that were not shown before, or that have other changes now. From then on all that
+    /// the state stores were shown.
+    pub(crate) fn renew(
+        &mut self,
+        alloc: Global,
+        state: &NodeState<'_>,
+    ) -> Result<Vec<StoredInterval>, AllocError>
+        ensures found { IfOk result (λ found. found.items
+            ≡ not_known self.old (stored_in state.now.memory)) }
+        ensures known { OnOk result (self.new ≡ stored_in state.now.memory) }
+    {
+        let all = all_stored(alloc, state)?;
+        let found = self.new_among(alloc, &all)?;
+        self.list = all;
         Ok(found)
     }
 }

@@ -17,4 +17,4 @@ mod words;
 
 pub use known::Known;
 pub use place::{NamedValue, Place};
-pub use state::push_state;
+pub use state::{push_next_state, push_state};

@@ -1,8 +1,9 @@
 // A node's state as an object.
 
 ghost use Rattle.std.specs.Prelude.{◌≡◌, ◌++◌, IfOk, OnOk, length, map};
+ghost use Rattle.lrc_state_text.specs.Intervals.{stored_in};
 ghost use Rattle.lrc_state_text.specs.Place.{named_seen};
-ghost use Rattle.lrc_state_text.specs.State.{collected_member, control_members, course_members, mail_members, memory_members, state_text, taken_counts};
+ghost use Rattle.lrc_state_text.specs.State.{collected_member, control_members, course_members, mail_members, memory_with, state_text, state_with, taken_counts};
 ghost use Rattle.lrc_state_text.specs.Waits.{clock_members, wait_members, waits_member};
 
 use crate::copies::push_pages;
@@ -13,6 +14,7 @@ use crate::locks::push_locks;
 use crate::manager::push_barrier;
 use crate::needs::push_needs_member;
 use crate::place::{Place, push_place};
+use crate::stored::StoredInterval;
 use crate::waits::push_wait;
 use lrc_mail::Mail;
 use lrc_node::NodeState;
@@ -87,14 +89,17 @@ fn push_collected(text: &mut Vec<u8>, time: &Time) -> Result<(), AllocError>
     push_time(text, time)
 }
 
-// Adds what the node knows of the shared memory, of the intervals those that were not known before.
-fn push_memory(text: &mut Vec<u8>, state: &NodeState<'_>, known: &Known) -> Result<(), AllocError>
-    ensures { OnOk result (text.new.items ≡ text.old.items ++ memory_members state.now known.now) }
+// Adds what the node knows of the shared memory, of the intervals these.
+fn push_memory(
+    text: &mut Vec<u8>,
+    state: &NodeState<'_>,
+    stored: &[StoredInterval],
+) -> Result<(), AllocError>
+    ensures { OnOk result (text.new.items ≡ text.old.items ++ memory_with state.now stored.now) }
 {
     let memory = state.memory();
-    let stored = known.new_in(*text.allocator(), state)?;
     push_pages(text, memory, state.pages())?;
-    push_intervals(text, memory.size(), &stored)?;
+    push_intervals(text, memory.size(), stored)?;
     push_collected(text, memory.collected())
 }
 
@@ -136,6 +141,25 @@ fn push_mail(text: &mut Vec<u8>, mail: &Mail, nodes: u8) -> Result<(), AllocErro
     push_numbers(text, &taken)
 }
 
+// Adds a node's state as an object, of its intervals these.
+fn push_members(
+    text: &mut Vec<u8>,
+    state: &NodeState<'_>,
+    place: &Place<'_>,
+    stored: &[StoredInterval],
+) -> Result<(), AllocError>
+    ensures { OnOk result (text.new.items
+        ≡ text.old.items ++ state_with state.now place.now.at
+        (map named_seen place.now.names.now) stored.now) }
+{
+    text.extend_from_slice(b"{")?;
+    push_course(text, state, place)?;
+    push_control(text, state)?;
+    push_memory(text, state, stored)?;
+    push_mail(text, state.mail(), state.nodes())?;
+    text.extend_from_slice(b"}")
+}
+
 /// Adds a node's state as an object. `place` gives what the state does not have: the line of the next statement, and
 /// the private names whose value is not 0. Of the intervals that the node stores, it shows those that are not in
 /// `known` or have other changes there.
@@ -149,10 +173,23 @@ pub fn push_state(
         ≡ text.old.items ++ state_text state.now place.now.at
         (map named_seen place.now.names.now) known.now) }
 {
-    text.extend_from_slice(b"{")?;
-    push_course(text, state, place)?;
-    push_control(text, state)?;
-    push_memory(text, state, known)?;
-    push_mail(text, state.mail(), state.nodes())?;
-    text.extend_from_slice(b"}")
+    let stored = known.new_in(*text.allocator(), state)?;
+    push_members(text, state, place, &stored)
+}
+
+/// Adds a node's state as `push_state` does. From then on all intervals that the node stores are in `known`. The node's
+/// next state costs less so than with a `Known` made anew.
+pub fn push_next_state(
+    text: &mut Vec<u8>,
+    state: &NodeState<'_>,
+    place: &Place<'_>,
+    known: &mut Known,
+) -> Result<(), AllocError>
+    ensures text { OnOk result (text.new.items
+        ≡ text.old.items ++ state_text state.now place.now.at
+        (map named_seen place.now.names.now) known.old) }
+    ensures known { OnOk result (known.new ≡ stored_in state.now.memory) }
+{
+    let stored = known.renew(*text.allocator(), state)?;
+    push_members(text, state, place, &stored)
 }

@@ -8,8 +8,13 @@ use lrc_memory::Memory;
 use lrc_page::Changes;
 use lrc_store::{Interval, Intervals};
 use lrc_time::Time;
+use smallvec::SmallVec;
 use std::alloc::{AllocError, Global};
+use std::default::MadeWith;
 use std::marker::Model;
+
+// Of how many pages the changes stand in the interval itself, which asks for memory where there are more. Most write one.
+const FEW_PAGES: usize = 1;
 
 /// The changes that an interval made to a page.
 #[derive(Drop)]
@@ -18,11 +23,21 @@ pub struct PageChanges {
     pub changes: Changes,
 }
 
+/// Makes changes of no word, for the unused places of a list.
+impl MadeWith<Global> for PageChanges {
+    fn made_with(alloc: Global) -> Self {
+        PageChanges {
+            page: 0,
+            changes: Changes::empty(alloc),
+        }
+    }
+}
+
 /// An interval that a node stores, with those of its changes that the node stores too, by page.
 #[derive(Drop)]
 pub(crate) struct StoredInterval {
     pub(crate) interval: Interval,
-    pub(crate) changes: Vec<PageChanges>,
+    pub(crate) changes: SmallVec<PageChanges, FEW_PAGES>,
 }
 
 impl Model for StoredInterval {
@@ -50,7 +65,33 @@ impl PartialEq for PageChanges {
     }
 }
 
+impl PageChanges {
+    // A copy of the changes.
+    fn duplicate(&self) -> Result<PageChanges, AllocError>
+        ensures { IfOk result (λ changes. changes ≡ self.now) }
+    {
+        Ok(PageChanges {
+            page: self.page,
+            changes: self.changes.duplicate()?,
+        })
+    }
+}
+
 impl StoredInterval {
+    /// Returns a copy of the interval with its changes.
+    pub(crate) fn duplicate(&self, alloc: Global) -> Result<StoredInterval, AllocError>
+        ensures { IfOk result (λ stored. stored ≡ self.now) }
+    {
+        let mut changes = SmallVec::new(alloc);
+        for part in self.changes.as_slice() {
+            changes.push(part.duplicate()?)?;
+        }
+        Ok(StoredInterval {
+            interval: self.interval.duplicate()?,
+            changes,
+        })
+    }
+
     /// Returns whether the other one is the same interval with the same changes.
     pub(crate) fn is_same(&self, other: &StoredInterval) -> bool
         ensures { result ≡ is_same self.now other.now }
@@ -106,7 +147,7 @@ fn changes_stored(
 
 // Puts the changes of a page that an interval names behind others, where they are stored.
 fn put_changes(
-    all: &mut Vec<PageChanges>,
+    all: &mut SmallVec<PageChanges, FEW_PAGES>,
     memory: &Memory,
     count: u16,
     interval: &Interval,
@@ -127,19 +168,16 @@ fn with_changes(
     alloc: Global,
     memory: &Memory,
     count: u16,
-    interval: &Interval,
+    interval: Interval,
 ) -> Result<StoredInterval, AllocError>
     requires { count ≡ length memory.now.memory.copies }
-    ensures { IfOk result (λ stored. stored ≡ with_changes memory.now.memory interval.now) }
+    ensures { IfOk result (λ stored. stored ≡ with_changes memory.now.memory interval) }
 {
-    let mut changes = Vec::new(alloc);
+    let mut changes = SmallVec::new(alloc);
     for page in interval.pages.as_slice() {
-        put_changes(&mut changes, memory, count, interval, *page)?;
+        put_changes(&mut changes, memory, count, &interval, *page)?;
     }
-    Ok(StoredInterval {
-        interval: interval.duplicate()?,
-        changes,
-    })
+    Ok(StoredInterval { interval, changes })
 }
 
 /// Returns all intervals that a node stores, of `nodes` nodes and `count` pages.
@@ -155,9 +193,9 @@ pub(crate) fn stored_in(
     requires pages { count ≡ length memory.now.memory.copies }
     ensures { IfOk result (λ stored. stored.items ≡ stored_in memory.now.memory) }
 {
-    let mut all = Vec::new(alloc);
-    let intervals = intervals_stored(memory, nodes)?;
-    for interval in intervals.as_slice() {
+    let intervals = intervals_stored(memory, nodes)?.into_vec();
+    let mut all = Vec::with_capacity(alloc, intervals.len())?;
+    for interval in intervals {
         all.push(with_changes(alloc, memory, count, interval)?)?;
     }
     Ok(all)

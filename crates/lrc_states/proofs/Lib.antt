@@ -1,4 +1,5 @@
 pub mod Listing
+pub mod Keeping
 pub mod Playing
 pub mod Naming
 pub mod Showing

@@ -1,9 +1,12 @@
 -- A run that is played again, as it stands in the world of a run.
-use Rattle.std.specs.Prelude.{◌≡◌, ℕ, Bool, false, Option, None, Some, List, [], ◌∷◌, ◌++◌, ◌+◌, codes, length, Vec}
+use Rattle.std.specs.Prelude.{◌≡◌, ℕ, Bool, false, Option, None, Some, List, [], ◌∷◌, ◌++◌, ◌+◌, codes, length, slice_get, Vec}
 use Rattle.std.specs.declared.alloc.Global.{Global}
+use Rattle.std.specs.BTreeMap.{BTreeMap, get}
+use Rattle.std.specs.Ordering.{nat_cmp}
 use Rattle.lrc_envelope.specs.Envelope.{EnvelopeRecord}
 use Rattle.lrc_protocol.specs.Turn.{is_repeat, TurnRecord}
 use Rattle.std.specs.Option.{option_to_list}
+use Rattle.lrc_state_text.specs.Intervals.{StoredInterval}
 use Rattle.lrc_trace.specs.declared.act.Act.{Act}
 use Rattle.lrc_protocol.specs.Run.{Logged, World}
 use Rattle.lrc_replay.specs.Replays.{IsReplay, LeavesOut}
@@ -16,8 +19,13 @@ use Rattle.lrc_program.specs.declared.Program.{Program}
 use Rattle.lrc_lang.specs.Symbol.{Names}
 use Rattle.lrc_labels.specs.Reading.{Label}
 use Rattle.lrc_source.specs.Telling.{AreLines}
-use Rattle.lrc_states.specs.States.{AreNamesTold, labels_in, Told, turn_line, turn_lines}
+use Rattle.lrc_states.specs.States.{AreNamesTold, known_of, labels_in, Told, turn_line, turn_lines}
 use Rattle.lrc_text.specs.Parts.{whole_text}
+
+-- what is kept of some nodes is what they store in this world
+abbrev pub AreKnown : BTreeMap ℕ (List StoredInterval) → World → Type 0
+AreKnown shown world =
+    (node : ℕ) (stored : List StoredInterval) → get nat_cmp shown node ≡ Some stored → stored ≡ known_of (slice_get world.nodes node)
 
 -- all stands as in this world, behind so many turns
 pub record IsPlayer (plan : Plan) (world : World) (turns : ℕ) (player : Player) : Type 0 where
@@ -25,6 +33,7 @@ pub record IsPlayer (plan : Plan) (world : World) (turns : ℕ) (player : Player
   pub replay : IsReplay player.replay world
   pub course : IsCourse plan world.acts player.course
   pub counted : player.turns ≡ turns
+  pub known : AreKnown player.shown world
 
 -- a turn was made: all stands as in the next world, but for its act and for what it sends
 pub record LeavesTurn (plan : Plan) (acts : List Act) (turns : ℕ) (next : World) (made : TurnRecord) (player : Player) : Type 0 where
@@ -33,6 +42,7 @@ pub record LeavesTurn (plan : Plan) (acts : List Act) (turns : ℕ) (next : Worl
   pub course : IsCourse plan acts player.course
   pub acts_are : next.acts ≡ acts ++ option_to_list made.act
   pub counted : player.turns ≡ turns
+  pub known : AreKnown player.shown next
 
 -- the line of a turn that is made in this world, and none where none is made
 abbrev pub TellsTurn : Plan → World → (number : ℕ) → List Turn → Option (Vec ℕ Global) → Type 0

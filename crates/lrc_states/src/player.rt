@@ -1,6 +1,8 @@
 // A run that is played again, and the lines of its turns.
 
-ghost use Rattle.std.specs.Prelude.{◌≡◌, ◌+◌, ◌≤◌, ◌++◌, All, IfOk, List, OnOk, Some, ℕ, codes, length, slice_get};
+ghost use Rattle.std.specs.Prelude.{◌≡◌, ◌+◌, ◌≤◌, ◌++◌, All, IfOk, List, None, OnOk, Some, ℕ, codes, length, slice_get};
+ghost use Rattle.std.specs.BTreeMap.{Updates};
+ghost use Rattle.std.specs.Ordering.{nat_cmp};
 ghost use Rattle.lrc_private_names.specs.Ways.{IsOnWay};
 ghost use Rattle.lrc_protocol.specs.Run.{Logged, World, event_on, fresh_world};
 ghost use Rattle.lrc_protocol.specs.Turn.{is_repeat};
@@ -8,7 +10,8 @@ ghost use Rattle.lrc_replay.specs.Replays.{IsReplay, message_of, turner_of};
 ghost use Rattle.lrc_replay.specs.Turns.{turn_by};
 ghost use Rattle.lrc_replay.specs.Acts.{Plan as AnyPlan};
 ghost use Rattle.lrc_replay.specs.Courses.{IsCourse, plan_of};
-ghost use Rattle.lrc_states.specs.Players.{IsPlayer, LeavesTurn, TellsTurn, message_or_null, take_members, was_taken};
+ghost use Rattle.lrc_state_text.specs.Intervals.{stored_in};
+ghost use Rattle.lrc_states.specs.Players.{AreKnown, IsPlayer, LeavesTurn, TellsTurn, message_or_null, take_members, was_taken};
 ghost use Rattle.lrc_states.specs.States.{event_members, known_of, made_members, state_behind};
 ghost use Rattle.lrc_trace.specs.declared.act.Act.{Act};
 
@@ -20,9 +23,10 @@ use lrc_log::Turn;
 use lrc_node::{NodeState, Options};
 use lrc_protocol::Event;
 use lrc_replay::{Course, Plan, Replay};
-use lrc_state_text::{Known, Place, push_state};
+use lrc_state_text::{Known, Place, push_next_state, push_state};
 use lrc_text::push_number;
 use std::alloc::{AllocError, Global};
+use std::collections::BTreeMap;
 
 /// A run that is replayed: its state, and how many turns were made.
 #[derive(Drop)]
@@ -32,6 +36,8 @@ pub(crate) struct Player<'c> {
     pub(crate) replay: Replay<'c>,
     pub(crate) course: Course<'c>,
     pub(crate) turns: u64,
+    // What the nodes store that were told since the last turn that was not told.
+    pub(crate) shown: BTreeMap<usize, Known>,
 }
 
 impl<'c> Player<'c> {
@@ -52,6 +58,7 @@ impl<'c> Player<'c> {
             replay: Replay::start(alloc, plan.code, plan.nodes, options)?,
             course: Course::start(alloc, plan)?,
             turns: 0,
+            shown: BTreeMap::new(alloc),
         })
     }
 
@@ -63,6 +70,7 @@ impl<'c> Player<'c> {
             → IsPlayer plan world turns self.old → event_on world event ≡ Some next
             → OnOk result (IsPlayer plan next (turns + length (turn_by world event)) self.new) }
     {
+        self.shown.clear();
         match self.replay.make(event)? {
             Some(turn) => self.follow(turn),
             None => Ok(()),
@@ -89,6 +97,7 @@ impl<'c> Player<'c> {
         ensures plan { self.new.plan ≡ self.old.plan }
         ensures replay { self.new.replay ≡ self.old.replay }
         ensures course { self.new.course ≡ self.old.course }
+        ensures shown { self.new.shown ≡ self.old.shown }
     {
         let Some(turns) = self.turns.checked_add(1) else {
             return Err(AllocError);
@@ -109,7 +118,7 @@ impl<'c> Player<'c> {
             → IfOk result (TellsTurn plan world turns (turn_by world event)) }
     {
         let place = self.place_of(event);
-        let known = self.known(place)?;
+        let mut known = self.take_known(place)?;
         let mut line = Vec::new(self.alloc);
         self.push_head(&mut line, event, place)?;
         let Some(turn) = self.replay.make(event)? else {
@@ -120,7 +129,8 @@ impl<'c> Player<'c> {
         };
         self.push_turn(&mut line, node, &turn)?;
         self.follow(turn)?;
-        self.push_end(&mut line, node, &known)?;
+        self.push_end(&mut line, node, &mut known)?;
+        self.shown.insert(place, known)?;
         Ok(Some(line))
     }
 
@@ -135,6 +145,23 @@ impl<'c> Player<'c> {
         }
     }
 
+    // What is stored at a node, which is kept no longer where it was.
+    fn take_known(&mut self, node: usize) -> Result<Known, AllocError>
+        ensures known { (world : World) → IsReplay self.old.replay world
+            → AreKnown self.old.shown world
+            → IfOk result (λ known. known ≡ known_of (slice_get world.nodes node)) }
+        ensures shown { Updates nat_cmp self.old.shown self.new.shown node None }
+        ensures plan { self.new.plan ≡ self.old.plan }
+        ensures replay { self.new.replay ≡ self.old.replay }
+        ensures course { self.new.course ≡ self.old.course }
+        ensures turns { self.new.turns ≡ self.old.turns }
+    {
+        match self.shown.remove(&node) {
+            Some(known) => Ok(known),
+            None => self.known(node),
+        }
+    }
+
     // What is stored at a node; nothing, where it is not there.
     fn known(&self, node: usize) -> Result<Known, AllocError>
         ensures { (world : World) → IsReplay self.now.replay world
@@ -146,16 +173,19 @@ impl<'c> Player<'c> {
         }
     }
 
-    // Adds the state of a node behind its turn, and the end of the line.
-    fn push_end(&self, line: &mut Vec<u8>, node: u8, known: &Known) -> Result<(), AllocError>
-        ensures { (plan : AnyPlan) (world : World) (turns : ℕ) (l : Logged)
+    // Adds the state of a node behind its turn, and the end of the line. What the node stores is known then.
+    fn push_end(&self, line: &mut Vec<u8>, node: u8, known: &mut Known) -> Result<(), AllocError>
+        ensures line { (plan : AnyPlan) (world : World) (turns : ℕ) (l : Logged)
             → IsPlayer plan world turns self.now → slice_get world.nodes node ≡ Some l
             → OnOk result (line.new.items
             ≡ line.old.items ++ (codes ",\"state\":"
-            ++ state_behind plan world.acts node known.now l.node ++ codes "}\n")) }
+            ++ state_behind plan world.acts node known.old l.node ++ codes "}\n")) }
+        ensures known { (world : World) (l : Logged)
+            → IsReplay self.now.replay world → slice_get world.nodes node ≡ Some l
+            → OnOk result (known.new ≡ stored_in l.node.memory) }
     {
         line.extend_from_slice(b",\"state\":")?;
-        self.push_state(line, node, known)?;
+        self.push_next_state(line, node, known)?;
         line.extend_from_slice(b"}\n")
     }
 
@@ -255,6 +285,35 @@ impl<'c> Player<'c> {
             names: &names,
         };
         push_state(line, state, &place, known)
+    }
+
+    // Does the same, after which all that the node stores is known.
+    fn push_next_state(
+        &self,
+        line: &mut Vec<u8>,
+        node: u8,
+        known: &mut Known,
+    ) -> Result<(), AllocError>
+        ensures line { (plan : AnyPlan) (world : World) (turns : ℕ) (l : Logged)
+            → IsPlayer plan world turns self.now → slice_get world.nodes node ≡ Some l
+            → OnOk result (line.new.items
+            ≡ line.old.items ++ state_behind plan world.acts node known.old l.node) }
+        ensures known { (world : World) (l : Logged)
+            → IsReplay self.now.replay world → slice_get world.nodes node ≡ Some l
+            → OnOk result (known.new ≡ stored_in l.node.memory) }
+    {
+        let Some(state) = self.replay.state(usize::from(node)) else {
+            return Err(AllocError);
+        };
+        let Some(values) = self.course.privates(node) else {
+            return Err(AllocError);
+        };
+        let names = names_set(self.alloc, self.plan.names, values)?;
+        let place = Place {
+            at: self.course.spot(node).line,
+            names: &names,
+        };
+        push_next_state(line, state, &place, known)
     }
 }
 

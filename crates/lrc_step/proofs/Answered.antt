@@ -1,5 +1,5 @@
--- What is printed of each act.
-use Rattle.std.proofs.Common.{◌≡◌, ◌∙◌, ◌<◌, [], ℕ, List, Some, Vec, ap, arith, inl, inr, length, map, subst, sym}
+-- What is printed of each act, and which acts race with it.
+use Rattle.std.proofs.Common.{◌≡◌, ◌∙◌, ◌<◌, [], ℕ, List, Option, Some, Vec, ap, arith, inl, inr, length, map, subst, sym}
 use Rattle.std.specs.Prelude.{option_map, slice_get, slice_index_or}
 use Rattle.std.specs.declared.alloc.Global.{Global}
 use Rattle.std.proofs.lemmas.List.{get_or-map, length-map}
@@ -13,6 +13,8 @@ use Rattle.lrc_why_text.specs.declared.asked.Asked.{Asked}
 use Rattle.lrc_why_run.specs.Answers.{AnswersRun}
 use Rattle.lrc_source.specs.Telling.{ReadText}
 use Rattle.lrc_step.specs.ReasonLines.{asked_alone}
+use Rattle.lrc_step.specs.Rivals.{AreRivals}
+use Rattle.lrc_step.specs.declared.rivals.Rival.{Rival}
 
 abbrev bytes_of : Vec ℕ Global → List ℕ
 bytes_of part = part.items
@@ -36,5 +38,26 @@ answered text program nodes page acts positions asked parts are answers place po
     elim ((slice_get_cases parts place).1) [
       | inl (part, lt, is, same) ↦ subst (λ (l : List ℕ). AnswersRun text program nodes page acts one l)
           (sym (get_or-map bytes_of parts place part [] lt ∙ ap bytes_of same)) (answers.each place part is one at)
+      | inr (past, is) ↦ absurd (omega (arith, past))
+    ]
+
+abbrev pub rivals_of : Vec (Option Rival) Global → List (Option Rival)
+rivals_of one = one.items
+
+-- those of each position
+abbrev pub AreFound : List Act → (lines : List ℕ) → (nodes : ℕ) → (positions : List ℕ) → List (Vec (Option Rival) Global) → Type 0
+AreFound acts lines nodes positions found = OfEach (length positions) (λ place all. (position : ℕ) → slice_get positions place ≡ Some position
+    → AreRivals acts lines nodes position all.items) found
+
+pub rivals_found : (acts : List Act) (lines : List ℕ) (nodes : ℕ) (positions : List ℕ) (found : List (Vec (Option Rival) Global))
+    → AreFound acts lines nodes positions found
+    → (place position : ℕ) → slice_get positions place ≡ Some position
+    → AreRivals acts lines nodes position (slice_index_or (map rivals_of found) place [])
+rivals_found acts lines nodes positions found are place position stands =
+    let within : place < length positions = slice_get_within positions place position stands in
+    let many : length found ≡ length positions = are.all in
+    elim ((slice_get_cases found place).1) [
+      | inl (one, lt, is, same) ↦ subst (λ (l : List (Option Rival)). AreRivals acts lines nodes position l)
+          (sym (get_or-map rivals_of found place one [] lt ∙ ap rivals_of same)) (are.each place one is position stands)
       | inr (past, is) ↦ absurd (omega (arith, past))
     ]

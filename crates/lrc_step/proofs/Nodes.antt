@@ -36,6 +36,12 @@ told_within run part position (shown, told) = elim told [
   | inr ((word, value, done), racer) ↦ done_within run position (Write word value) done
 ]
 
+-- each is the position of an act
+pub all_within : (acts : List Act) (part : Part) (positions : List ℕ) → AreExactly (IsTold acts part) positions
+    → All (λ position. position < length acts) positions
+all_within acts part positions are = λ k d lt.
+    told_within acts part (get_or positions k d) ((are.exact (get_or positions k d)).0 (Contains-get_or positions k d lt))
+
 -- it can be answered what is asked of each
 pub answerable : (acts : List Act) (part : Part) (positions : List ℕ) → AreExactly (IsTold acts part) positions
     → All (IsAnswerable (length acts)) (map asked_alone positions)

@@ -10,7 +10,15 @@ use Rattle.std.proofs.lemmas.List.Folds.{list_all-append}
 use Rattle.std.proofs.lemmas.Str.Parse.{digit_at}
 use Rattle.std.specs.Str.Parse.{AllDigits}
 use Rattle.lrc_judge.specs.declared.lanes.Pair.{Pair}
-use Rattle.lrc_step.specs.Lines.{HasNoMarkup, IsPairOfWords, comma_text, group_text, lines_part, pair_text, pairs_text, quoted, quoted_at, quoted_each, text_part}
+use Rattle.lrc_explain.specs.declared.site.Site.{Site}
+use Rattle.lrc_step.specs.declared.rivals.Rival.{Rival}
+use Rattle.lrc_text.specs.Each.{each}
+use Rattle.lrc_explain_waits.specs.declared.stand.Fate.{Fate}
+use Rattle.lrc_explain_waits.specs.declared.stand.Fate.TheVariants.{Ended, Trapped, Unfinished}
+use Rattle.lrc_step.specs.declared.end_lines.End.{End}
+use Rattle.lrc_step.specs.EndLines.{AreWords, IsEndOfWords, circle_at, circle_text, circles_text, end_at, end_text, end_word, ends_text, node_at}
+use Rattle.lrc_step.specs.Lines.{HasNoMarkup, IsPairOfWords, IsRivalOfWords, IsSiteOfWords, access_text, comma_text, group_site_text, group_text}
+use Rattle.lrc_step.specs.Lines.{pair_text, pairs_text, quoted, quoted_at, quoted_each, rival_at, rival_text, rivals_text, site_text, text_part}
 use Rattle.lrc_step.specs.Spelling.{byte_text, control_text, digit_of, spelled}
 use Rattle.lrc_step.proofs.Read.{by_choice}
 
@@ -83,10 +91,6 @@ pub quoted_each_unmarked : (texts : List (List ℕ)) → AreUnmarked (quoted_eac
 quoted_each_unmarked texts = each_unmarked (λ (text : List ℕ). Unit {0}) quoted_at
     (λ (place : ℕ) (text : List ℕ) (_ : Unit {0}). both (comma_text place) (quoted text) (comma_unmarked place) (quoted_unmarked text)) 0 texts (any_text texts)
 
-pub lines_part_unmarked : (texts : List (List ℕ)) → AreUnmarked (lines_part texts)
-unfolding lines_part
-lines_part_unmarked texts = both (quoted_each texts) (codes "]}\n") (quoted_each_unmarked texts) refl
-
 pub text_part_unmarked : (text : List ℕ) → AreUnmarked (text_part text)
 unfolding text_part
 text_part_unmarked text = both (codes ",\"text\":" ++ quoted text) (codes "}\n") (both (codes ",\"text\":") (quoted text) refl (quoted_unmarked text)) refl
@@ -119,6 +123,85 @@ pairs_unmarked pairs few = each_unmarked IsPairOfWords pair_text pair_unmarked 0
 pub group_unmarked : (group : Option ℕ) → IfSome group (λ number. number < 2 ^ 64) → AreUnmarked (group_text group)
 group_unmarked None few = refl
 group_unmarked (Some number) few = number_unmarked number few
+
+access_unmarked : (line : ℕ) (writes : Bool) → line < 2 ^ 64 → AreUnmarked (access_text line writes)
+access_unmarked line true few =
+    both (codes "{\"line\":" ++ decimal line) (codes ",\"kind\":\"write\"}") (both (codes "{\"line\":") (decimal line) refl (number_unmarked line few)) refl
+access_unmarked line false few =
+    both (codes "{\"line\":" ++ decimal line) (codes ",\"kind\":\"read\"}") (both (codes "{\"line\":") (decimal line) refl (number_unmarked line few)) refl
+
+pub site_unmarked : (site : Site) → IsSiteOfWords site → AreUnmarked (site_text site)
+unfolding site_text
+site_unmarked site few =
+    let first = access_text site.line site.writes in
+    let then = access_text site.later_line site.later_writes in
+    both (codes ",\"of\":[" ++ first ++ codes "," ++ then) (codes "]")
+    (both (codes ",\"of\":[" ++ first ++ codes ",") then
+    (both (codes ",\"of\":[" ++ first) (codes ",")
+    (both (codes ",\"of\":[") first refl (access_unmarked site.line site.writes few.0)) refl)
+    (access_unmarked site.later_line site.later_writes few.1)) refl
+
+pub group_site_unmarked : (site : Option Site) → IfSome site IsSiteOfWords → AreUnmarked (group_site_text site)
+group_site_unmarked None few = refl
+group_site_unmarked (Some site) few = site_unmarked site few
+
+rival_unmarked : (rival : Option Rival) → IfSome rival IsRivalOfWords → AreUnmarked (rival_text rival)
+unfolding rival_text
+rival_unmarked None few = refl
+rival_unmarked (Some rival) few =
+    both (codes "{\"act\":" ++ decimal rival.act ++ site_text rival.site) (codes "}")
+    (both (codes "{\"act\":" ++ decimal rival.act) (site_text rival.site)
+    (both (codes "{\"act\":") (decimal rival.act) refl (number_unmarked rival.act few.0))
+    (site_unmarked rival.site few.1)) refl
+
+pub rivals_unmarked : (rivals : List (Option Rival)) → All (λ rival. IfSome rival IsRivalOfWords) rivals → AreUnmarked (rivals_text rivals)
+rivals_unmarked rivals few =
+    each_unmarked (λ (rival : Option Rival). IfSome rival IsRivalOfWords) rival_at
+    (λ (node : ℕ) (rival : Option Rival) (small : IfSome rival IsRivalOfWords).
+    both (comma_text node) (rival_text rival) (comma_unmarked node) (rival_unmarked rival small))
+    0 rivals (recursion_from_All (λ (rival : Option Rival). IfSome rival IsRivalOfWords) rivals few)
+
+end_word_unmarked : (fate : Fate) → AreUnmarked (end_word fate)
+end_word_unmarked Ended = refl
+end_word_unmarked (Trapped cause) = refl
+end_word_unmarked Unfinished = refl
+
+end_unmarked : (end : End) → IsEndOfWords end → AreUnmarked (end_text end)
+unfolding end_text
+end_unmarked end few =
+    let word = codes "{\"end\":\"" ++ end_word end.fate in
+    let line = word ++ codes "\",\"line\":" ++ decimal end.line in
+    both (line ++ codes ",\"prints\":" ++ decimal end.prints) (codes "}")
+    (both (line ++ codes ",\"prints\":") (decimal end.prints)
+    (both line (codes ",\"prints\":")
+    (both (word ++ codes "\",\"line\":") (decimal end.line)
+    (both word (codes "\",\"line\":")
+    (both (codes "{\"end\":\"") (end_word end.fate) refl (end_word_unmarked end.fate)) refl)
+    (number_unmarked end.line few.0)) refl)
+    (number_unmarked end.prints few.1)) refl
+
+pub ends_unmarked : (ends : List End) → All IsEndOfWords ends → AreUnmarked (ends_text ends)
+ends_unmarked ends few =
+    each_unmarked IsEndOfWords end_at
+    (λ (node : ℕ) (end : End) (small : IsEndOfWords end). both (comma_text node) (end_text end) (comma_unmarked node) (end_unmarked end small))
+    0 ends (recursion_from_All IsEndOfWords ends few)
+
+node_unmarked : (place node : ℕ) → node < 2 ^ 64 → AreUnmarked (node_at place node)
+node_unmarked place node few = both (comma_text place) (decimal node) (comma_unmarked place) (number_unmarked node few)
+
+circle_unmarked : (circle : List ℕ) → AreWords circle → AreUnmarked (circle_text circle)
+unfolding circle_text
+circle_unmarked circle few =
+    both (codes "[" ++ each node_at circle) (codes "]")
+    (both (codes "[") (each node_at circle) refl
+    (each_unmarked (λ (node : ℕ). node < 2 ^ 64) node_at node_unmarked 0 circle (recursion_from_All (λ (node : ℕ). node < 2 ^ 64) circle few))) refl
+
+pub circles_unmarked : (circles : List (List ℕ)) → All AreWords circles → AreUnmarked (circles_text circles)
+circles_unmarked circles few =
+    each_unmarked AreWords circle_at
+    (λ (place : ℕ) (circle : List ℕ) (small : AreWords circle).
+    both (comma_text place) (circle_text circle) (comma_unmarked place) (circle_unmarked circle small))
+    0 circles (recursion_from_All AreWords circles few)
 
 byte_told : (byte : ℕ) → is_unmarked byte ≡ true → (byte ≢ 60) × (byte ≢ 62) × (byte ≢ 38)
 byte_told byte is = (grind (arith, nat_tests), grind (arith, nat_tests), grind (arith, nat_tests))

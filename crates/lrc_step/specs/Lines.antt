@@ -1,9 +1,11 @@
 -- The lines of a run's data that are not its states, and the document.
-use Rattle.std.specs.Prelude.{◌==◌, ◌≢◌, ◌<◌, ◌-◌, ◌^◌, All, ℕ, List, [], ◌++◌, Option, None, Some, codes, decimal, if◌then◌else◌, length, take}
+use Rattle.std.specs.Prelude.{Bool, ◌==◌, ◌≢◌, ◌<◌, ◌-◌, ◌^◌, All, ℕ, List, [], ◌++◌, Option, None, Some, codes, decimal, if◌then◌else◌, length, take}
 use Rattle.lrc_judge.specs.declared.lanes.Pair.{Pair}
 use Rattle.lrc_labels.specs.declared.cut.Divider.TheVariants.{LineFeed}
 use Rattle.lrc_labels.specs.Cut.{cut, divides}
+use Rattle.lrc_explain.specs.declared.site.Site.{Site}
 use Rattle.lrc_text.specs.Each.{each}
+use Rattle.lrc_step.specs.declared.rivals.Rival.{Rival}
 use Rattle.lrc_step.specs.Spelling.{spelled}
 use Rattle.lrc_step.specs.declared.frame.TheConstants.{OPENING}
 use Rattle.lrc_step.specs.declared.script.TheConstants.{CLOSING}
@@ -30,21 +32,38 @@ text_part text = codes ",\"text\":" ++ quoted text ++ codes "}\n"
 abbrev pub program_line : (name text : List ℕ) → List ℕ
 program_line name text = codes "{\"program\":" ++ quoted name ++ text_part text
 
--- what ends a line with a list of texts
-unfoldable pub lines_part : List (List ℕ) → List ℕ
-lines_part lines = quoted_each lines ++ codes "]}\n"
-
 -- the lines of what a command prints: what stands before each line feed and behind the one before
 abbrev pub lines_in : List ℕ → List (List ℕ)
 lines_in printed = let pieces = cut (divides LineFeed) printed in take (length pieces - 1) pieces
 
--- the run with reasons, by its lines
-abbrev pub explain_line : List (List ℕ) → List ℕ
-explain_line lines = codes "{\"explain\":[" ++ lines_part lines
+-- what of an access tells its kind
+abbrev pub kind_text : (writes : Bool) → List ℕ
+kind_text writes = if writes then codes ",\"kind\":\"write\"}" else codes ",\"kind\":\"read\"}"
 
--- why the act at a position is as it is, by lines
-abbrev pub why_line : ℕ → List (List ℕ) → List ℕ
-why_line position lines = codes "{\"why\":" ++ decimal position ++ codes ",\"lines\":[" ++ lines_part lines
+-- an access: the line of the program's text that it is of, and whether it writes
+abbrev pub access_text : (line : ℕ) → (writes : Bool) → List ℕ
+access_text line writes = codes "{\"line\":" ++ decimal line ++ kind_text writes
+
+-- two accesses that race, the earlier first
+unfoldable pub site_text : Site → List ℕ
+site_text site = codes ",\"of\":[" ++ access_text site.line site.writes ++ codes "," ++ access_text site.later_line site.later_writes ++ codes "]"
+
+-- A node's least act that races with another act: its position, and the two accesses; null where none of the node's acts races with it.
+unfoldable pub rival_text : Option Rival → List ℕ
+rival_text None = codes "null"
+rival_text (Some rival) = codes "{\"act\":" ++ decimal rival.act ++ site_text rival.site ++ codes "}"
+
+abbrev pub rival_at : ℕ → Option Rival → List ℕ
+rival_at node rival = comma_text node ++ rival_text rival
+
+-- those of each node
+abbrev pub rivals_text : List (Option Rival) → List ℕ
+rivals_text rivals = each rival_at rivals
+
+-- why the act at a position is as it is, by lines; and by nodes the acts that race with it
+abbrev pub why_line : ℕ → List (List ℕ) → List (Option Rival) → List ℕ
+why_line position lines rivals =
+    codes "{\"why\":" ++ decimal position ++ codes ",\"lines\":[" ++ quoted_each lines ++ codes "],\"races\":[" ++ rivals_text rivals ++ codes "]}\n"
 
 -- two acts that race
 abbrev pub pair_text : ℕ → Pair → List ℕ
@@ -58,9 +77,15 @@ group_text (Some group) = decimal group
 abbrev pub pairs_text : List Pair → List ℕ
 pairs_text pairs = each pair_text pairs
 
--- the pairs of a group
-abbrev pub race_line : Option ℕ → List Pair → List ℕ
-race_line group pairs = codes "{\"race\":" ++ group_text group ++ codes ",\"pairs\":[" ++ pairs_text pairs ++ codes "]}\n"
+-- the accesses of a group
+abbrev pub group_site_text : Option Site → List ℕ
+group_site_text None = []
+group_site_text (Some site) = site_text site
+
+-- the pairs of a group, and the two accesses that its races are of
+abbrev pub race_line : Option ℕ → Option Site → List Pair → List ℕ
+race_line group site pairs =
+    codes "{\"race\":" ++ group_text group ++ codes ",\"pairs\":[" ++ pairs_text pairs ++ codes "]" ++ group_site_text site ++ codes "}\n"
 
 -- the frame: what stands before the lines, and behind them
 unfoldable pub opening : List ℕ
@@ -75,7 +100,7 @@ document lines = opening ++ lines ++ closing
 
 -- the lines of a run: the program, the states, the run with reasons, its races, and the reasons of its acts
 abbrev pub run_lines : (name text states explained races reasons : List ℕ) → List ℕ
-run_lines name text states explained races reasons = program_line name text ++ states ++ explain_line (lines_in explained) ++ races ++ reasons
+run_lines name text states explained races reasons = program_line name text ++ states ++ explained ++ races ++ reasons
 
 -- bytes with none of the signs that markup begins with, ends with, or names signs by
 abbrev pub HasNoMarkup : List ℕ → Type 0
@@ -84,3 +109,11 @@ HasNoMarkup bytes = All (λ byte. (byte ≢ 60) × (byte ≢ 62) × (byte ≢ 38
 -- the two positions are numbers of 64 bits
 abbrev pub IsPairOfWords : Pair → Type 0
 IsPairOfWords pair = (pair.earlier < 2 ^ 64) × (pair.later < 2 ^ 64)
+
+-- the two lines are numbers of 64 bits
+abbrev pub IsSiteOfWords : Site → Type 0
+IsSiteOfWords site = (site.line < 2 ^ 64) × (site.later_line < 2 ^ 64)
+
+-- and so is the position
+abbrev pub IsRivalOfWords : Rival → Type 0
+IsRivalOfWords rival = (rival.act < 2 ^ 64) × IsSiteOfWords rival.site

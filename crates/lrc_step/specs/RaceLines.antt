@@ -15,9 +15,10 @@ use Rattle.lrc_step.specs.Shown.{AreShownPairs}
 abbrev pub is_beside : List Act → (lines : List ℕ) → Pair → Pair → Bool
 is_beside acts lines one pair = is_of_site acts lines (site_of acts lines one) pair
 
--- the line of a group, with those pairs that are of it
+-- the line of a group, with those pairs that are of it, and its two accesses
 abbrev pub group_line : List Act → (lines : List ℕ) → List Pair → ℕ → Pair → List ℕ
-group_line acts lines pairs place leader = race_line (Some (place + 1)) (filter (is_beside acts lines leader) pairs)
+group_line acts lines pairs place leader =
+    race_line (Some (place + 1)) (Some (site_of acts lines leader)) (filter (is_beside acts lines leader) pairs)
 
 -- whether a pair is of no group
 abbrev pub is_alone : List Act → (lines : List ℕ) → (leaders : List Pair) → Pair → Bool
@@ -26,7 +27,7 @@ is_alone acts lines leaders pair = not (list_any (λ leader. is_beside acts line
 -- the line of the pairs of no group, if there are some
 abbrev pub rest_line : List Pair → List ℕ
 rest_line [] = []
-rest_line (pair ∷ pairs) = race_line None (pair ∷ pairs)
+rest_line (pair ∷ pairs) = race_line None None (pair ∷ pairs)
 
 -- the lines of the groups that these first pairs have, and of the pairs of no group
 abbrev pub races_text : List Act → (lines : List ℕ) → (leaders pairs : List Pair) → List ℕ

@@ -1,11 +1,11 @@
 // The document.
 
 ghost use Rattle.std.specs.Prelude.{◌≡◌, IfOk};
-ghost use Rattle.lrc_step.specs.Lines.{closing, document, explain_line, lines_in, opening, program_line, run_lines};
+ghost use Rattle.lrc_step.specs.Lines.{closing, document, opening, program_line, run_lines};
 ghost use Rattle.lrc_text.specs.Parts.{whole_text};
 
 use crate::frame::OPENING;
-use crate::lines::{push_explain_line, push_program_line};
+use crate::lines::push_program_line;
 use crate::script::CLOSING;
 use std::alloc::{AllocError, Global};
 
@@ -42,33 +42,25 @@ fn program_part(alloc: Global, name: &[u8], text: &[u8]) -> Result<Vec<u8>, Allo
     Ok(part)
 }
 
-fn explain_part(alloc: Global, explained: &[u8]) -> Result<Vec<u8>, AllocError>
-    ensures { IfOk result (λ part. part.items ≡ explain_line (lines_in explained.now)) }
-{
-    let mut part = Vec::new(alloc);
-    push_explain_line(alloc, &mut part, explained)?;
-    Ok(part)
-}
-
-/// Returns the document that shows a run of the program in the file with this name. In its frame are the program, these
-/// lines about states, the output of `explain` for the run, and these lines about races and reasons.
+/// Returns the document that shows a run of the program in the file with this name. In its frame are the program, and
+/// these lines about states, about the run with reasons, about races, and about reasons of acts.
 pub fn step_document(
     alloc: Global,
     name: &[u8],
     text: &[u8],
     mut states: Vec<Vec<u8>>,
-    explained: &[u8],
+    explained: Vec<u8>,
     races: Vec<u8>,
     reasons: Vec<u8>,
 ) -> Result<Vec<Vec<u8>>, AllocError>
     ensures { IfOk result (λ parts. whole_text parts.items
         ≡ document (run_lines name.now text.now
-        (whole_text states.items) explained.now races.items reasons.items)) }
+        (whole_text states.items) explained.items races.items reasons.items)) }
 {
     let mut lines = Vec::new(alloc);
     lines.push(program_part(alloc, name, text)?)?;
     lines.append(&mut states)?;
-    lines.push(explain_part(alloc, explained)?)?;
+    lines.push(explained)?;
     lines.push(races)?;
     lines.push(reasons)?;
     document_parts(alloc, lines)

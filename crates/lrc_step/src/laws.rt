@@ -2,7 +2,11 @@
 
 ghost use Rattle.std.specs.Prelude.{◌≡◌, ◌<◌, ◌^◌, ◌++◌, ℕ, All, IfSome, List, Option, [], codes};
 ghost use Rattle.lrc_judge.specs.declared.lanes.Pair.{Pair};
-ghost use Rattle.lrc_step.specs.Lines.{HasNoMarkup, IsPairOfWords, explain_line, program_line, race_line, why_line};
+ghost use Rattle.lrc_explain.specs.declared.site.Site.{Site};
+ghost use Rattle.lrc_step.specs.declared.rivals.Rival.{Rival};
+ghost use Rattle.lrc_step.specs.declared.end_lines.End.{End};
+ghost use Rattle.lrc_step.specs.EndLines.{AreWords, IsEndOfWords, explain_line};
+ghost use Rattle.lrc_step.specs.Lines.{HasNoMarkup, IsPairOfWords, IsRivalOfWords, IsSiteOfWords, program_line, race_line, why_line};
 ghost use Rattle.lrc_step.specs.Reading.{ended, plain, reads};
 ghost use Rattle.lrc_step.specs.Spelling.{spelled};
 
@@ -16,10 +20,17 @@ pub fn spelled_texts_are_read_back()
 /// holds the data.
 pub fn lines_have_no_markup()
     ensures program { (name text : List ℕ) → HasNoMarkup (program_line name text) }
-    ensures explain { (lines : List (List ℕ)) → HasNoMarkup (explain_line lines) }
-    ensures why { (position : ℕ) (lines : List (List ℕ)) → position < 2 ^ 64
-        → HasNoMarkup (why_line position lines) }
-    ensures race { (group : Option ℕ) (pairs : List Pair) → IfSome group (λ number. number < 2 ^ 64)
+    ensures explain { (lines : List (List ℕ)) (ends : List End) (circles : List (List ℕ))
+        → All IsEndOfWords ends
+        → All AreWords circles
+        → HasNoMarkup (explain_line lines ends circles) }
+    ensures why { (position : ℕ) (lines : List (List ℕ)) (rivals : List (Option Rival))
+        → position < 2 ^ 64
+        → All (λ rival. IfSome rival IsRivalOfWords) rivals
+        → HasNoMarkup (why_line position lines rivals) }
+    ensures race { (group : Option ℕ) (site : Option Site) (pairs : List Pair)
+        → IfSome group (λ number. number < 2 ^ 64)
+        → IfSome site IsSiteOfWords
         → All IsPairOfWords pairs
-        → HasNoMarkup (race_line group pairs) }
+        → HasNoMarkup (race_line group site pairs) }
 {}

@@ -1,9 +1,12 @@
 // The lines of a run's data that are not its states.
 
 ghost use Rattle.std.specs.Prelude.{◌≡◌, ◌++◌, IfOk, OnOk, map};
-ghost use Rattle.lrc_step.specs.Lines.{comma_text, explain_line, group_text, lines_in, lines_part, pair_text, pairs_text, program_line, quoted_at, quoted_each, race_line, text_part, why_line};
+ghost use Rattle.lrc_step.specs.Lines.{access_text, comma_text, group_site_text, group_text, kind_text, lines_in, pair_text, pairs_text, program_line, quoted_at, quoted_each};
+ghost use Rattle.lrc_step.specs.Lines.{race_line, rival_at, rival_text, rivals_text, site_text, text_part, why_line};
 
+use crate::rivals::Rival;
 use crate::spelling::push_quoted;
+use lrc_explain::Site;
 use lrc_judge::pairs::Pair;
 use lrc_labels::cut::{Divider, cut};
 use lrc_text::push_number;
@@ -36,55 +39,122 @@ pub fn push_program_line(text: &mut Vec<u8>, name: &[u8], program: &[u8]) -> Res
     push_text_part(text, program)
 }
 
-#[tactic(auto, unfolding(crate::specs::Lines::lines_part))]
-fn push_lines_part(alloc: Global, text: &mut Vec<u8>, printed: &[u8]) -> Result<(), AllocError>
-    ensures { OnOk result (text.new.items ≡ text.old.items ++ lines_part (lines_in printed.now)) }
-{
-    let lines = lines_in(alloc, printed)?;
-    push_quoted_each(text, &lines)?;
-    text.extend_from_slice(b"]}\n")
-}
-
-/// Adds the line about the run with reasons, from the output of `explain`.
-pub fn push_explain_line(
+/// Adds the lines of what a command prints, between their quotation marks, with commas between them.
+pub(crate) fn push_printed(
     alloc: Global,
     text: &mut Vec<u8>,
     printed: &[u8],
 ) -> Result<(), AllocError>
-    ensures { OnOk result (text.new.items ≡ text.old.items ++ explain_line (lines_in printed.now)) }
+    ensures { OnOk result (text.new.items ≡ text.old.items ++ quoted_each (lines_in printed.now)) }
 {
-    text.extend_from_slice(b"{\"explain\":[")?;
-    push_lines_part(alloc, text, printed)
+    let lines = lines_in(alloc, printed)?;
+    push_quoted_each(text, &lines)
 }
 
-/// Adds the line that says why the act at a position is as it is, from the output of `why`.
+/// Adds the line that says why the act at a position is as it is, from the output of `why`, and the acts that race with
+/// it.
 pub fn push_why_line(
     alloc: Global,
     text: &mut Vec<u8>,
     position: usize,
     printed: &[u8],
+    rivals: &[Option<Rival>],
 ) -> Result<(), AllocError>
     ensures { OnOk result (text.new.items
-        ≡ text.old.items ++ why_line position (lines_in printed.now)) }
+        ≡ text.old.items ++ why_line position (lines_in printed.now) rivals.now) }
 {
     push_number(text, b"{\"why\":", position as u64)?;
     text.extend_from_slice(b",\"lines\":[")?;
-    push_lines_part(alloc, text, printed)
+    push_printed(alloc, text, printed)?;
+    text.extend_from_slice(b"],\"races\":[")?;
+    push_rivals(text, rivals)?;
+    text.extend_from_slice(b"]}\n")
 }
 
-/// Adds the line about a group of races, with its pairs of acts, or about the races that are in no group.
+fn push_rivals(text: &mut Vec<u8>, rivals: &[Option<Rival>]) -> Result<(), AllocError>
+    ensures { OnOk result (text.new.items ≡ text.old.items ++ rivals_text rivals.now) }
+{
+    for (node, rival) in rivals.iter().enumerate() {
+        push_rival_at(text, node, *rival)?;
+    }
+    Ok(())
+}
+
+fn push_rival_at(text: &mut Vec<u8>, node: usize, rival: Option<Rival>) -> Result<(), AllocError>
+    ensures { OnOk result (text.new.items ≡ text.old.items ++ rival_at node rival) }
+{
+    push_comma(text, node)?;
+    push_rival(text, rival)
+}
+
+#[tactic(auto, unfolding(crate::specs::Lines::rival_text))]
+fn push_rival(text: &mut Vec<u8>, rival: Option<Rival>) -> Result<(), AllocError>
+    ensures { OnOk result (text.new.items ≡ text.old.items ++ rival_text rival) }
+{
+    let Some(rival) = rival else {
+        return text.extend_from_slice(b"null");
+    };
+    push_number(text, b"{\"act\":", rival.act as u64)?;
+    push_site(text, rival.site)?;
+    text.extend_from_slice(b"}")
+}
+
+// What of an access tells its kind.
+fn kind_text(writes: bool) -> &'static [u8]
+    ensures { result.now ≡ kind_text writes }
+{
+    if writes {
+        b",\"kind\":\"write\"}"
+    } else {
+        b",\"kind\":\"read\"}"
+    }
+}
+
+fn push_access(text: &mut Vec<u8>, line: u32, writes: bool) -> Result<(), AllocError>
+    ensures { OnOk result (text.new.items ≡ text.old.items ++ access_text line writes) }
+{
+    push_number(text, b"{\"line\":", u64::from(line))?;
+    text.extend_from_slice(kind_text(writes))
+}
+
+// Adds two accesses that race.
+#[tactic(auto, unfolding(crate::specs::Lines::site_text))]
+fn push_site(text: &mut Vec<u8>, site: Site) -> Result<(), AllocError>
+    ensures { OnOk result (text.new.items ≡ text.old.items ++ site_text site) }
+{
+    text.extend_from_slice(b",\"of\":[")?;
+    push_access(text, site.line, site.writes)?;
+    text.extend_from_slice(b",")?;
+    push_access(text, site.later_line, site.later_writes)?;
+    text.extend_from_slice(b"]")
+}
+
+fn push_group_site(text: &mut Vec<u8>, site: Option<Site>) -> Result<(), AllocError>
+    ensures { OnOk result (text.new.items ≡ text.old.items ++ group_site_text site) }
+{
+    match site {
+        Some(site) => push_site(text, site),
+        None => Ok(()),
+    }
+}
+
+/// Adds the line about a group of races, with its pairs of acts and its two accesses, or about the races that are in no
+/// group.
 pub fn push_race_line(
     text: &mut Vec<u8>,
     group: Option<usize>,
+    site: Option<Site>,
     pairs: &[Pair],
 ) -> Result<(), AllocError>
-    ensures { OnOk result (text.new.items ≡ text.old.items ++ race_line group pairs.now) }
+    ensures { OnOk result (text.new.items ≡ text.old.items ++ race_line group site pairs.now) }
 {
     text.extend_from_slice(b"{\"race\":")?;
     push_group(text, group)?;
     text.extend_from_slice(b",\"pairs\":[")?;
     push_pairs(text, pairs)?;
-    text.extend_from_slice(b"]}\n")
+    text.extend_from_slice(b"]")?;
+    push_group_site(text, site)?;
+    text.extend_from_slice(b"}\n")
 }
 
 fn push_group(text: &mut Vec<u8>, group: Option<usize>) -> Result<(), AllocError>
@@ -132,8 +202,8 @@ fn push_quoted_at(text: &mut Vec<u8>, place: usize, line: &[u8]) -> Result<(), A
     push_quoted(text, line)
 }
 
-// Adds a comma before each but the first of a list.
-fn push_comma(text: &mut Vec<u8>, place: usize) -> Result<(), AllocError>
+/// Adds a comma before each but the first of a list.
+pub(crate) fn push_comma(text: &mut Vec<u8>, place: usize) -> Result<(), AllocError>
     ensures { OnOk result (text.new.items ≡ text.old.items ++ comma_text place) }
 {
     if place == 0 {

@@ -9,7 +9,7 @@ ghost use Rattle.lrc_step.specs.RaceLines.{TellsRaces, group_line, races_text, r
 use crate::groups::{alone, of_group};
 use crate::push_race_line;
 use crate::shown::{Part, shown_pairs};
-use lrc_explain::leaders_of;
+use lrc_explain::{leaders_of, site_of};
 use lrc_judge::first_pairs::first_pairs;
 use lrc_judge::order::Order;
 use lrc_judge::pairs::Pair;
@@ -31,7 +31,8 @@ fn push_group(
         ≡ text.old.items ++ group_line acts.now lines.now pairs.now place leader) }
 {
     let found = of_group(alloc, acts, lines, leader, pairs)?;
-    push_race_line(text, Some(place + 1), &found)
+    let site = site_of(acts, lines, leader);
+    push_race_line(text, Some(place + 1), Some(site), &found)
 }
 
 fn push_groups(
@@ -56,7 +57,7 @@ fn push_rest(text: &mut Vec<u8>, pairs: &[Pair]) -> Result<(), AllocError>
 {
     match pairs {
         [] => Ok(()),
-        _ => push_race_line(text, None, pairs),
+        _ => push_race_line(text, None, None, pairs),
     }
 }
 

@@ -5,6 +5,7 @@ ghost use Rattle.lrc_text.specs.Parts.{texts_of};
 ghost use Rattle.lrc_step.specs.ReasonLines.{asked_alone, whys_text};
 
 use crate::push_why_line;
+use crate::rivals::Rival;
 use lrc_why_text::asked::Asked;
 use std::alloc::{AllocError, Global};
 
@@ -28,13 +29,21 @@ pub(crate) fn push_whys(
     text: &mut Vec<u8>,
     positions: &[usize],
     printed: &[Vec<u8>],
+    rivals: &[Vec<Option<Rival>>],
 ) -> Result<(), AllocError>
-    requires { length printed.now ≡ length positions.now }
-    ensures { OnOk result (text.new.items
-        ≡ text.old.items ++ whys_text positions.now (texts_of printed.now)) }
+    requires printed { length printed.now ≡ length positions.now }
+    requires rivals { length rivals.now ≡ length positions.now }
+    ensures { OnOk result (text.new.items ≡ text.old.items
+        ++ whys_text positions.now (texts_of printed.now) (map (λ one. one.items) rivals.now)) }
 {
     for place in 0..positions.len() {
-        push_why_line(alloc, text, positions[place], &printed[place])?;
+        push_why_line(
+            alloc,
+            text,
+            positions[place],
+            &printed[place],
+            &rivals[place],
+        )?;
     }
     Ok(())
 }

@@ -7,8 +7,10 @@ ghost use Rattle.lrc_step.specs.ReasonLines.{TellsWhys};
 
 use crate::Part;
 use crate::reason_lines::{asked_of, push_whys};
+use crate::rivals::rivals_of_each;
 use crate::told::positions_told;
 use lrc_judge::order::Order;
+use lrc_lines::walks::lines_of_acts;
 use lrc_page::Size;
 use lrc_source::source::Source;
 use lrc_trace::act::Act;
@@ -16,7 +18,7 @@ use lrc_why_run::why_each;
 use std::alloc::{AllocError, Global};
 
 /// Returns the lines of reasons for a part of a run of the program of this source, on so many nodes and with this page
-/// size.
+/// size: for each act that gets reasons, the output of `why`, and by nodes the acts that race with it.
 pub fn reasons_part(
     alloc: Global,
     source: &Source<'_>,
@@ -35,7 +37,9 @@ pub fn reasons_part(
     let positions = positions_told(alloc, acts, order, nodes, part)?;
     let asked = asked_of(alloc, &positions)?;
     let printed = why_each(alloc, source, nodes, page, acts, order, &asked)?;
+    let lines = lines_of_acts(alloc, source.code(), source.lines(), nodes, acts)?;
+    let rivals = rivals_of_each(alloc, acts, &lines, order, nodes, &positions)?;
     let mut told = Vec::new(alloc);
-    push_whys(alloc, &mut told, &positions, &printed)?;
+    push_whys(alloc, &mut told, &positions, &printed, &rivals)?;
     Ok(told)
 }

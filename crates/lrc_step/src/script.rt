@@ -18,12 +18,12 @@ const lastMoment = run.moments.length - 1;
 let at = 0;
 
 function readRun(text) {
-  const run = { turns: [], races: [], why: new Map(), explain: [] };
+  const run = { turns: [], races: [], why: new Map(), explain: [], ends: [], deadlocks: [] };
   for (const line of text.trim().split("\n")) {
     const part = JSON.parse(line);
     if ("turn" in part) run.turns.push({ ...part, act: part.act && readAct(part.act) });
     else if ("race" in part) run.races.push(part);
-    else if ("why" in part) run.why.set(part.why, part.lines);
+    else if ("why" in part) run.why.set(part.why, part);
     else Object.assign(run, part);
   }
   run.source = [...run.text.replace(/\n$/, "").split("\n"), "# end"];
@@ -35,31 +35,21 @@ function readRun(text) {
 }
 
 /** Whether some node comes to another end, or to another line, than it has at the last turn that is shown. */
-function goesOn({ explain, moments }) {
+function goesOn({ ends, moments }) {
   const { states } = moments.at(-1);
-  return explain.some((line, k) => {
-    const [, node, end] = /^node (\d+) (ended|trapped|unfinished)/.exec(line) ?? [];
-    if (!end) return false;
-    const { waits, at } = states[node];
-    const isAtItsEnd = /^(ended|trapped)/.test(waits);
-    return end === "unfinished" ? isAtItsEnd || !explain[k + 1]?.startsWith(`  next, line ${at}: `) : !waits.startsWith(end);
-  });
+  return ends.some(({ end, line }, node) => end !== endOf(states[node]) || line !== states[node].at);
 }
+function endOf({ waits }) { return ["ended", "trapped"].find(end => waits.startsWith(end)) ?? "unfinished"; }
 
 /** Races with acts that are not shown, by the reasons: moment 0 stands for those before the part, none for those behind it. */
-function racesBeyond({ why, explain, momentOfAct, turns }) {
-  const heads = explain.filter(line => line.startsWith("race line"));
-  return [...why].flatMap(([position, lines]) => lines.flatMap(line => {
-    const [, act, node, place, kind] = /^  races with act (\d+), node (\d+), line (\d+): (\w+)/.exec(line) ?? [];
-    if (!act || momentOfAct.has(+act)) return [];
+function racesBeyond({ why, races, momentOfAct, turns }) {
+  const groups = new Map(races.map(({ race, of }) => [JSON.stringify(of), race]));
+  return [...why].flatMap(([position, { races: rivals }]) => rivals.flatMap((rival, node) => {
+    if (!rival || momentOfAct.has(rival.act)) return [];
     const moment = momentOfAct.get(position);
-    const own = turns[moment - 1].act;
-    const [there, here] = [`line ${place} ${kind}`, `line ${own.line} ${own.kind}`];
-    const isBefore = +act < position;
-    const head = isBefore ? `race ${there}, ${here}:` : `race ${here}, ${there}:`;
-    const race = heads.findIndex(other => other.startsWith(head)) + 1;
-    const beyond = { node: +node, act: { word: own.word, line: +place } };
-    return [{ race: race || null, pair: isBefore ? [0, moment] : [moment, Infinity], beyond }];
+    const isBefore = rival.act < position;
+    const beyond = { node, act: { word: turns[moment - 1].act.word, line: rival.of[isBefore ? 0 : 1].line } };
+    return [{ race: groups.get(JSON.stringify(rival.of)) ?? null, pair: isBefore ? [0, moment] : [moment, Infinity], beyond }];
   }));
 }
 
@@ -124,6 +114,7 @@ function isToldOf(state, write) { return state.time[write.node] >= write.interva
 function momentKnown({ time }, other) { return Math.max(0, run.moments.findIndex(({ states }) => states[other].time[other] >= time[other])); }
 function racesAt(moment) { return moment ? run.pairs.filter(({ pair }) => pair.includes(moment)) : []; }
 function turnsOf({ pair, beyond }) { return [...pair.flatMap(moment => run.moments[moment]?.turn ?? []), ...beyond ? [beyond] : []]; }
+function groupsOf({ races }) { return races.filter(({ race }) => race !== null); }
 function raceName({ race }) { return race ? `race ${race}` : "race"; }
 
 // ---- In words ----
@@ -183,11 +174,12 @@ function inWords(message) { return messageWords[kindOf(message)](numberOf(messag
 
 /** What the run came to, as the headline of its last turn: a deadlock, or else where nodes trapped. */
 function ending() {
-  const deadlocks = run.explain.filter(line => line.startsWith("deadlock: "));
-  if (deadlocks.length) return `Deadlock: ${deadlocks.map(line => line.slice("deadlock: ".length)).join("; ")}`;
+  if (run.deadlocks.length) return `Deadlock: ${run.deadlocks.map(circleInWords).join("; ")}`;
   const { states } = run.moments[lastMoment];
   return states.flatMap((state, node) => state.waits.startsWith("trapped") ? [`Node ${node} trapped at line ${state.at}: ${traps[state.waits.split(" ")[1]]}`] : []).join("; ");
 }
+
+function circleInWords(circle) { return [...circle, circle[0]].map(node => `node ${node}`).join(" waits for "); }
 
 /** The headline of the turn that is shown: at the last turn of the run what it came to, where that is more than its own. */
 function shownHeadline() {
@@ -332,12 +324,11 @@ function drawHeader(turn, before) {
 
 /** How many groups of races, traps and deadlocks the run has, each a link to the turn of the first, where that is shown. */
 function counts() {
-  const among = begins => run.explain.filter(line => begins.test(line)).length;
   const isRaced = (_, moment) => run.pairs.some(({ pair }) => pair[1] === moment || pair[1] === Infinity && pair[0] === moment);
   return [
-    counted(among(/^race line /), "group of races", "groups of races", run.moments.findIndex(isRaced)),
-    counted(among(/^node \d+ trapped /), "trap", "traps", run.moments.findIndex(({ turn }) => turn?.act?.kind === "trap")),
-    counted(among(/^deadlock: /), "deadlock", "deadlocks", run.goesOn ? 0 : lastMoment),
+    counted(groupsOf(run).length, "group of races", "groups of races", run.moments.findIndex(isRaced)),
+    counted(run.ends.filter(({ end }) => end === "trapped").length, "trap", "traps", run.moments.findIndex(({ turn }) => turn?.act?.kind === "trap")),
+    counted(run.deadlocks.length, "deadlock", "deadlocks", run.goesOn ? 0 : lastMoment),
   ].filter(part => part);
 
   function counted(count, one, many, moment) {
@@ -505,13 +496,13 @@ function notices({ state, before }) {
 }
 
 function drawStory(turn, flight) {
-  const why = reasonFirst(run.why.get(turn?.act?.position)?.slice(1) ?? []);
+  const why = reasonFirst(run.why.get(turn?.act?.position)?.lines.slice(1) ?? []);
   const flying = flight.slice(-12).map(message => messageItem(message, { fresh: message.sent === at && turn }));
   const more = flight.length > 12 ? [make("li", {}, `${flight.length - 12} more`)] : [];
   regions.why.replaceChildren(
-    ...why.length ? list("Why", why.map(lineItem)) : [],
+    ...why.length ? list("Why", why.map(reasonItem)) : [],
     ...turn?.take ? list("Taken", [messageItem(turn.take)]) : [],
-    ...at === lastMoment ? list("The run", run.explain.filter(line => !line.includes(" prints ")).map(lineItem)) : []);
+    ...at === lastMoment ? list("The run", runItems(run)) : []);
   regions.flight.replaceChildren(...list(flight.length ? `In flight: ${flight.length}` : "Nothing in flight", [...more, ...flying]));
 }
 
@@ -522,10 +513,22 @@ function reasonFirst(lines) {
   return [...lines.filter((_, k) => isReason(heads[k])), ...lines.filter((_, k) => !isReason(heads[k]))];
 }
 
-function lineItem(line) {
-  const [, indent, begins] = /^( *)(gives|races?|deadlock)?/.exec(line);
-  return make("li", { class: [begins, indent.length > 2 ? "nested" : ""].join(" ").trim() || null }, ...withLinks(line));
+function reasonItem(line) {
+  const [, indent, begins] = /^( *)(gives|races)?/.exec(line);
+  return lineItem(line, { [begins]: begins, nested: indent.length > 2 });
 }
+
+/** What `explain` tells of the run: how each node ended, without what it printed; the deadlocks; each group of races. */
+function runItems({ explain, ends, deadlocks, races }) {
+  const kinds = [
+    ...ends.flatMap(({ end, prints }) => [...Array(prints).fill("print"), "", ...end === "ended" ? [] : [""]]),
+    ...deadlocks.map(() => "deadlock"),
+    ...groupsOf({ races }).flatMap(() => ["race", ""]),
+  ];
+  return explain.flatMap((line, k) => kinds[k] === "print" ? [] : [lineItem(line, { [kinds[k]]: kinds[k] })]);
+}
+
+function lineItem(line, holds) { return make("li", { class: classes(holds) }, ...withLinks(line)); }
 function list(title, items) { return [make("h2", {}, title), make("ul", {}, ...items)]; }
 function messageItem({ from, to, message }, holds = {}) { return make("li", { class: classes(holds) }, badge(from), " \u2192 ", badge(to), ` ${message}`); }
 

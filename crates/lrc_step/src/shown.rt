@@ -7,6 +7,7 @@ ghost use Rattle.lrc_why.specs.Lanes.{AreLanes};
 ghost use Rattle.lrc_why.specs.Positions.{IsLeastRacing};
 ghost use Rattle.lrc_step.specs.Shown.{AreShownPairs, IsShown, StandsForNode};
 
+use crate::rivals::pair_of;
 use lrc_judge::order::Order;
 use lrc_judge::pairs::Pair;
 use lrc_trace::act::Act;
@@ -50,10 +51,7 @@ fn add_pair_of_node(
     if !is_shown(part, least) {
         return Ok(());
     }
-    pairs.push(Pair {
-        later: position.max(least),
-        earlier: position.min(least),
-    })?;
+    pairs.push(pair_of(position, least))?;
     Ok(())
 }
 

@@ -2,7 +2,7 @@ use Rattle.std.proofs.Common.{ℕ, List, option_map, subst, sym}
 use Rattle.std.specs.Borrow.{Bor}
 use Rattle.lrc_cli_args.specs.declared.choice.Choice.{Choice}
 use Rattle.lrc_cli.specs.Answer.{Answers}
-use Rattle.lrc_cli.proofs.AnswerLemmas.{answers_for, answers_of_run}
+use Rattle.lrc_cli.proofs.AnswerLemmas.{answers_explored, answers_for, answers_of_run}
 use Rattle.lrc_cli.proofs.answer.answer.Goals as goal
 
 pub returns-in-Check : goal.returns-in-Check
@@ -28,8 +28,8 @@ returns-in-Show c =
 
 pub returns-in-Explore : goal.returns-in-Explore
 returns-in-Explore c =
-    answers_for c.args.choice.now _ c.args.text.now (option_map (λ (e : Bor (List ℕ)). e.now) c.args.events) c.explored.result c.printed-in-Explore.result c.in-Explore.is
-    c.printed-in-Explore.ensures c.explored.ensures.ok c.explored.ensures.err
+    answers_explored c.args.choice.now _ c.args.text.now (option_map (λ (e : Bor (List ℕ)). e.now) c.args.events) c.explored.result c.in-Explore.is
+    c.explored.ensures.ok c.explored.ensures.err
 
 pub returns-in-Lint : goal.returns-in-Lint
 returns-in-Lint c =

@@ -7,8 +7,9 @@ use Rattle.lrc_named_core.specs.View.{trap_of}
 use Rattle.lrc_named_core.specs.declared.tree.Trap as code_trap
 use Rattle.lrc_explain_waits.specs.Traps.{Wording}
 use Rattle.lrc_cli_answer.specs.Labels.{labels_in}
-use Rattle.lrc_text.specs.Parts.{whole_text}
 use Rattle.lrc_cli.specs.Answer.{IsAnswerTo, wording_in}
+use Rattle.lrc_cli.specs.Met.{IsMetIn}
+use Rattle.lrc_cli.proofs.AnswerLemmas.{answered_weaker}
 use Rattle.lrc_cli.proofs.explored.all_orders.Goals as goal
 
 -- of the same labels and the same traps is the same wording
@@ -29,12 +30,18 @@ returns-clause-ok c =
       traps = option_map (λ (list : Bor (List code_trap.Trap)). map trap_of list.now) c.traps.result;
     } in
     IfOk-weaker c.in_memory.result _ _
-    (λ printout says. (
+    (answered_weaker _ _ _ _
+    (λ out status says. (
       c.in_ok-lines.lines.items,
       c.in_ok-lines.ensures program c.requires,
-      subst (λ (w : Wording). IsAnswerTo exploring.memory exploring w program c.in_ok-lines.lines.items (whole_text printout.parts.items) printout.status)
+      subst (λ (w : Wording). IsAnswerTo exploring.memory exploring w program c.in_ok-lines.lines.items out status)
           (same_wording labels c.traps.ensures)
-          (subst (λ (l : List ℕ). IsAnswerTo exploring.memory exploring seen program l (whole_text printout.parts.items) printout.status)
-          c.deref-2.ensures.value says),
+          (subst (λ (l : List ℕ). IsAnswerTo exploring.memory exploring seen program l out status) c.deref-2.ensures.value says),
     ))
+    (λ out fault met. (
+      c.in_ok-lines.lines.items,
+      c.in_ok-lines.ensures program c.requires,
+      subst (λ (w : Wording). IsMetIn exploring.memory exploring w program c.in_ok-lines.lines.items out fault) (same_wording labels c.traps.ensures)
+          (subst (λ (l : List ℕ). IsMetIn exploring.memory exploring seen program l out fault) c.deref-2.ensures.value met),
+    )))
     c.in_memory.ensures.ok

@@ -2,4 +2,5 @@ use Rattle.std.proofs.Common.{refl}
 use Rattle.lrc_cli.proofs.explored.ends_asked.Goals as goal
 
 pub returns-in-Err-TooMany-clause-err : goal.returns-in-Err-TooMany-clause-err
-returns-in-Err-TooMany-clause-err c = (refl, c.in-Err-TooMany.ensures.too_many c.in-Err-TooMany.field-0-is)
+returns-in-Err-TooMany-clause-err c =
+    let is = c.in-Err-TooMany.field-0-is in (refl, c.in-Err-TooMany.ensures.too_many is, c.in-Err-TooMany.ensures.too_long is)

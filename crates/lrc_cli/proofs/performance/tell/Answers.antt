@@ -1,8 +1,9 @@
-use Rattle.std.proofs.Common.{◌≡◌, ◌⊎◌, ℕ, true, List, Ok, Option, Some, None, refl, subst, inl, inr}
+use Rattle.std.proofs.Common.{◌≡◌, ◌⊎◌, ℕ, true, Global, List, Ok, Option, Some, None, Vec, refl, subst, inl, inr}
 use Rattle.std.specs.Io.KnownBytes.{Keeps}
+use Rattle.lrc_text.specs.Parts.{whole_text}
 use Rattle.lrc_cli.specs.Answer.{Answers, IsFault, Prints, asks_pairs}
 use Rattle.lrc_cli_answer.specs.FaultLine.{fault_line}
-use Rattle.lrc_cli.specs.Performance.{IsPrintedOrCut, IsWritten, Performs, cuts, faults, prints}
+use Rattle.lrc_cli.specs.Performance.{IsBrokenOff, IsPrintedOrCut, IsWritten, Performs, cuts, faults, gives_up, prints}
 use Rattle.lrc_cli_args.specs.declared.choice.Choice.{Choice}
 use Rattle.lrc_cli_answer.specs.declared.fault.Fault.{Fault}
 use Rattle.lrc_cli_answer.specs.declared.fault.Fault.TheVariants.{NoMemory}
@@ -35,6 +36,15 @@ returns-in-Ok-Judged g c choice text events answers =
     let is = subst (λ answered. Answers choice text events (Ok answered)) c.in-Ok-Judged.field-0-is
     (subst (Answers choice text events) c.in-Ok-Judged.is answers) in
     judged choice text events _ _ _ _ _ _ c.print_pairs.result is.0 is.2 c.print_pairs.ensures
+
+pub returns-in-Ok-Met : goal.returns-in-Ok-Met
+returns-in-Ok-Met g c choice text events answers =
+    let is = subst (λ answered. Answers choice text events (Ok answered)) c.in-Ok-Met.field-0-is (subst (Answers choice text events) c.in-Ok-Met.is answers) in
+    gives_up _ _ is
+    (subst
+    (λ (parts : List (Vec ℕ Global)). IsBrokenOff (g.W.Write.contents c.args.out.now) (g.W.Write.contents c.print_met.new.out)
+    (g.E.Write.contents c.args.err.now) (g.E.Write.contents c.print_met.new.err) (whole_text parts) c.in-Ok-Met.fault c.print_met.result)
+    c.deref.ensures.value c.print_met.ensures)
 
 pub returns-in-Err : goal.returns-in-Err
 returns-in-Err g c choice text events answers =

@@ -10,5 +10,5 @@ use Rattle.lrc_named_faults.proofs.values.in_parameters.Given as goal
 abbrev pub invariant-loop-i : goal.invariant-loop-i
 invariant-loop-i l =
     IsFirstOf
-    (λ f. IsInParameters (declared_of l.names) ((named_of l.function).bytes ∷ bytes_of (map named_of (take l.i l.parameters))) (map named_of (drop l.i l.parameters)) f)
+    (λ f. IsInParameters (declared_of l.names) ((named_of l.function).bytes ∷ bytes_of (map named_of (take l.i l.parameters.names.now))) (map named_of (drop l.i l.parameters.names.now)) f)
     l.first

@@ -5,4 +5,4 @@ use Rattle.lrc_state_text.specs.Intervals.{page_changes}
 use Rattle.lrc_state_text.proofs.stored.with_changes.Given as goal
 
 abbrev pub invariant-loop-page : goal.invariant-loop-page
-invariant-loop-page l = l.changes.items ≡ filter_map (page_changes l.memory.memory l.interval) (take l.page-index l.page-items)
+invariant-loop-page l = l.changes.items ≡ filter_map (page_changes l.memory.memory l.fn.interval) (take l.page-index l.page-items)

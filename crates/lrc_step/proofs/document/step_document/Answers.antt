@@ -1,4 +1,4 @@
-use Rattle.std.proofs.Common.{◌≡◌, ◌∙◌, ◌++◌, ℕ, List, ap, ap₂, subst}
+use Rattle.std.proofs.Common.{◌≡◌, ◌∙◌, ◌++◌, ℕ, List, ap, subst}
 use Rattle.std.specs.Prelude.{IfOk}
 use Rattle.lrc_text.specs.Parts.{whole_text}
 use Rattle.lrc_step.specs.Lines.{document}
@@ -11,7 +11,7 @@ returns c =
     let races = c.args.races in
     let reasons = c.args.reasons in
     let program = c.in_ok-program_part.field-0 in
-    let explained = c.in_ok-explain_part.field-0 in
+    let explained = c.args.explained in
     let begun = pushed c.new-lines.result.items c.push.new.self.items program c.in_ok-push.ensures.items
     ∙ ap (λ (l : List ℕ). l ++ program.items) (ap whole_text c.new-lines.ensures.items) in
     let with_states = joined c.push.new.self.items states c.append.new.self.items c.in_ok-append.ensures.items
@@ -22,5 +22,5 @@ returns c =
     ∙ ap (λ (l : List ℕ). l ++ races.items) with_run in
     let all = pushed c.push-3.new.self.items c.push-4.new.self.items reasons c.in_ok-push-4.ensures.items
     ∙ ap (λ (l : List ℕ). l ++ reasons.items) with_races
-    ∙ ap₂ (λ (a b : List ℕ). a ++ whole_text states ++ b ++ races.items ++ reasons.items) c.in_ok-program_part.ensures c.in_ok-explain_part.ensures in
+    ∙ ap (λ (a : List ℕ). a ++ whole_text states ++ explained.items ++ races.items ++ reasons.items) c.in_ok-program_part.ensures in
     subst (λ (l : List ℕ). IfOk c.document_parts.result (λ parts. whole_text parts.items ≡ document l)) all c.document_parts.ensures

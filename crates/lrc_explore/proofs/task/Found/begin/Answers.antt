@@ -4,6 +4,7 @@ use Rattle.lrc_orders_table.proofs.RowLaws.{row_within}
 use Rattle.lrc_explore.specs.Reached.{IsKeyOf, SettlesStart}
 use Rattle.lrc_explore.specs.Traps.{ShowsStartTrap}
 use Rattle.lrc_explore.proofs.Keys.{start_first, start_reached, has_start}
+use Rattle.lrc_explore.proofs.Trapless.{trapless_first}
 use Rattle.lrc_explore.proofs.Trapping.{start_shown}
 use Rattle.lrc_explore.proofs.task.Found.begin.Goals as goal
 
@@ -54,3 +55,13 @@ returns-clause-traps c =
     let acts = c.settled_start.new.acts.items in
     let s = subst (λ l. SettlesStart task l acts state) c.new-acts.ensures.items c.in_ok-state.ensures.start in
     subst (ShowsStartTrap task) (sym (c.has_trap-traps.ensures ∙ ap has_trap c.deref.ensures.value)) (start_shown task acts state s)
+
+pub returns-clause-trapless : goal.returns-clause-trapless
+returns-clause-trapless c =
+    let task = c.args.task.now in
+    let state = c.in_ok-state.state in
+    let acts = c.settled_start.new.acts.items in
+    let s = subst (λ l. SettlesStart task l acts state) c.new-acts.ensures.items c.in_ok-state.ensures.start in
+    let e = c.in_ok-add.ensures in
+    trapless_first task c.add.new.self e.found e.one c.has_trap-traps.result
+    (subst (ShowsStartTrap task) (sym (c.has_trap-traps.ensures ∙ ap has_trap c.deref.ensures.value)) (start_shown task acts state s))

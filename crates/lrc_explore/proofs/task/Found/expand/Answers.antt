@@ -1,6 +1,9 @@
 use Rattle.std.proofs.Common.{◌+◌, sym, subst, arith}
-use Rattle.lrc_orders_settling.specs.declared.step.Step.TheVariants.{Together}
+use Rattle.std.specs.Prelude.{is_some}
+use Rattle.lrc_orders_settling.specs.declared.step.Step.TheVariants.{Alone, Together}
+use Rattle.lrc_explore.specs.Traps.{KeepsTrapless}
 use Rattle.lrc_explore.proofs.Keys.{after_at_grown, each_more, expanded_at, more_again, within_more}
+use Rattle.lrc_explore.proofs.Trapless.{keeps_first, keeps_on}
 use Rattle.lrc_explore.proofs.Trapping.{IsTrapAmong, among_all, among_first, among_on}
 use Rattle.lrc_explore.proofs.task.Found.expand.Goals as goal
 
@@ -20,6 +23,9 @@ loop-node-init c =
       all = e.after;
       each = λ k lt. absurd (omega (arith, lt));
       trap = subst (IsTrapAmong task all place 0) (sym c.first_step-first.ensures) (among_first task all place c.in_ok-together.together e.traps);
+      trapless =
+          subst (λ t. KeepsTrapless task c.args.self.now.table.rows all (is_some t)) (sym c.first_step-first.ensures)
+          (keeps_first task c.args.self.now.table.rows all c.in_ok-together.together Together e.trapless);
     }
 
 pub loop-node-preserved : goal.loop-node-preserved
@@ -40,6 +46,9 @@ loop-node-preserved c =
       trap =
           subst (IsTrapAmong task new place (c.loop-node.node + 1)) (sym c.first_step-trap.ensures)
           (among_on task old.table.rows new place c.loop-node.node c.loop-node.trap c.in_ok-alone.alone e.more.rows full i.trap e.traps);
+      trapless =
+          subst (λ t. KeepsTrapless task first.table.rows new (is_some t)) (sym c.first_step-trap.ensures)
+          (keeps_on task first.table.rows old.table.rows new c.loop-node.trap c.in_ok-alone.alone (Alone c.loop-node.node) i.trapless e.trapless);
     }
 
 pub returns-clause-expanded : goal.returns-clause-expanded

@@ -1,9 +1,10 @@
-use Rattle.std.proofs.Common.{subst}
+use Rattle.std.proofs.Common.{ap, length, subst}
 use Rattle.std.specs.Prelude.{Option, MatchOption}
 use Rattle.lrc_orders_table.specs.declared.table.Led.{Led}
 use Rattle.lrc_explore.specs.Reached.{CannotTakeAt, LeadsTo}
 use Rattle.lrc_explore.specs.Traps.{ShowsTrapAt, led_traps}
 use Rattle.lrc_explore.proofs.Keys.{has_after, more_again, within_more}
+use Rattle.lrc_explore.proofs.Trapless.{trapless_put, trapless_same}
 use Rattle.lrc_explore.proofs.Trapping.{trap_grown}
 use Rattle.lrc_explore.proofs.task.Found.expand_step.Goals as goal
 
@@ -40,3 +41,25 @@ returns-clause-traps c =
     let P : Option Led → Type 0 = λ o. ShowsTrapAt task mid.table.rows place c.args.step (led_traps o) in
     trap_grown task mid.table.rows c.put.new.self.table.rows place c.args.step c.in-Some.led.traps c.in_ok-_place.ensures.more.rows
     (e.found.reached.full place (within_more task c.args.self.now mid place c.requires.found e.more c.requires.within)) (subst P c.in-Some.is e.traps)
+
+pub returns-in_default-clause-trapless : goal.returns-in_default-clause-trapless
+returns-in_default-clause-trapless c = λ no.
+    let e = c.in_ok-led.ensures in
+    trapless_same c.args.task.now c.args.self.now.table.rows c.row_after.new.self.table.rows c.requires.found.reached e.keeps.widens
+    (ap (λ l. length l) e.keeps.rows)
+
+pub returns-clause-trapless : goal.returns-clause-trapless
+returns-clause-trapless c = λ no calm.
+    let task = c.args.task.now in
+    let place = c.args.place in
+    let step = c.args.step in
+    let mid = c.row_after.new.self.table.rows in
+    let e = c.in_ok-led.ensures in
+    let p = c.in_ok-_place.ensures in
+    let P : Option Led → Type 0 = λ o. MatchOption o (CannotTakeAt task mid place step) (λ led. LeadsTo task mid place step led.row) in
+    let Q : Option Led → Type 0 = λ o. ShowsTrapAt task mid place step (led_traps o) in
+    let n = subst P c.in-Some.is e.taken in
+    let shows = subst (ShowsTrapAt task mid place step) no (subst Q c.in-Some.is e.traps) in
+    let was = trapless_same task c.args.self.now.table.rows mid c.requires.found.reached e.keeps.widens (ap (λ l. length l) e.keeps.rows) calm in
+    trapless_put task mid c.put.new.self.table.rows place c.in_ok-_place._place step c.in-Some.led.row e.found.reached p.more.rows p.only n shows
+    (p.there n.key n.stands) was

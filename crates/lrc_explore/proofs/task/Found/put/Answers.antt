@@ -1,7 +1,9 @@
 use Rattle.std.proofs.Common.{◌∙◌, ◌++◌, [], ◌∷◌, sym, ap}
 use Rattle.std.specs.Prelude.{if◌then◌else◌}
 use Rattle.lrc_explore.specs.declared.task.Found.{Found}
+use Rattle.lrc_orders_table.specs.Rows.{row_count}
 use Rattle.lrc_explore.proofs.Keys.{found_put, more_put, next_comes}
+use Rattle.lrc_explore.proofs.Trapless.{added_only}
 use Rattle.lrc_explore.proofs.task.Found.put.Goals as goal
 
 pub put-requires : goal.put-requires
@@ -39,3 +41,11 @@ returns-else-added-clause-more c =
     more_put task old new n.key c.args.origin c.in_ok-place.place c.in_ok-place.added c.requires.found n.reached (next_comes task old c.args.origin n.key n.from)
     e.widens (λ means is. e.table means (c.requires.found.table means is)) e.added (e.there n.key n.stands)
     (ap (λ b. if b then old.origins.items ++ c.args.origin ∷ [] else old.origins.items) (sym c.if-added.false))
+
+pub returns-in_ok-push-clause-only : goal.returns-in_ok-push-clause-only
+returns-in_ok-push-clause-only c =
+    added_only (row_count c.args.self.now.table.rows) (row_count c.put.new.self.rows) c.in_ok-place.place c.in_ok-place.added c.in_ok-place.ensures.added
+
+pub returns-else-added-clause-only : goal.returns-else-added-clause-only
+returns-else-added-clause-only c =
+    added_only (row_count c.args.self.now.table.rows) (row_count c.put.new.self.rows) c.in_ok-place.place c.in_ok-place.added c.in_ok-place.ensures.added

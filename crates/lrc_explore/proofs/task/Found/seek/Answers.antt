@@ -2,17 +2,22 @@ use Rattle.std.proofs.Common.{◌+◌, ◌<◌, sym, subst, arith}
 use Rattle.std.specs.Prelude.{None}
 use Rattle.lrc_orders_table.specs.Rows.{row_count}
 use Rattle.lrc_explore.specs.Answers.{IsVisit}
+use Rattle.lrc_explore.specs.Met.{VisitKeeps}
 use Rattle.lrc_explore.specs.Traps.{first_trap}
 use Rattle.lrc_explore.proofs.Keys.{more_again}
-use Rattle.lrc_explore.proofs.Seeking.{Seeking, seeking_first, seeking_on, through}
+use Rattle.lrc_explore.proofs.Seeking.{Seeking, seeking_first, seeking_on, through, trap_met}
 use Rattle.lrc_explore.proofs.task.Found.seek.Goals as goal
 
 pub loop-place-init : goal.loop-place-init
 loop-place-init c = (
   subst (λ t. Seeking c.args.task.now c.args.self.now c.args.self.now 0 c.args.races None t) (sym c.start_trap-trap.ensures)
-      (seeking_first c.args.task.now c.args.self.now c.args.races c.args.start c.requires.found c.requires.start),
+      (seeking_first c.args.task.now c.args.self.now c.args.races c.args.start c.requires.found c.requires.start c.requires.trapless),
   λ le. omega (arith, le),
 )
+
+pub end_from-requires-clause-traps : goal.end_from-requires-clause-traps
+end_from-requires-clause-traps c =
+    let s = c.loop-place.invariant.0 in trap_met c.args.task.now c.loop-place.self.table.rows c.loop-place.place c.loop-place.trap s.traps s.trapless
 
 pub returns-in-Meeting-clause-more : goal.returns-in-Meeting-clause-more
 returns-in-Meeting-clause-more c = more_again c.loop-place.invariant.0.more c.in_ok-p.ensures.more
@@ -28,14 +33,15 @@ loop-place-preserved c =
     let i = c.loop-place.invariant.0 in
     let e = c.in_ok-p.ensures in
     let lt : place < row_count old.table.rows = omega (arith, c.loop-place-test.true, c.len.ensures.len) in
-    let v = subst (IsVisit task new place races) c.in-Past.is e.visit in (
+    let v = subst (IsVisit task new place races) c.in-Past.is e.visit in
+    let k = subst (VisitKeeps task old.table.rows new.table.rows) c.in-Past.is e.keeps in (
       subst (λ t. Seeking task first new (place + 1) races c.first_stuck-stuck.result t) (sym c.first_trap-trap.ensures)
           (subst (λ o. Seeking task first new (place + 1) races o (first_trap c.loop-place.trap c.in-Past.step place)) (sym c.first_stuck-stuck.ensures)
-          (seeking_on task first old new place races c.loop-place.stuck c.loop-place.trap i e.found e.more lt c.in-Past.halts c.in-Past.step v)),
+          (seeking_on task first old new place races c.loop-place.stuck c.loop-place.trap i e.found e.more lt c.in-Past.halts c.in-Past.step v k)),
       (λ le. omega (arith, le, c.if-len-task.false, c.len-in-loop-place.ensures.len, c.loop-place-test.true, c.len.ensures.len)),
     )
 
-pub returns-clause-end : goal.returns-clause-end
-returns-clause-end c =
+pub returns-clause-sought : goal.returns-clause-sought
+returns-clause-sought c =
     through c.args.task.now c.args.self.now c.loop-place.self c.loop-place.place c.args.races c.loop-place.stuck c.loop-place.trap c.loop-place.invariant.0
     (omega (arith, c.loop-place-test.false, c.len.ensures.len))

@@ -50,3 +50,6 @@ returns-clause-visit c =
       halted = c.is_stuck-stuck.ensures means key known of;
       traps = e.trap key later;
     }
+
+pub returns-clause-keeps : goal.returns-clause-keeps
+returns-clause-keeps c = c.in_ok-trap.ensures.trapless

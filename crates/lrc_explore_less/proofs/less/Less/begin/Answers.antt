@@ -6,7 +6,7 @@ pub advance-requires-clause-passing : goal.advance-requires-clause-passing
 advance-requires-clause-passing c =
     let task = c.args.task.now in
     let e = c.in_ok-traps.ensures in
-    begun_first task _ _ c.in_ok-traps.traps e.found (c.requires.none.reaches _) e.traps c.start_trap-self.ensures
+    begun_first task _ _ c.in_ok-traps.traps e.found (c.requires.none.reaches _) e.traps c.start_trap-self.ensures e.trapless
     (let some = e.some in omega (arith, some, c.len-last.ensures.len)) c.in_ok-first_places.ensures
 
 pub returns-clause-begun : goal.returns-clause-begun

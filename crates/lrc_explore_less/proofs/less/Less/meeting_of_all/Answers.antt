@@ -1,7 +1,7 @@
 use Rattle.std.proofs.Common.{◌<◌, arith}
 use Rattle.lrc_orders_table.specs.Rows.{row_count}
 use Rattle.lrc_explore.proofs.MeansOf.{means_are, means_of}
-use Rattle.lrc_explore.proofs.Seeking.{calm_on, too_many_states}
+use Rattle.lrc_explore.proofs.Seeking.{calm_on}
 use Rattle.lrc_explore.proofs.Stepping.{key_at, known_at, row_at, row_of}
 use Rattle.lrc_explore_less.proofs.less.Less.meeting_of_all.Goals as goal
 
@@ -14,8 +14,8 @@ meeting-requires c =
     let within : c.loop-place.place < row_count found.table.rows = omega (arith, c.loop-place-test.true, c.len-place-end.ensures.len) in
     known_at c.args.task.now found c.loop-place.place c.row-row.result c.requires.found within c.row-row.ensures
 
-pub returns-in-Some-clause-end : goal.returns-in-Some-clause-end
-returns-in-Some-clause-end c =
+pub returns-in-Some : goal.returns-in-Some
+returns-in-Some c =
     let task = c.args.task.now in
     let found = c.args.self.now.found in
     let place = c.loop-place.place in
@@ -47,7 +47,5 @@ loop-place-preserved c =
     let of = row_of task found place row f within there means (means_are task) in
     calm_on task found.table.rows place c.args.races key at c.loop-place.invariant (c.in_default.ensures means key known of)
 
-pub returns-clause-faults : goal.returns-clause-faults
-returns-clause-faults c =
-    too_many_states c.args.task.now c.args.self.now.found c.args.races c.requires.found c.requires.many
-    (λ looked k key lt at. c.loop-place.invariant looked k key (omega (arith, lt, c.loop-place-test.false, c.len-place-end.ensures.len)) at)
+pub returns : goal.returns
+returns c = λ looked k key lt at. c.loop-place.invariant looked k key (omega (arith, lt, c.loop-place-test.false, c.len-place-end.ensures.len)) at

@@ -10,8 +10,8 @@ use Rattle.lrc_explore_less.proofs.less.Less.seek.Goals as goal
 pub loop-index-init : goal.loop-index-init
 loop-index-init c = (seeking_first c.args.task.now c.args.self.now c.args.races c.requires.less c.requires.begun, omega arith)
 
-pub meeting_of_all-requires-clause-many : goal.meeting_of_all-requires-clause-many
-meeting_of_all-requires-clause-many c = c.are_too_many-many.ensures.many c.if-many.true
+pub end_of_all-requires-clause-many : goal.end_of_all-requires-clause-many
+end_of_all-requires-clause-many c = c.are_too_many-many.ensures.many c.if-many.true
 
 pub visit-requires-clause-within : goal.visit-requires-clause-within
 visit-requires-clause-within c =
@@ -23,11 +23,11 @@ visit-requires-clause-within c =
 pub returns-in-Meeting-clause-begun : goal.returns-in-Meeting-clause-begun
 returns-in-Meeting-clause-begun c = begun_on c.args.task.now c.loop-index.self c.visit.new.self c.in_ok-p.ensures.widens c.loop-index.invariant.0.begun
 
-pub returns-in-Meeting-clause-end : goal.returns-in-Meeting-clause-end
-returns-in-Meeting-clause-end c = subst (IsVisit c.args.task.now c.visit.new.self _ c.args.races) c.in-Meeting.is c.in_ok-p.ensures.visit
+pub returns-in-Meeting-clause-sought : goal.returns-in-Meeting-clause-sought
+returns-in-Meeting-clause-sought c = subst (IsVisit c.args.task.now c.visit.new.self _ c.args.races) c.in-Meeting.is c.in_ok-p.ensures.visit
 
-pub returns-clause-end : goal.returns-clause-end
-returns-clause-end c =
+pub returns-clause-sought : goal.returns-clause-sought
+returns-clause-sought c =
     through c.args.task.now c.loop-index.self c.loop-index.index (omega (arith, c.loop-index-test.false, c.len.ensures)) c.args.races c.loop-index.stuck
     c.loop-index.invariant.0
 

@@ -1,5 +1,5 @@
 use Rattle.std.proofs.Common.{◌<◌, refl, sym, ap, ◌∙◌, subst, length}
-use Rattle.std.specs.Prelude.{MatchOption, Option}
+use Rattle.std.specs.Prelude.{MatchOption, Option, is_none}
 use Rattle.lrc_orders.specs.Kept.{IsAddedAt}
 use Rattle.lrc_orders.proofs.Keeping.{grows_not}
 use Rattle.lrc_orders_table.specs.declared.table.Led.{Led}
@@ -9,8 +9,9 @@ use Rattle.lrc_explore.specs.Reached.{CannotTakeAt, IsMore, LeadsTo}
 use Rattle.lrc_explore.specs.Traps.{ShowsTrapAt, led_traps}
 use Rattle.lrc_explore.proofs.Keys.{more_again}
 use Rattle.lrc_explore_less.specs.declared.less.Less.{Less}
+use Rattle.lrc_explore.proofs.Trapless.{added_only, trapless_put, trapless_same}
 use Rattle.lrc_explore_less.specs.Passing.{IsTrap}
-use Rattle.lrc_explore_less.proofs.Steps.{reaches_of, sound_taken, trap_more, trap_taken, widens_put, widens_same}
+use Rattle.lrc_explore_less.proofs.Steps.{reaches_of, sound_taken, trap_calm, trap_more, trap_taken, widens_put, widens_same}
 use Rattle.lrc_explore_less.proofs.less.Less.take.Goals as goal
 
 pub put-requires-clause-next : goal.put-requires-clause-next
@@ -30,6 +31,8 @@ returns-in_default-clause-sound c =
     let e = c.in_ok-led.ensures in
     sound_taken task old (record old { found = mid }) mid old.trap c.requires.sound e.keeps.widens refl e.found (rows_not mid.table.rows)
     (trap_more task old.found.table.rows mid.table.rows old.trap e.keeps.widens c.requires.sound.trap)
+    (λ none. trapless_same task old.found.table.rows mid.table.rows c.requires.sound.found.reached e.keeps.widens (ap (λ l. length l) e.keeps.rows)
+    (c.requires.sound.trapless none))
 
 pub returns-in_default-clause-widens : goal.returns-in_default-clause-widens
 returns-in_default-clause-widens c =
@@ -62,7 +65,20 @@ returns-clause-sound c =
     let trap = trap_taken task old.found.table.rows mid.table.rows old.trap c.in-Some.led.traps c.args.place c.args.step e.keeps.widens c.requires.sound.trap
     full.0 full.1 (subst Q c.in-Some.is e.traps) in
     sound_taken task old c.put.new.self mid c.trap_then-self.result c.requires.sound e.keeps.widens c.put.ensures.others c.in_ok-put.ensures.found
-    c.in_ok-put.ensures.more.rows (subst (IsTrap task mid.table.rows) (sym c.trap_then-self.ensures) trap)
+    c.in_ok-put.ensures.more.rows (subst (IsTrap task mid.table.rows) (sym c.trap_then-self.ensures) trap) (λ none.
+    let p = c.in_ok-put.ensures in
+    let all = c.put.new.self.found.table.rows in
+    let place = c.args.place in
+    let step = c.args.step in
+    let led = c.in-Some.led in
+    let P : Option Led → Type 0 = λ o. MatchOption o (CannotTakeAt task mid.table.rows place step) (λ l. LeadsTo task mid.table.rows place step l.row) in
+    let n = subst P c.in-Some.is e.taken in
+    let was = trap_calm old.trap led.traps (record { parent = place; step = step }) (ap is_none (sym c.trap_then-self.ensures) ∙ none) in
+    let calm = trapless_same task old.found.table.rows mid.table.rows c.requires.sound.found.reached e.keeps.widens (ap (λ l. length l) e.keeps.rows)
+    (c.requires.sound.trapless was.0) in
+    let shows = subst (ShowsTrapAt task mid.table.rows place step) was.1 (subst Q c.in-Some.is e.traps) in
+    trapless_put task mid.table.rows all place c.in_ok-put.put.0 step led.row e.found.reached p.more.rows
+    (added_only (row_count mid.table.rows) (row_count all) c.in_ok-put.put.0 c.in_ok-put.put.1 p.added) n shows (p.there n.key n.stands) calm)
 
 pub returns-clause-taken : goal.returns-clause-taken
 returns-clause-taken c =

@@ -32,6 +32,7 @@ returns-in-Some-clause-sound c =
       reaches = subst (λ f. AreReaches f c.args.self.now.found.table.rows.threads.keys c.undisputed_node.new.self) c.means_of-means.ensures.flat
           c.in_ok-found.ensures.reaches;
       trap = s.trap;
+      trapless = s.trapless;
     }
 
 pub returns-in-Some-clause-node : goal.returns-in-Some-clause-node
@@ -57,4 +58,5 @@ returns-in-None-clause-sound c =
       reaches = subst (λ f. AreReaches f c.args.self.now.found.table.rows.threads.keys c.undisputed_node.new.self) c.means_of-means.ensures.flat
           c.in_ok-found.ensures.reaches;
       trap = s.trap;
+      trapless = s.trapless;
     }

@@ -1,5 +1,7 @@
-use Rattle.std.proofs.Common.{◌≡◌, ◌<◌, arith, length, refl, rules, subst}
+use Rattle.std.proofs.Common.{◌≡◌, ◌<◌, ◌∙◌, ◌++◌, List, ap, arith, length, refl, rules, subst}
+use Rattle.std.specs.Prelude.{reverse}
 use Rattle.std.proofs.lemmas.Option.{slice_get_within}
+use Rattle.lrc_trace.specs.declared.act.Act.{Act}
 use Rattle.lrc_orders.proofs.Keeping.{item_at, item_in}
 use Rattle.lrc_lazy_run.specs.Ways.{LeadsFrom}
 use Rattle.lrc_lazy_run.proofs.Keeping.{leads_back, leads_here, leads_whole}
@@ -17,10 +19,11 @@ loop-at-smaller c =
     let kept = c.requires.ways.kept in
     let i = c.loop-at.invariant in
     let at = c.loop-at.at in
+    let origin = c.index-origin.result.now in
     let stood = item_at ways.states.keys at i.within in
     let lt : at < length ways.origins.items = omega (arith, i.within, kept.count) in
-    let there = item_in ways.origins.items ways.origins.items at c.index-origin.result.now refl lt c.index-origin.ensures in
-    (kept.come at stood.0 c.index-origin.result.now c.loop-at-test.true stood.1 there).before
+    let there = item_in ways.origins.items ways.origins.items at origin refl lt c.index-origin.ensures in
+    (kept.come at stood.0 origin c.loop-at-test.true stood.1 there).before
 
 pub loop-at-preserved : goal.loop-at-preserved
 loop-at-preserved c =
@@ -30,14 +33,15 @@ loop-at-preserved c =
     let kept = c.requires.ways.kept in
     let i = c.loop-at.invariant in
     let at = c.loop-at.at in
+    let origin = c.index-origin.result.now in
     let stood = item_at keys at i.within in
     let lt : at < length ways.origins.items = omega (arith, i.within, kept.count) in
-    let there = item_in ways.origins.items ways.origins.items at c.index-origin.result.now refl lt c.index-origin.ensures in
-    let comes = kept.come at stood.0 c.index-origin.result.now c.loop-at-test.true stood.1 there in
+    let there = item_in ways.origins.items ways.origins.items at origin refl lt c.index-origin.ensures in
+    let comes = kept.come at stood.0 origin c.loop-at-test.true stood.1 there in
+    let put = c.in_ok-push_back.ensures ∙ ap (λ (l : List Act). c.loop-at.acts.items ++ reverse l) c.deref.ensures.value in
     record {
-      within = slice_get_within keys c.index-origin.result.now.parent comes.parent comes.there;
-      leads = leads_back sought keys at c.args.place c.loop-at.acts.items c.push.new.self.items c.index-origin.result.now stood.0 c.requires.sought stood.1 comes
-          c.in_ok-push.ensures.items i.leads;
+      within = slice_get_within keys origin.parent comes.parent comes.there;
+      leads = leads_back sought keys at c.args.place c.loop-at.acts.items c.push_back.new.acts.items origin stood.0 stood.1 comes put i.leads;
     }
 
 pub returns : goal.returns

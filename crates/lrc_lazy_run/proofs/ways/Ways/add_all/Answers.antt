@@ -35,6 +35,6 @@ returns-clause-all c = λ node deed can.
     let i = c.loop-node.invariant in
     let ways = c.loop-node.self in
     let long = grows_long i.grows in
-    let below = can_at_below sought ways.states.keys ways.origins.items ways.settled.items c.args.place node deed c.requires.sought i.ways.kept
+    let below = can_at_below sought ways.states.keys ways.origins.items ways.settled.items c.args.place node deed c.requires.ways.task i.ways.kept
     (omega (arith, long, c.requires.within)) can in
     i.done node (omega (arith, below, c.loop-node-test.false, c.loop-node.auto.node-end)) deed can

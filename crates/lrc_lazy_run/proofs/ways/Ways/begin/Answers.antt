@@ -1,5 +1,4 @@
 use Rattle.std.proofs.Common.{List, ap, arith, length, rules}
-use Rattle.lrc_trace.specs.declared.act.Deed.TheVariants.{Quiet}
 use Rattle.lrc_lazy_search.specs.declared.state.LazyState.{LazyState}
 use Rattle.lrc_lazy_run.proofs.Keeping.{begun_alone, put_first}
 use Rattle.lrc_lazy_run.proofs.ways.Ways.begin.Goals as goal
@@ -13,8 +12,9 @@ returns-clause-ways c =
     let one = put_first _ c.new-states.result.keys keys c.in_ok-first.first s.0 c.in_ok-insert_full.field-0.0 (search rules) i.keys s.1 in
     let long = ap (λ (l : List LazyState). length l) one in
     record {
+      task = c.requires;
       kept = begun_alone c.args.sought.now keys c.push.new.self.items c.new.result.items c.in_ok-first.first
-          (record { parent = 0; act = record { node = 0; deed = Quiet } }) c.requires one (search rules) (search rules) e.first e.state e.nothing e.notes
+          (record { parent = 0; acts = c.new-acts.result }) c.requires one (search rules) (search rules) e.first e.state e.nothing e.notes
           e.neat (e.left c.requires.some) i.unique;
       few = omega (arith, long);
       small = omega (arith, long);

@@ -14,7 +14,7 @@ deeds-requires-clause-fit c =
     let keys = c.args.self.now.states.keys in
     let key = c.index-as_slice-place.result in
     let there = item_in keys c.as_slice.result.now c.args.place key c.as_slice.ensures.keys c.requires.within c.index-as_slice-place.is in
-    reached_fit sought.program.now sought.flat key c.args.place c.requires.sought.words (c.requires.ways.kept.reached c.args.place key there)
+    reached_fit sought.program.now sought.flat key c.args.place c.requires.ways.task.words (c.requires.ways.kept.reached c.args.place key there)
 
 pub returns-clause-sound : goal.returns-clause-sound
 returns-clause-sound c =

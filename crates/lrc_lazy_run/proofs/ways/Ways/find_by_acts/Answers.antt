@@ -37,5 +37,5 @@ pub returns-clause-found : goal.returns-clause-found
 returns-clause-found c =
     let sought = c.args.sought.now in
     let i = c.loop-place.invariant in
-    none_has sought.program.now sought.flat c.requires.sought.words c.requires.sought.locks c.loop-place.self.states.keys c.args.notes.now i.ways.kept.begun
+    none_has sought.program.now sought.flat c.requires.ways.task.words c.requires.ways.task.locks c.loop-place.self.states.keys c.args.notes.now i.ways.kept.begun
     (λ k key lt at. i.passed k key (omega (arith, lt, c.loop-place-test.false, c.len.ensures.len)) at)

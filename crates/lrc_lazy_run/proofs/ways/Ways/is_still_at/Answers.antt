@@ -34,7 +34,7 @@ returns c = (
   λ yes n deed can.
       let sought = c.args.sought.now in
       let ways = c.args.self.now in
-      let below = can_at_below sought ways.states.keys ways.origins.items ways.settled.items c.args.place n deed c.requires.sought c.requires.ways.kept c.requires.within can in
+      let below = can_at_below sought ways.states.keys ways.origins.items ways.settled.items c.args.place n deed c.requires.ways.task c.requires.ways.kept c.requires.within can in
       c.loop-node.invariant n deed (omega (arith, below, c.loop-node-test.false, c.loop-node.auto.node-end)) can,
   λ still. refl,
 )

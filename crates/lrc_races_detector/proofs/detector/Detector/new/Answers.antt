@@ -11,7 +11,8 @@ use Rattle.lrc_races_detector.specs.declared.variables.Variables.{Variables}
 use Rattle.lrc_races_detector.specs.declared.covers.Cover.{Cover}
 use Rattle.lrc_races_detector.specs.declared.covers.Covers.{Covers}
 use Rattle.lrc_races_detector.specs.Covers.{cover_at, IsCover, AreCovers}
-use Rattle.lrc_races_detector.specs.Clocks.{row, entries_of}
+use Rattle.lrc_races_detector.specs.Clocks.{row}
+use Rattle.lrc_races_detector.specs.Within.{entries_of}
 use Rattle.lrc_races_detector.specs.Variables.{lasts_of, items_of}
 use Rattle.lrc_races_detector.specs.Knowing.{Gathers, Before, AreVariables, IsBarrier, AreBarriers, IsRow, ArrivesIn}
 use Rattle.lrc_races_detector.proofs.Gathering.{Gathers-none}

@@ -8,10 +8,15 @@ use Rattle.lrc_races_detector.specs.declared.clocks.Clocks.{Clocks}
 use Rattle.lrc_races_detector.specs.declared.barriers.Barriers.{Barriers}
 use Rattle.lrc_races_detector.specs.declared.barriers.Barrier.{Barrier}
 use Rattle.lrc_races_detector.specs.declared.variables.Variables.{Variables}
-use Rattle.lrc_races_detector.specs.Clocks.{row, entries_of}
+use Rattle.lrc_races_detector.specs.declared.covers.Cover.{Cover}
+use Rattle.lrc_races_detector.specs.declared.covers.Covers.{Covers}
+use Rattle.lrc_races_detector.specs.Covers.{cover_at}
+use Rattle.lrc_races_detector.specs.Clocks.{row}
+use Rattle.lrc_races_detector.specs.Within.{entries_of}
 use Rattle.lrc_races_detector.specs.Variables.{lasts_of, items_of}
 use Rattle.lrc_races_detector.specs.Knowing.{Before, AreVariables, IsRow, ArrivesIn}
 use Rattle.lrc_races_sure.specs.Leading.{IsLastWrite}
+use Rattle.lrc_races_sure_pass.specs.Covers.{IsCover, AreCovers}
 use Rattle.lrc_races_sure_pass.specs.Knowing.{Gathers, IsBarrier, AreBarriers, AreWrites}
 use Rattle.lrc_races_sure_pass.proofs.Gathering.{Gathers-none}
 use Rattle.lrc_races_sure_pass.proofs.detector.SureDetector.new.Goals as goal
@@ -49,6 +54,10 @@ no_writes events writes e v =
     subst (λ r. Gathers events (λ k. IsLastWrite events k 0 v) r) (sym empty)
     (Gathers-none events (λ k. IsLastWrite events k 0 v) (λ k last. let lt = last.before in omega arith))
 
+no_covers : (events : List Event) (covers : Covers) → covers.covers.items ≡ [] → AreCovers events 0 covers
+no_covers events covers e v =
+    subst (λ (o : Option Cover). IsCover events 0 v o) (sym (ap (λ xs. cover_at (slice_get xs v)) e)) tt
+
 pub returns : goal.returns
 returns c = λ events. record {
   position = refl;
@@ -57,4 +66,5 @@ returns c = λ events. record {
   barriers = no_barriers events c.new-3.result c.new-3.ensures;
   variables = no_variables events c.new-4.result c.new-4.ensures;
   writes = no_writes events c.new-5.result c.new-5.ensures;
+  covers = no_covers events c.new-6.result c.new-6.ensures;
 }

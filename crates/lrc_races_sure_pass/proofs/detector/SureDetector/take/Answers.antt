@@ -4,6 +4,7 @@ use Rattle.lrc_races_trace.specs.Trace.{At}
 use Rattle.lrc_races_trace.specs.Order.{Precedes}
 use Rattle.lrc_races_sure.specs.Sure.{AreSureToldAt}
 use Rattle.lrc_races_detector.specs.Knowing.{AreVariables}
+use Rattle.lrc_races_sure_pass.specs.Covers.{AreCovers}
 use Rattle.lrc_races_sure_pass.specs.Knowing.{Gathers, AreLocks, AreBarriers, AreWrites}
 use Rattle.lrc_races_detector.specs.Vectors.{entries}
 use Rattle.lrc_races_sure_pass.proofs.detector.SureDetector.take.Goals as goal
@@ -19,8 +20,10 @@ returns c = λ events n here old.
     subst (λ x. Gathers events (λ k. Precedes events k n) x) (sym c.row-asked.ensures) is_asked.own in
     let variables : AreVariables events asked.position asked.variables =
     subst (λ m. AreVariables events m asked.variables) (sym at) (subst (λ v. AreVariables events n v) (sym c.ask.ensures.variables) old.variables) in
+    let covers : AreCovers events asked.position asked.covers =
+    subst (λ m. AreCovers events m asked.covers) (sym at) (subst (λ v. AreCovers events n v) (sym c.ask.ensures.covers) old.covers) in
     let judged = c.in_ok-judge.ensures events (subst (λ m. At events m c.args.event) (sym at) here)
-    (subst (λ m. Gathers events (λ k. Precedes events k m) (entries c.row-asked.result)) (sym at) own) variables c.clear.ensures.items in
+    (subst (λ m. Gathers events (λ k. Precedes events k m) (entries c.row-asked.result)) (sym at) own) variables covers c.clear.ensures.items in
     let writes : AreWrites events n asked.writes = subst (λ w. AreWrites events n w) (sym c.ask.ensures.writes) old.writes in
     let is_reached = c.in_ok-reach.ensures.reached events n here at writes is_asked in
     let known : Gathers events (λ k. k ≡ n) (entries c.row-known.result) =
@@ -39,6 +42,8 @@ returns c = λ events n here old.
         variables = subst (λ v. AreVariables events (n + 1) v) (sym c.reach.ensures.variables)
             (subst (λ m. AreVariables events (m + 1) c.judge.new.variables) at judged.0);
         writes = c.in_ok-give_write.ensures events n here known writes_now;
+        covers = subst (λ o. AreCovers events (n + 1) o) (sym c.reach.ensures.covers)
+            (subst (λ m. AreCovers events (m + 1) c.judge.new.covers) at judged.1);
       },
-      subst (λ m. AreSureToldAt events m c.judge.new.told.items) at judged.1,
+      subst (λ m. AreSureToldAt events m c.judge.new.told.items) at judged.2,
     )

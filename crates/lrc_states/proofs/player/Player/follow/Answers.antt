@@ -16,4 +16,4 @@ returns-clause-player c plan next acts turns leaves =
     on_both c.post.result c.post.ensures.nodes c.post.ensures.flight
     (λ nodes flight. followed plan acts turns next c.args.turn old _ leaves c.count.ensures.plan (nodes ∙ ap (λ r. r.nodes) c.count.ensures.replay)
     (flight ∙ ap (λ r. r.flight.items ++ c.turn.inside.out.items) c.count.ensures.replay ∙ ap (λ (l : List EnvelopeRecord). old.replay.flight.items ++ l) out)
-    (subst (IsCourse plan (acts ++ option_to_list c.args.turn.act)) (sym c.count.ensures.course) course) c.in_ok-count.ensures.turns)
+    (subst (IsCourse plan (acts ++ option_to_list c.args.turn.act)) (sym c.count.ensures.course) course) c.in_ok-count.ensures.turns c.count.ensures.shown)

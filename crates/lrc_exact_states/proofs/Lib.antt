@@ -1,0 +1,11 @@
+mod Levels
+mod Keyed
+mod Learning
+mod Closing
+mod Stepping
+mod By
+mod Runs
+mod Chains
+mod Level
+mod Goes
+mod Searched

@@ -1,0 +1,6 @@
+pub mod Levels
+pub mod Alike
+pub mod Runs
+pub mod Goes
+pub mod Searched
+pub mod Laws

@@ -1,0 +1,122 @@
+// The line of the run with reasons.
+
+ghost use Rattle.std.specs.Prelude.{◌≡◌, ◌++◌, OnOk, map};
+ghost use Rattle.lrc_text.specs.Each.{each};
+ghost use Rattle.lrc_step.specs.EndLines.{circle_at, circle_text, circles_text, end_at, end_text, end_word, ends_text, explain_line, node_at};
+ghost use Rattle.lrc_step.specs.Lines.{lines_in};
+
+use crate::lines::{push_comma, push_printed};
+use lrc_explain_waits::Fate;
+use lrc_text::push_number;
+use std::alloc::{AllocError, Global};
+
+/// How a node ended.
+#[derive(Clone, Copy)]
+pub struct End {
+    /// Whether it reached the end of the text, trapped, or did neither.
+    pub fate: Fate,
+    /// The line of that end, of that trap, or of what comes next.
+    pub line: u32,
+    /// How many values it printed.
+    pub prints: usize,
+}
+
+/// Adds the line about the run with reasons, from the output of `explain`, from how each node ended, and from the circles
+/// of waiting nodes.
+pub fn push_explain_line(
+    alloc: Global,
+    text: &mut Vec<u8>,
+    printed: &[u8],
+    ends: &[End],
+    circles: &[Vec<usize>],
+) -> Result<(), AllocError>
+    ensures { OnOk result (text.new.items ≡ text.old.items
+        ++ explain_line (lines_in printed.now) ends.now (map (λ one. one.items) circles.now)) }
+{
+    text.extend_from_slice(b"{\"explain\":[")?;
+    push_printed(alloc, text, printed)?;
+    text.extend_from_slice(b"],\"ends\":[")?;
+    push_ends(text, ends)?;
+    text.extend_from_slice(b"],\"deadlocks\":[")?;
+    push_circles(text, circles)?;
+    text.extend_from_slice(b"]}\n")
+}
+
+fn push_ends(text: &mut Vec<u8>, ends: &[End]) -> Result<(), AllocError>
+    ensures { OnOk result (text.new.items ≡ text.old.items ++ ends_text ends.now) }
+{
+    for (node, end) in ends.iter().enumerate() {
+        push_end_at(text, node, *end)?;
+    }
+    Ok(())
+}
+
+fn push_end_at(text: &mut Vec<u8>, node: usize, end: End) -> Result<(), AllocError>
+    ensures { OnOk result (text.new.items ≡ text.old.items ++ end_at node end) }
+{
+    push_comma(text, node)?;
+    push_end(text, end)
+}
+
+fn end_word(fate: Fate) -> &'static [u8]
+    ensures { result.now ≡ end_word fate }
+{
+    match fate {
+        Fate::Ended => b"ended",
+        Fate::Trapped(_) => b"trapped",
+        Fate::Unfinished => b"unfinished",
+    }
+}
+
+#[tactic(auto, unfolding(crate::specs::EndLines::end_text))]
+fn push_end(text: &mut Vec<u8>, end: End) -> Result<(), AllocError>
+    ensures { OnOk result (text.new.items ≡ text.old.items ++ end_text end) }
+{
+    text.extend_from_slice(b"{\"end\":\"")?;
+    text.extend_from_slice(end_word(end.fate))?;
+    push_number(text, b"\",\"line\":", u64::from(end.line))?;
+    push_number(text, b",\"prints\":", end.prints as u64)?;
+    text.extend_from_slice(b"}")
+}
+
+fn push_circles(text: &mut Vec<u8>, circles: &[Vec<usize>]) -> Result<(), AllocError>
+    ensures { OnOk result (text.new.items ≡ text.old.items
+        ++ circles_text (map (λ one. one.items) circles.now)) }
+{
+    for place in 0..circles.len() {
+        push_circle_at(text, place, &circles[place])?;
+    }
+    Ok(())
+}
+
+fn push_circle_at(text: &mut Vec<u8>, place: usize, circle: &[usize]) -> Result<(), AllocError>
+    ensures { OnOk result (text.new.items ≡ text.old.items ++ circle_at place circle.now) }
+{
+    push_comma(text, place)?;
+    push_circle(text, circle)
+}
+
+#[tactic(auto, unfolding(crate::specs::EndLines::circle_text))]
+fn push_circle(text: &mut Vec<u8>, circle: &[usize]) -> Result<(), AllocError>
+    ensures { OnOk result (text.new.items ≡ text.old.items ++ circle_text circle.now) }
+{
+    text.extend_from_slice(b"[")?;
+    push_nodes(text, circle)?;
+    text.extend_from_slice(b"]")
+}
+
+fn push_nodes(text: &mut Vec<u8>, nodes: &[usize]) -> Result<(), AllocError>
+    ensures { OnOk result (text.new.items ≡ text.old.items ++ each node_at nodes.now) }
+{
+    for (place, node) in nodes.iter().enumerate() {
+        push_node_at(text, place, *node)?;
+    }
+    Ok(())
+}
+
+fn push_node_at(text: &mut Vec<u8>, place: usize, node: usize) -> Result<(), AllocError>
+    ensures { OnOk result (text.new.items ≡ text.old.items ++ node_at place node) }
+{
+    push_comma(text, place)?;
+    push_number(text, b"", node as u64)
+}
