@@ -1,9 +1,9 @@
 -- What is printed of each act, and which acts race with it.
-use Rattle.std.proofs.Common.{◌≡◌, ◌∙◌, ◌<◌, [], ℕ, List, Option, Some, Vec, ap, arith, inl, inr, length, map, subst, sym}
+use Rattle.std.proofs.Common.{◌≡◌, ◌∙◌, ◌<◌, [], ℕ, List, None, Option, Some, Vec, ap, arith, inl, inr, length, map, subst, sym}
 use Rattle.std.specs.Prelude.{option_map, slice_get, slice_index_or}
 use Rattle.std.specs.declared.alloc.Global.{Global}
 use Rattle.std.proofs.lemmas.List.{get_or-map, length-map}
-use Rattle.std.proofs.lemmas.Option.{slice_get-map, slice_get_cases, slice_get_within}
+use Rattle.std.proofs.lemmas.Option.{slice_get-get_or, slice_get-map, slice_get_cases, slice_get_within}
 use Rattle.lrc_program.specs.declared.Program.{Program}
 use Rattle.lrc_trace.specs.declared.act.Act.{Act}
 use Rattle.lrc_page.specs.declared.size.Size.{Size}
@@ -13,7 +13,9 @@ use Rattle.lrc_why_text.specs.declared.asked.Asked.{Asked}
 use Rattle.lrc_why_run.specs.Answers.{AnswersRun}
 use Rattle.lrc_source.specs.Telling.{ReadText}
 use Rattle.lrc_step.specs.ReasonLines.{asked_alone}
+use Rattle.lrc_step.specs.Given.{IsGivenIfRead}
 use Rattle.lrc_step.specs.Rivals.{AreRivals}
+use Rattle.lrc_step.specs.declared.given.Given.{Given}
 use Rattle.lrc_step.specs.declared.rivals.Rival.{Rival}
 
 abbrev bytes_of : Vec ℕ Global → List ℕ
@@ -61,3 +63,15 @@ rivals_found acts lines nodes positions found are place position stands =
           (sym (get_or-map rivals_of found place one [] lt ∙ ap rivals_of same)) (are.each place one is position stands)
       | inr (past, is) ↦ absurd (omega (arith, past))
     ]
+
+-- and the writes that each of them gives what it gives by
+abbrev pub AreGiven : List Act → (positions : List ℕ) → List (Option Given) → Type 0
+AreGiven acts positions given = OfEach (length positions) (λ place one. (position : ℕ) → slice_get positions place ≡ Some position
+    → IsGivenIfRead acts position one) given
+
+pub given_found : (acts : List Act) (positions : List ℕ) (given : List (Option Given)) → AreGiven acts positions given
+    → (place position : ℕ) → slice_get positions place ≡ Some position → IsGivenIfRead acts position (slice_index_or given place None)
+given_found acts positions given are place position stands =
+    let within : place < length positions = slice_get_within positions place position stands in
+    let many : length given ≡ length positions = are.all in
+    are.each place (slice_index_or given place None) (slice_get-get_or given place None (omega (arith, within, many))) position stands

@@ -11,13 +11,14 @@ use Rattle.std.proofs.lemmas.Str.Parse.{digit_at}
 use Rattle.std.specs.Str.Parse.{AllDigits}
 use Rattle.lrc_judge.specs.declared.lanes.Pair.{Pair}
 use Rattle.lrc_explain.specs.declared.site.Site.{Site}
+use Rattle.lrc_step.specs.declared.given.Given.{Given}
 use Rattle.lrc_step.specs.declared.rivals.Rival.{Rival}
 use Rattle.lrc_text.specs.Each.{each}
 use Rattle.lrc_explain_waits.specs.declared.stand.Fate.{Fate}
 use Rattle.lrc_explain_waits.specs.declared.stand.Fate.TheVariants.{Ended, Trapped, Unfinished}
 use Rattle.lrc_step.specs.declared.end_lines.End.{End}
-use Rattle.lrc_step.specs.EndLines.{AreWords, IsEndOfWords, circle_at, circle_text, circles_text, end_at, end_text, end_word, ends_text, node_at}
-use Rattle.lrc_step.specs.Lines.{HasNoMarkup, IsPairOfWords, IsRivalOfWords, IsSiteOfWords, access_text, comma_text, group_site_text, group_text}
+use Rattle.lrc_step.specs.EndLines.{IsEndOfWords, circle_at, circles_text, end_at, end_text, end_word, ends_text}
+use Rattle.lrc_step.specs.Lines.{AreWords, HasNoMarkup, IsGivenOfWords, IsPairOfWords, IsRivalOfWords, IsSiteOfWords, access_text, comma_text, given_text, group_site_text, number_at, numbers_text, optional_text}
 use Rattle.lrc_step.specs.Lines.{pair_text, pairs_text, quoted, quoted_at, quoted_each, rival_at, rival_text, rivals_text, site_text, text_part}
 use Rattle.lrc_step.specs.Spelling.{byte_text, control_text, digit_of, spelled}
 use Rattle.lrc_step.proofs.Read.{by_choice}
@@ -120,9 +121,9 @@ pair_unmarked place pair few =
 pub pairs_unmarked : (pairs : List Pair) → All IsPairOfWords pairs → AreUnmarked (pairs_text pairs)
 pairs_unmarked pairs few = each_unmarked IsPairOfWords pair_text pair_unmarked 0 pairs (recursion_from_All IsPairOfWords pairs few)
 
-pub group_unmarked : (group : Option ℕ) → IfSome group (λ number. number < 2 ^ 64) → AreUnmarked (group_text group)
-group_unmarked None few = refl
-group_unmarked (Some number) few = number_unmarked number few
+pub optional_unmarked : (group : Option ℕ) → IfSome group (λ number. number < 2 ^ 64) → AreUnmarked (optional_text group)
+optional_unmarked None few = refl
+optional_unmarked (Some number) few = number_unmarked number few
 
 access_unmarked : (line : ℕ) (writes : Bool) → line < 2 ^ 64 → AreUnmarked (access_text line writes)
 access_unmarked line true few =
@@ -153,6 +154,27 @@ rival_unmarked (Some rival) few =
     (both (codes "{\"act\":" ++ decimal rival.act) (site_text rival.site)
     (both (codes "{\"act\":") (decimal rival.act) refl (number_unmarked rival.act few.0))
     (site_unmarked rival.site few.1)) refl
+
+number_at_unmarked : (place number : ℕ) → number < 2 ^ 64 → AreUnmarked (number_at place number)
+number_at_unmarked place number few = both (comma_text place) (decimal number) (comma_unmarked place) (number_unmarked number few)
+
+numbers_unmarked : (numbers : List ℕ) → AreWords numbers → AreUnmarked (numbers_text numbers)
+unfolding numbers_text
+numbers_unmarked numbers few =
+    both (codes "[" ++ each number_at numbers) (codes "]")
+    (both (codes "[") (each number_at numbers) refl
+    (each_unmarked (λ (number : ℕ). number < 2 ^ 64) number_at number_at_unmarked 0 numbers
+    (recursion_from_All (λ (number : ℕ). number < 2 ^ 64) numbers few))) refl
+
+pub given_unmarked : (given : Option Given) → IfSome given IsGivenOfWords → AreUnmarked (given_text given)
+unfolding given_text
+given_unmarked None few = refl
+given_unmarked (Some given) few =
+    let last = codes "{\"last\":" ++ numbers_text given.last.items in
+    both (last ++ codes ",\"unknown\":" ++ optional_text given.unknown) (codes "}")
+    (both (last ++ codes ",\"unknown\":") (optional_text given.unknown)
+    (both last (codes ",\"unknown\":") (both (codes "{\"last\":") (numbers_text given.last.items) refl (numbers_unmarked given.last.items few.0)) refl)
+    (optional_unmarked given.unknown few.1)) refl
 
 pub rivals_unmarked : (rivals : List (Option Rival)) → All (λ rival. IfSome rival IsRivalOfWords) rivals → AreUnmarked (rivals_text rivals)
 rivals_unmarked rivals few =
@@ -186,21 +208,11 @@ ends_unmarked ends few =
     (λ (node : ℕ) (end : End) (small : IsEndOfWords end). both (comma_text node) (end_text end) (comma_unmarked node) (end_unmarked end small))
     0 ends (recursion_from_All IsEndOfWords ends few)
 
-node_unmarked : (place node : ℕ) → node < 2 ^ 64 → AreUnmarked (node_at place node)
-node_unmarked place node few = both (comma_text place) (decimal node) (comma_unmarked place) (number_unmarked node few)
-
-circle_unmarked : (circle : List ℕ) → AreWords circle → AreUnmarked (circle_text circle)
-unfolding circle_text
-circle_unmarked circle few =
-    both (codes "[" ++ each node_at circle) (codes "]")
-    (both (codes "[") (each node_at circle) refl
-    (each_unmarked (λ (node : ℕ). node < 2 ^ 64) node_at node_unmarked 0 circle (recursion_from_All (λ (node : ℕ). node < 2 ^ 64) circle few))) refl
-
 pub circles_unmarked : (circles : List (List ℕ)) → All AreWords circles → AreUnmarked (circles_text circles)
 circles_unmarked circles few =
     each_unmarked AreWords circle_at
     (λ (place : ℕ) (circle : List ℕ) (small : AreWords circle).
-    both (comma_text place) (circle_text circle) (comma_unmarked place) (circle_unmarked circle small))
+    both (comma_text place) (numbers_text circle) (comma_unmarked place) (numbers_unmarked circle small))
     0 circles (recursion_from_All AreWords circles few)
 
 byte_told : (byte : ℕ) → is_unmarked byte ≡ true → (byte ≢ 60) × (byte ≢ 62) × (byte ≢ 38)

@@ -1,5 +1,5 @@
 -- The line of the run with reasons: what `explain` prints, how each node ended, and which nodes wait in a circle.
-use Rattle.std.specs.Prelude.{◌≡◌, ◌<◌, ◌^◌, ℕ, All, Bool, true, false, List, [], ◌∷◌, ◌++◌, Option, None, Some, codes, decimal, length}
+use Rattle.std.specs.Prelude.{◌≡◌, ◌<◌, ◌^◌, ℕ, Bool, true, false, List, [], ◌∷◌, ◌++◌, Option, None, Some, codes, decimal, length}
 use Rattle.std.specs.List.{flat_map, range_with_len}
 use Rattle.lrc_program.specs.declared.Program.{Program}
 use Rattle.lrc_trace.specs.declared.act.Act.{Act}
@@ -14,7 +14,7 @@ use Rattle.lrc_explain_waits.specs.declared.stand.Stand.{Stand}
 use Rattle.lrc_explain_waits.specs.Circles.{circle_of, waits_of}
 use Rattle.lrc_explain_waits.specs.Stand.{stands_of}
 use Rattle.lrc_step.specs.declared.end_lines.End.{End}
-use Rattle.lrc_step.specs.Lines.{comma_text, lines_in, quoted_each}
+use Rattle.lrc_step.specs.Lines.{comma_text, lines_in, numbers_text, quoted_each}
 
 -- whether a deed prints
 abbrev pub is_print : Deed → Bool
@@ -56,15 +56,9 @@ end_at node end = comma_text node ++ end_text end
 abbrev pub ends_text : List End → List ℕ
 ends_text ends = each end_at ends
 
-abbrev pub node_at : ℕ → ℕ → List ℕ
-node_at place node = comma_text place ++ decimal node
-
 -- the nodes of a circle
-unfoldable pub circle_text : List ℕ → List ℕ
-circle_text circle = codes "[" ++ each node_at circle ++ codes "]"
-
 abbrev pub circle_at : ℕ → List ℕ → List ℕ
-circle_at place circle = comma_text place ++ circle_text circle
+circle_at place circle = comma_text place ++ numbers_text circle
 
 abbrev pub circles_text : List (List ℕ) → List ℕ
 circles_text circles = each circle_at circles
@@ -77,10 +71,6 @@ explain_line lines ends circles = codes "{\"explain\":[" ++ quoted_each lines ++
 -- the line and how many values were printed are numbers of 64 bits
 abbrev pub IsEndOfWords : End → Type 0
 IsEndOfWords end = (end.line < 2 ^ 64) × (end.prints < 2 ^ 64)
-
--- and so are these
-abbrev pub AreWords : List ℕ → Type 0
-AreWords numbers = All (λ number. number < 2 ^ 64) numbers
 
 -- the line where the nodes stand so
 abbrev pub stands_line : List Act → List Stand → (printed : List ℕ) → List ℕ

@@ -1,14 +1,28 @@
 -- The lines of a run's data that are not its states, and the document.
-use Rattle.std.specs.Prelude.{Bool, ◌==◌, ◌≢◌, ◌<◌, ◌-◌, ◌^◌, All, ℕ, List, [], ◌++◌, Option, None, Some, codes, decimal, if◌then◌else◌, length, take}
+use Rattle.std.specs.Prelude.{Bool, ◌==◌, ◌≢◌, ◌<◌, ◌-◌, ◌^◌, All, ℕ, List, [], ◌++◌, IfSome, Option, None, Some, codes, decimal, if◌then◌else◌, length, take}
 use Rattle.lrc_judge.specs.declared.lanes.Pair.{Pair}
 use Rattle.lrc_labels.specs.declared.cut.Divider.TheVariants.{LineFeed}
 use Rattle.lrc_labels.specs.Cut.{cut, divides}
 use Rattle.lrc_explain.specs.declared.site.Site.{Site}
 use Rattle.lrc_text.specs.Each.{each}
+use Rattle.lrc_step.specs.declared.given.Given.{Given}
 use Rattle.lrc_step.specs.declared.rivals.Rival.{Rival}
 use Rattle.lrc_step.specs.Spelling.{spelled}
 use Rattle.lrc_step.specs.declared.frame.TheConstants.{OPENING}
 use Rattle.lrc_step.specs.declared.script.TheConstants.{CLOSING}
+
+-- a number in a list
+abbrev pub number_at : ℕ → ℕ → List ℕ
+number_at place number = comma_text place ++ decimal number
+
+-- numbers in a list
+unfoldable pub numbers_text : List ℕ → List ℕ
+numbers_text numbers = codes "[" ++ each number_at numbers ++ codes "]"
+
+-- a number, or null where there is none
+abbrev pub optional_text : Option ℕ → List ℕ
+optional_text None = codes "null"
+optional_text (Some number) = decimal number
 
 -- a text between its quotation marks
 unfoldable pub quoted : List ℕ → List ℕ
@@ -60,19 +74,20 @@ rival_at node rival = comma_text node ++ rival_text rival
 abbrev pub rivals_text : List (Option Rival) → List ℕ
 rivals_text rivals = each rival_at rivals
 
--- why the act at a position is as it is, by lines; and by nodes the acts that race with it
-abbrev pub why_line : ℕ → List (List ℕ) → List (Option Rival) → List ℕ
-why_line position lines rivals =
-    codes "{\"why\":" ++ decimal position ++ codes ",\"lines\":[" ++ quoted_each lines ++ codes "],\"races\":[" ++ rivals_text rivals ++ codes "]}\n"
+-- by which writes a read gives what it gives: the last that it knows, and one that it does not; null of another act
+unfoldable pub given_text : Option Given → List ℕ
+given_text None = codes "null"
+given_text (Some given) = codes "{\"last\":" ++ numbers_text given.last.items ++ codes ",\"unknown\":" ++ optional_text given.unknown ++ codes "}"
+
+-- why the act at a position is as it is, by lines; by nodes the acts that race with it; and the writes that a read gives what it gives by
+abbrev pub why_line : ℕ → List (List ℕ) → List (Option Rival) → Option Given → List ℕ
+why_line position lines rivals given =
+    codes "{\"why\":" ++ decimal position ++ codes ",\"lines\":[" ++ quoted_each lines ++ codes "],\"races\":[" ++ rivals_text rivals
+    ++ codes "],\"gives\":" ++ given_text given ++ codes "}\n"
 
 -- two acts that race
 abbrev pub pair_text : ℕ → Pair → List ℕ
 pair_text place pair = comma_text place ++ codes "[" ++ decimal pair.earlier ++ codes "," ++ decimal pair.later ++ codes "]"
-
--- the number of a group, if it is one
-abbrev pub group_text : Option ℕ → List ℕ
-group_text None = codes "null"
-group_text (Some group) = decimal group
 
 abbrev pub pairs_text : List Pair → List ℕ
 pairs_text pairs = each pair_text pairs
@@ -85,7 +100,7 @@ group_site_text (Some site) = site_text site
 -- the pairs of a group, and the two accesses that its races are of
 abbrev pub race_line : Option ℕ → Option Site → List Pair → List ℕ
 race_line group site pairs =
-    codes "{\"race\":" ++ group_text group ++ codes ",\"pairs\":[" ++ pairs_text pairs ++ codes "]" ++ group_site_text site ++ codes "}\n"
+    codes "{\"race\":" ++ optional_text group ++ codes ",\"pairs\":[" ++ pairs_text pairs ++ codes "]" ++ group_site_text site ++ codes "}\n"
 
 -- the frame: what stands before the lines, and behind them
 unfoldable pub opening : List ℕ
@@ -113,6 +128,14 @@ IsPairOfWords pair = (pair.earlier < 2 ^ 64) × (pair.later < 2 ^ 64)
 -- the two lines are numbers of 64 bits
 abbrev pub IsSiteOfWords : Site → Type 0
 IsSiteOfWords site = (site.line < 2 ^ 64) × (site.later_line < 2 ^ 64)
+
+-- and so are all of these
+abbrev pub AreWords : List ℕ → Type 0
+AreWords numbers = All (λ number. number < 2 ^ 64) numbers
+
+-- and so are the positions of these writes
+abbrev pub IsGivenOfWords : Given → Type 0
+IsGivenOfWords given = AreWords given.last.items × IfSome given.unknown (λ number. number < 2 ^ 64)
 
 -- and so is the position
 abbrev pub IsRivalOfWords : Rival → Type 0

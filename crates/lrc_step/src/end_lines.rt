@@ -1,11 +1,10 @@
 // The line of the run with reasons.
 
 ghost use Rattle.std.specs.Prelude.{◌≡◌, ◌++◌, OnOk, map};
-ghost use Rattle.lrc_text.specs.Each.{each};
-ghost use Rattle.lrc_step.specs.EndLines.{circle_at, circle_text, circles_text, end_at, end_text, end_word, ends_text, explain_line, node_at};
+ghost use Rattle.lrc_step.specs.EndLines.{circle_at, circles_text, end_at, end_text, end_word, ends_text, explain_line};
 ghost use Rattle.lrc_step.specs.Lines.{lines_in};
 
-use crate::lines::{push_comma, push_printed};
+use crate::lines::{push_comma, push_numbers, push_printed};
 use lrc_explain_waits::Fate;
 use lrc_text::push_number;
 use std::alloc::{AllocError, Global};
@@ -93,30 +92,5 @@ fn push_circle_at(text: &mut Vec<u8>, place: usize, circle: &[usize]) -> Result<
     ensures { OnOk result (text.new.items ≡ text.old.items ++ circle_at place circle.now) }
 {
     push_comma(text, place)?;
-    push_circle(text, circle)
-}
-
-#[tactic(auto, unfolding(crate::specs::EndLines::circle_text))]
-fn push_circle(text: &mut Vec<u8>, circle: &[usize]) -> Result<(), AllocError>
-    ensures { OnOk result (text.new.items ≡ text.old.items ++ circle_text circle.now) }
-{
-    text.extend_from_slice(b"[")?;
-    push_nodes(text, circle)?;
-    text.extend_from_slice(b"]")
-}
-
-fn push_nodes(text: &mut Vec<u8>, nodes: &[usize]) -> Result<(), AllocError>
-    ensures { OnOk result (text.new.items ≡ text.old.items ++ each node_at nodes.now) }
-{
-    for (place, node) in nodes.iter().enumerate() {
-        push_node_at(text, place, *node)?;
-    }
-    Ok(())
-}
-
-fn push_node_at(text: &mut Vec<u8>, place: usize, node: usize) -> Result<(), AllocError>
-    ensures { OnOk result (text.new.items ≡ text.old.items ++ node_at place node) }
-{
-    push_comma(text, place)?;
-    push_number(text, b"", node as u64)
+    push_numbers(text, circle)
 }

@@ -155,7 +155,7 @@ main > * { min-height: 0; overflow: auto; scrollbar-width: thin; }
 #story h2 { color: var(--soft); font-size: .9rem; font-weight: 650; }
 #story ul { display: grid; gap: .15rem; }
 #story li { padding-left: .9em; text-indent: -.9em; }
-#story .nested { margin-left: 1.2em; }
+#story pre { margin: .3em 0 0; text-indent: 0; font: inherit; font-size: .9em; white-space: pre-wrap; }
 #why { flex: 1; }
 #flight { flex: 0 0 auto; }
 #flight:has(li) { flex-basis: 40%; }

@@ -3,10 +3,11 @@
 ghost use Rattle.std.specs.Prelude.{◌≡◌, ◌<◌, ◌^◌, ◌++◌, ℕ, All, IfSome, List, Option, [], codes};
 ghost use Rattle.lrc_judge.specs.declared.lanes.Pair.{Pair};
 ghost use Rattle.lrc_explain.specs.declared.site.Site.{Site};
+ghost use Rattle.lrc_step.specs.declared.given.Given.{Given};
 ghost use Rattle.lrc_step.specs.declared.rivals.Rival.{Rival};
 ghost use Rattle.lrc_step.specs.declared.end_lines.End.{End};
-ghost use Rattle.lrc_step.specs.EndLines.{AreWords, IsEndOfWords, explain_line};
-ghost use Rattle.lrc_step.specs.Lines.{HasNoMarkup, IsPairOfWords, IsRivalOfWords, IsSiteOfWords, program_line, race_line, why_line};
+ghost use Rattle.lrc_step.specs.EndLines.{IsEndOfWords, explain_line};
+ghost use Rattle.lrc_step.specs.Lines.{AreWords, HasNoMarkup, IsGivenOfWords, IsPairOfWords, IsRivalOfWords, IsSiteOfWords, program_line, race_line, why_line};
 ghost use Rattle.lrc_step.specs.Reading.{ended, plain, reads};
 ghost use Rattle.lrc_step.specs.Spelling.{spelled};
 
@@ -25,9 +26,11 @@ pub fn lines_have_no_markup()
         → All AreWords circles
         → HasNoMarkup (explain_line lines ends circles) }
     ensures why { (position : ℕ) (lines : List (List ℕ)) (rivals : List (Option Rival))
+        (given : Option Given)
         → position < 2 ^ 64
         → All (λ rival. IfSome rival IsRivalOfWords) rivals
-        → HasNoMarkup (why_line position lines rivals) }
+        → IfSome given IsGivenOfWords
+        → HasNoMarkup (why_line position lines rivals given) }
     ensures race { (group : Option ℕ) (site : Option Site) (pairs : List Pair)
         → IfSome group (λ number. number < 2 ^ 64)
         → IfSome site IsSiteOfWords

@@ -1,9 +1,11 @@
 // The lines of a run's data that are not its states.
 
 ghost use Rattle.std.specs.Prelude.{◌≡◌, ◌++◌, IfOk, OnOk, map};
-ghost use Rattle.lrc_step.specs.Lines.{access_text, comma_text, group_site_text, group_text, kind_text, lines_in, pair_text, pairs_text, program_line, quoted_at, quoted_each};
-ghost use Rattle.lrc_step.specs.Lines.{race_line, rival_at, rival_text, rivals_text, site_text, text_part, why_line};
+ghost use Rattle.lrc_text.specs.Each.{each};
+ghost use Rattle.lrc_step.specs.Lines.{access_text, comma_text, given_text, group_site_text, kind_text, lines_in, number_at, numbers_text, optional_text, pair_text, pairs_text, program_line};
+ghost use Rattle.lrc_step.specs.Lines.{quoted_at, quoted_each, race_line, rival_at, rival_text, rivals_text, site_text, text_part, why_line};
 
+use crate::given::Given;
 use crate::rivals::Rival;
 use crate::spelling::push_quoted;
 use lrc_explain::Site;
@@ -51,24 +53,43 @@ pub(crate) fn push_printed(
     push_quoted_each(text, &lines)
 }
 
-/// Adds the line that says why the act at a position is as it is, from the output of `why`, and the acts that race with
-/// it.
+/// Adds the line that says why the act at a position is as it is, from the output of `why`, from the acts that race with
+/// it, and from the writes that a read gives what it gives by.
 pub fn push_why_line(
     alloc: Global,
     text: &mut Vec<u8>,
     position: usize,
     printed: &[u8],
     rivals: &[Option<Rival>],
+    given: &Option<Given>,
 ) -> Result<(), AllocError>
     ensures { OnOk result (text.new.items
-        ≡ text.old.items ++ why_line position (lines_in printed.now) rivals.now) }
+        ≡ text.old.items ++ why_line position (lines_in printed.now) rivals.now given.now) }
 {
     push_number(text, b"{\"why\":", position as u64)?;
     text.extend_from_slice(b",\"lines\":[")?;
     push_printed(alloc, text, printed)?;
     text.extend_from_slice(b"],\"races\":[")?;
     push_rivals(text, rivals)?;
-    text.extend_from_slice(b"]}\n")
+    text.extend_from_slice(b"],\"gives\":")?;
+    push_given(text, given)?;
+    text.extend_from_slice(b"}\n")
+}
+
+#[tactic(auto, unfolding(crate::specs::Lines::given_text))]
+fn push_given(text: &mut Vec<u8>, given: &Option<Given>) -> Result<(), AllocError>
+    ensures { OnOk result (text.new.items ≡ text.old.items ++ given_text given.now) }
+{
+    match given {
+        Some(given) => {
+            text.extend_from_slice(b"{\"last\":")?;
+            push_numbers(text, &given.last)?;
+            text.extend_from_slice(b",\"unknown\":")?;
+            push_optional(text, given.unknown)?;
+            text.extend_from_slice(b"}")
+        }
+        None => text.extend_from_slice(b"null"),
+    }
 }
 
 fn push_rivals(text: &mut Vec<u8>, rivals: &[Option<Rival>]) -> Result<(), AllocError>
@@ -149,7 +170,7 @@ pub fn push_race_line(
     ensures { OnOk result (text.new.items ≡ text.old.items ++ race_line group site pairs.now) }
 {
     text.extend_from_slice(b"{\"race\":")?;
-    push_group(text, group)?;
+    push_optional(text, group)?;
     text.extend_from_slice(b",\"pairs\":[")?;
     push_pairs(text, pairs)?;
     text.extend_from_slice(b"]")?;
@@ -157,11 +178,11 @@ pub fn push_race_line(
     text.extend_from_slice(b"}\n")
 }
 
-fn push_group(text: &mut Vec<u8>, group: Option<usize>) -> Result<(), AllocError>
-    ensures { OnOk result (text.new.items ≡ text.old.items ++ group_text group) }
+fn push_optional(text: &mut Vec<u8>, number: Option<usize>) -> Result<(), AllocError>
+    ensures { OnOk result (text.new.items ≡ text.old.items ++ optional_text number) }
 {
-    match group {
-        Some(group) => push_number(text, b"", group as u64),
+    match number {
+        Some(number) => push_number(text, b"", number as u64),
         None => text.extend_from_slice(b"null"),
     }
 }
@@ -211,4 +232,30 @@ pub(crate) fn push_comma(text: &mut Vec<u8>, place: usize) -> Result<(), AllocEr
     } else {
         text.extend_from_slice(b",")
     }
+}
+
+/// Adds numbers in a list.
+#[tactic(auto, unfolding(crate::specs::Lines::numbers_text))]
+pub(crate) fn push_numbers(text: &mut Vec<u8>, numbers: &[usize]) -> Result<(), AllocError>
+    ensures { OnOk result (text.new.items ≡ text.old.items ++ numbers_text numbers.now) }
+{
+    text.extend_from_slice(b"[")?;
+    push_each_number(text, numbers)?;
+    text.extend_from_slice(b"]")
+}
+
+fn push_each_number(text: &mut Vec<u8>, numbers: &[usize]) -> Result<(), AllocError>
+    ensures { OnOk result (text.new.items ≡ text.old.items ++ each number_at numbers.now) }
+{
+    for (place, number) in numbers.iter().enumerate() {
+        push_number_at(text, place, *number)?;
+    }
+    Ok(())
+}
+
+fn push_number_at(text: &mut Vec<u8>, place: usize, number: usize) -> Result<(), AllocError>
+    ensures { OnOk result (text.new.items ≡ text.old.items ++ number_at place number) }
+{
+    push_comma(text, place)?;
+    push_number(text, b"", number as u64)
 }

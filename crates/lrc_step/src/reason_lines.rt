@@ -4,6 +4,7 @@ ghost use Rattle.std.specs.Prelude.{◌≡◌, ◌++◌, IfOk, OnOk, length, map
 ghost use Rattle.lrc_text.specs.Parts.{texts_of};
 ghost use Rattle.lrc_step.specs.ReasonLines.{asked_alone, whys_text};
 
+use crate::given::Given;
 use crate::push_why_line;
 use crate::rivals::Rival;
 use lrc_why_text::asked::Asked;
@@ -30,11 +31,14 @@ pub(crate) fn push_whys(
     positions: &[usize],
     printed: &[Vec<u8>],
     rivals: &[Vec<Option<Rival>>],
+    given: &[Option<Given>],
 ) -> Result<(), AllocError>
     requires printed { length printed.now ≡ length positions.now }
     requires rivals { length rivals.now ≡ length positions.now }
+    requires given { length given.now ≡ length positions.now }
     ensures { OnOk result (text.new.items ≡ text.old.items
-        ++ whys_text positions.now (texts_of printed.now) (map (λ one. one.items) rivals.now)) }
+        ++ whys_text positions.now (texts_of printed.now) (map (λ one. one.items) rivals.now)
+        given.now) }
 {
     for place in 0..positions.len() {
         push_why_line(
@@ -43,6 +47,7 @@ pub(crate) fn push_whys(
             positions[place],
             &printed[place],
             &rivals[place],
+            &given[place],
         )?;
     }
     Ok(())

@@ -6,6 +6,7 @@ ghost use Rattle.lrc_judge.specs.Order.{IsOrderOf};
 ghost use Rattle.lrc_step.specs.ReasonLines.{TellsWhys};
 
 use crate::Part;
+use crate::given::given_of_each;
 use crate::reason_lines::{asked_of, push_whys};
 use crate::rivals::rivals_of_each;
 use crate::told::positions_told;
@@ -18,7 +19,8 @@ use lrc_why_run::why_each;
 use std::alloc::{AllocError, Global};
 
 /// Returns the lines of reasons for a part of a run of the program of this source, on so many nodes and with this page
-/// size: for each act that gets reasons, the output of `why`, and by nodes the acts that race with it.
+/// size: for each act that gets reasons, the output of `why`, by nodes the acts that race with it, and of a read the writes
+/// that it gives what it gives by.
 pub fn reasons_part(
     alloc: Global,
     source: &Source<'_>,
@@ -39,7 +41,8 @@ pub fn reasons_part(
     let printed = why_each(alloc, source, nodes, page, acts, order, &asked)?;
     let lines = lines_of_acts(alloc, source.code(), source.lines(), nodes, acts)?;
     let rivals = rivals_of_each(alloc, acts, &lines, order, nodes, &positions)?;
+    let given = given_of_each(alloc, acts, order, &positions)?;
     let mut told = Vec::new(alloc);
-    push_whys(alloc, &mut told, &positions, &printed, &rivals)?;
+    push_whys(alloc, &mut told, &positions, &printed, &rivals, &given)?;
     Ok(told)
 }

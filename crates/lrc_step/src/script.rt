@@ -496,49 +496,57 @@ function notices({ state, before }) {
 }
 
 function drawStory(turn, flight) {
-  const why = reasonFirst(run.why.get(turn?.act?.position)?.lines.slice(1) ?? []);
+  const why = run.why.get(turn?.act?.position);
   const flying = flight.slice(-12).map(message => messageItem(message, { fresh: message.sent === at && turn }));
   const more = flight.length > 12 ? [make("li", {}, `${flight.length - 12} more`)] : [];
   regions.why.replaceChildren(
-    ...why.length ? list("Why", why.map(reasonItem)) : [],
+    ...why ? list("Why", reasonItems(turn.act, why)) : [],
     ...turn?.take ? list("Taken", [messageItem(turn.take)]) : [],
     ...at === lastMoment ? list("The run", runItems(run)) : []);
   regions.flight.replaceChildren(...list(flight.length ? `In flight: ${flight.length}` : "Nothing in flight", [...more, ...flying]));
 }
 
-/** The reason that the act is shown for comes first: what it gives, and its races. A line that stands deeper goes with the one above it. */
-function reasonFirst(lines) {
-  const isReason = line => /^  (gives|races)/.test(line);
-  const heads = lines.map((line, k) => lines.slice(0, k + 1).findLast(above => /^  \S/.test(above)) ?? line);
-  return [...lines.filter((_, k) => isReason(heads[k])), ...lines.filter((_, k) => !isReason(heads[k]))];
+/** Why the act is as it is: by which writes it gives what it gives, and which acts race with it; then what `why` prints of it, as it stands. */
+function reasonItems({ position, value }, { lines, races, gives }) {
+  return [
+    ...gives ? [make("li", { class: "gives" }, `gives ${value}`, ...givenBy(gives))] : [],
+    ...races.flatMap((rival, node) => rival ? [make("li", { class: "races" }, ...racesWith(position, rival, node))] : []),
+    make("li", {}, make("pre", {}, lines.slice(1).join("\n"))),
+  ];
 }
 
-function reasonItem(line) {
-  const [, indent, begins] = /^( *)(gives|races)?/.exec(line);
-  return lineItem(line, { [begins]: begins, nested: indent.length > 2 });
+function givenBy({ last, unknown }) {
+  const known = last.length ? [`; the last write${last.length === 1 ? "" : "s"} that it knows: `, ...last.flatMap((act, k) => [k ? ", " : "", actLink(act)])]
+    : [": it knows no write to the word"];
+  return unknown === null ? known : [...known, "; the last of all, which it does not know: ", actLink(unknown)];
 }
+
+function racesWith(position, { act, of }, node) {
+  const { line, kind } = of[act < position ? 0 : 1];
+  return ["races with ", actLink(act), `, a ${kind} of node ${node} in line ${line}`];
+}
+
+function actLink(act) {
+  const moment = run.momentOfAct.get(act);
+  return moment ? turnLink(moment, `act ${act}`) : `act ${act}`;
+}
+function turnLink(moment, text) { return make("a", { href: `#turn=${run.moments[moment].turn.turn}` }, text); }
 
 /** What `explain` tells of the run: how each node ended, without what it printed; the deadlocks; each group of races. */
 function runItems({ explain, ends, deadlocks, races }) {
   const kinds = [
-    ...ends.flatMap(({ end, prints }) => [...Array(prints).fill("print"), "", ...end === "ended" ? [] : [""]]),
-    ...deadlocks.map(() => "deadlock"),
-    ...groupsOf({ races }).flatMap(() => ["race", ""]),
+    ...ends.flatMap(({ end, prints }) => [...Array(prints).fill(["print"]), [""], ...end === "ended" ? [] : [[""]]]),
+    ...deadlocks.map(() => ["deadlock"]),
+    ...groupsOf({ races }).flatMap(({ pairs }) => [["race", pairs.flat().map(act => run.momentOfAct.get(act)).find(isKnown => isKnown)], [""]]),
   ];
-  return explain.flatMap((line, k) => kinds[k] === "print" ? [] : [lineItem(line, { [kinds[k]]: kinds[k] })]);
-}
-
-function lineItem(line, holds) { return make("li", { class: classes(holds) }, ...withLinks(line)); }
-function list(title, items) { return [make("h2", {}, title), make("ul", {}, ...items)]; }
-function messageItem({ from, to, message }, holds = {}) { return make("li", { class: classes(holds) }, badge(from), " \u2192 ", badge(to), ` ${message}`); }
-
-/** "act 4" becomes a link to the turn of that act. */
-function withLinks(line) {
-  return line.split(/(\bact \d+)/).map(part => {
-    const moment = run.momentOfAct.get(Number(part.match(/^act (\d+)$/)?.[1]));
-    return moment ? make("a", { href: `#turn=${run.moments[moment].turn.turn}` }, part) : part;
+  return explain.flatMap((line, k) => {
+    const [kind, moment] = kinds[k] ?? [""];
+    return kind === "print" ? [] : [make("li", { class: classes({ [kind]: kind }) }, moment ? turnLink(moment, line) : line)];
   });
 }
+
+function list(title, items) { return [make("h2", {}, title), make("ul", {}, ...items)]; }
+function messageItem({ from, to, message }, holds = {}) { return make("li", { class: classes(holds) }, badge(from), " \u2192 ", badge(to), ` ${message}`); }
 
 // ---- The picture of the run so far: a lane for each node, time from left to right ----
 

@@ -101,7 +101,7 @@ const OF_RACING: &[&[u8]] = &[
     br##""  to order them: one lock held at both, a barrier between, or a lock that node 0 releases after act 4 and "##,
     br##"node 1 acquires after that and before act 5","  interval 1 of node 0, time 0,0","  knows nothing of node 1","##,
     br##""  nobody can learn of it: node 0 releases no lock and comes to no barrier after it"],"##,
-    br##""races":[null,{"act":5,"of":[{"line":5,"kind":"write"},{"line":8,"kind":"read"}]}]}"##,
+    br##""races":[null,{"act":5,"of":[{"line":5,"kind":"write"},{"line":8,"kind":"read"}]}],"gives":null}"##,
     b"\n",
     br##"{"why":5,"lines":["act 5, node 1, line 8: read 1: 0","##,
     br##""  gives 0: no write of word 1 happens before it (last written: 2, by act 4)","##,
@@ -110,7 +110,8 @@ const OF_RACING: &[&[u8]] = &[
     br##""    held at act 4: no lock, at act 5: no lock; both before any barrier","##,
     br##""  to order them: one lock held at both, a barrier between, or a lock that node 0 releases after act 4 and "##,
     br##"node 1 acquires after that and before act 5","  interval 1 of node 1, time 0,0","  knows nothing of node 0"],"##,
-    br##""races":[{"act":4,"of":[{"line":5,"kind":"write"},{"line":8,"kind":"read"}]},null]}"##,
+    br##""races":[{"act":4,"of":[{"line":5,"kind":"write"},{"line":8,"kind":"read"}]},null],"##,
+    br##""gives":{"last":[],"unknown":4}}"##,
     b"\n",
 ];
 

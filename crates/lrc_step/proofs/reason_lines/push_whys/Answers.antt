@@ -1,10 +1,11 @@
-use Rattle.std.proofs.Common.{◌≡◌, ◌∙◌, ◌<◌, ◌++◌, [], ℕ, List, Option, Vec, ap, ap₂, append_assoc, arith, get_or, length, map, sym, take}
+use Rattle.std.proofs.Common.{◌≡◌, ◌∙◌, ◌<◌, ◌++◌, [], ℕ, List, None, Option, Vec, ap, ap₂, append_assoc, arith, get_or, length, map, sym, take}
 use Rattle.std.specs.declared.alloc.Global.{Global}
 use Rattle.std.proofs.lemmas.List.{get_or-map}
 use Rattle.lrc_text.specs.Each.{each}
 use Rattle.lrc_text.specs.Parts.{texts_of}
 use Rattle.lrc_text.proofs.Each.{each_more}
 use Rattle.lrc_step.specs.Lines.{lines_in, why_line}
+use Rattle.lrc_step.specs.declared.given.Given.{Given}
 use Rattle.lrc_step.specs.declared.rivals.Rival.{Rival}
 use Rattle.lrc_step.proofs.Answered.{rivals_of}
 use Rattle.lrc_step.proofs.reason_lines.push_whys.Goals as goal
@@ -19,9 +20,11 @@ loop-place-preserved c =
     let texts : List (List ℕ) = texts_of printed in
     let rivals = c.args.rivals.now in
     let all : List (List (Option Rival)) = map rivals_of rivals in
+    let given = c.args.given.now in
     let n = c.loop-place.place in
     let old = c.args.text.now.items in
-    let of : ℕ → ℕ → List ℕ = λ place position. why_line position (lines_in (get_or texts place [])) (get_or all place []) in
+    let of : ℕ → ℕ → List ℕ = λ place position. why_line position (lines_in (get_or texts place [])) (get_or all place [])
+    (get_or given place None) in
     let one = c.index-printed-place.result in
     let two = c.index-rivals-place.result in
     let within : n < length printed = omega arith in
@@ -29,8 +32,9 @@ loop-place-preserved c =
     let here : get_or texts n [] ≡ one.items = get_or-map bytes_of printed n one [] within ∙ ap bytes_of (sym c.index-printed-place.is) in
     let those : get_or all n [] ≡ two.items = get_or-map rivals_of rivals n two [] few ∙ ap rivals_of (sym c.index-rivals-place.is) in
     let position : ℕ = get_or positions n 0 in
+    let third : Option Given = get_or given n None in
     c.in_ok-push_why_line.ensures
-    ∙ ap₂ (λ (l : List ℕ) (r : List (Option Rival)). c.loop-place.text.items ++ why_line position (lines_in l) r)
+    ∙ ap₂ (λ (l : List ℕ) (r : List (Option Rival)). c.loop-place.text.items ++ why_line position (lines_in l) r third)
     (c.deref.ensures.value ∙ sym here) (c.deref-in-loop-place.ensures.value ∙ sym those)
     ∙ ap (λ (l : List ℕ). l ++ of n position) c.loop-place.invariant
     ∙ append_assoc old (each of (take n positions)) (of n position)
