@@ -19,7 +19,7 @@ use Rattle.lrc_explain_waits.specs.declared.stand.Fate.TheVariants.{Ended, Trapp
 use Rattle.lrc_step.specs.declared.end_lines.End.{End}
 use Rattle.lrc_step.specs.EndLines.{IsEndOfWords, circle_at, circles_text, end_at, end_text, end_word, ends_text}
 use Rattle.lrc_step.specs.Lines.{AreWords, HasNoMarkup, IsGivenOfWords, IsPairOfWords, IsRivalOfWords, IsSiteOfWords, access_text, comma_text, given_text, group_site_text, number_at, numbers_text, optional_text}
-use Rattle.lrc_step.specs.Lines.{pair_text, pairs_text, quoted, quoted_at, quoted_each, rival_at, rival_text, rivals_text, site_text, text_part}
+use Rattle.lrc_step.specs.Lines.{pair_text, pairs_text, quoted, quoted_at, quoted_each, rival_at, rival_text, rivals_text, site_text, text_part, writes_text}
 use Rattle.lrc_step.specs.Spelling.{byte_text, control_text, digit_of, spelled}
 use Rattle.lrc_step.proofs.Read.{by_choice}
 
@@ -166,15 +166,18 @@ numbers_unmarked numbers few =
     (each_unmarked (λ (number : ℕ). number < 2 ^ 64) number_at number_at_unmarked 0 numbers
     (recursion_from_All (λ (number : ℕ). number < 2 ^ 64) numbers few))) refl
 
-pub given_unmarked : (given : Option Given) → IfSome given IsGivenOfWords → AreUnmarked (given_text given)
-unfolding given_text
-given_unmarked None few = refl
-given_unmarked (Some given) few =
+writes_unmarked : (given : Given) → IsGivenOfWords given → AreUnmarked (writes_text given)
+unfolding writes_text
+writes_unmarked given few =
     let last = codes "{\"last\":" ++ numbers_text given.last.items in
     both (last ++ codes ",\"unknown\":" ++ optional_text given.unknown) (codes "}")
     (both (last ++ codes ",\"unknown\":") (optional_text given.unknown)
     (both last (codes ",\"unknown\":") (both (codes "{\"last\":") (numbers_text given.last.items) refl (numbers_unmarked given.last.items few.0)) refl)
     (optional_unmarked given.unknown few.1)) refl
+
+pub given_unmarked : (given : Option Given) → IfSome given IsGivenOfWords → AreUnmarked (given_text given)
+given_unmarked None few = refl
+given_unmarked (Some given) few = writes_unmarked given few
 
 pub rivals_unmarked : (rivals : List (Option Rival)) → All (λ rival. IfSome rival IsRivalOfWords) rivals → AreUnmarked (rivals_text rivals)
 rivals_unmarked rivals few =

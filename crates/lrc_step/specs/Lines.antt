@@ -74,10 +74,14 @@ rival_at node rival = comma_text node ++ rival_text rival
 abbrev pub rivals_text : List (Option Rival) → List ℕ
 rivals_text rivals = each rival_at rivals
 
--- by which writes a read gives what it gives: the last that it knows, and one that it does not; null of another act
-unfoldable pub given_text : Option Given → List ℕ
+-- by which writes a read gives what it gives: the last that it knows, and one that it does not
+unfoldable pub writes_text : Given → List ℕ
+writes_text given = codes "{\"last\":" ++ numbers_text given.last.items ++ codes ",\"unknown\":" ++ optional_text given.unknown ++ codes "}"
+
+-- the same, or null of an act that is no read
+abbrev pub given_text : Option Given → List ℕ
 given_text None = codes "null"
-given_text (Some given) = codes "{\"last\":" ++ numbers_text given.last.items ++ codes ",\"unknown\":" ++ optional_text given.unknown ++ codes "}"
+given_text (Some given) = writes_text given
 
 -- why the act at a position is as it is, by lines; by nodes the acts that race with it; and the writes that a read gives what it gives by
 abbrev pub why_line : ℕ → List (List ℕ) → List (Option Rival) → Option Given → List ℕ

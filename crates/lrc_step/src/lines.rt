@@ -3,7 +3,7 @@
 ghost use Rattle.std.specs.Prelude.{◌≡◌, ◌++◌, IfOk, OnOk, map};
 ghost use Rattle.lrc_text.specs.Each.{each};
 ghost use Rattle.lrc_step.specs.Lines.{access_text, comma_text, given_text, group_site_text, kind_text, lines_in, number_at, numbers_text, optional_text, pair_text, pairs_text, program_line};
-ghost use Rattle.lrc_step.specs.Lines.{quoted_at, quoted_each, race_line, rival_at, rival_text, rivals_text, site_text, text_part, why_line};
+ghost use Rattle.lrc_step.specs.Lines.{quoted_at, quoted_each, race_line, rival_at, rival_text, rivals_text, site_text, text_part, why_line, writes_text};
 
 use crate::given::Given;
 use crate::rivals::Rival;
@@ -76,20 +76,24 @@ pub fn push_why_line(
     text.extend_from_slice(b"}\n")
 }
 
-#[tactic(auto, unfolding(crate::specs::Lines::given_text))]
 fn push_given(text: &mut Vec<u8>, given: &Option<Given>) -> Result<(), AllocError>
     ensures { OnOk result (text.new.items ≡ text.old.items ++ given_text given.now) }
 {
     match given {
-        Some(given) => {
-            text.extend_from_slice(b"{\"last\":")?;
-            push_numbers(text, &given.last)?;
-            text.extend_from_slice(b",\"unknown\":")?;
-            push_optional(text, given.unknown)?;
-            text.extend_from_slice(b"}")
-        }
-        None => text.extend_from_slice(b"null"),
+        Some(given) => push_writes(text, given),
+        None => push_optional(text, None),
     }
+}
+
+#[tactic(auto, unfolding(crate::specs::Lines::writes_text))]
+fn push_writes(text: &mut Vec<u8>, given: &Given) -> Result<(), AllocError>
+    ensures { OnOk result (text.new.items ≡ text.old.items ++ writes_text given.now) }
+{
+    text.extend_from_slice(b"{\"last\":")?;
+    push_numbers(text, &given.last)?;
+    text.extend_from_slice(b",\"unknown\":")?;
+    push_optional(text, given.unknown)?;
+    text.extend_from_slice(b"}")
 }
 
 fn push_rivals(text: &mut Vec<u8>, rivals: &[Option<Rival>]) -> Result<(), AllocError>
