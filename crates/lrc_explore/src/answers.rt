@@ -152,17 +152,13 @@ pub fn task_of<'c>(
     ensures looked { IfOk result (λ task. task.looked ≡ looked_at most) }
     ensures noting { IfOk result (λ task. task.noting ≡ noting) }
 {
-    let (instructions, start) = code.parts();
+    let (flat, start) = Flat::of(code, nodes);
+    let live = live_names(alloc, flat.code)?;
     Ok(Task {
         program: code.program(),
-        flat: Flat {
-            code: instructions,
-            words: code.words(),
-            locks: code.locks(),
-            nodes,
-        },
+        flat,
         start,
-        live: live_names(alloc, instructions)?,
+        live,
         most,
         looked: looked_at(most),
         noting,

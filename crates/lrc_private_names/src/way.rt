@@ -62,15 +62,10 @@ impl<'c> Way<'c> {
         ensures unset { IfOk result (λ way. (name : ℕ)
             → slice_index_or way.set.items name None ≡ None) }
     {
-        let (instructions, place) = code.parts();
+        let (flat, place) = Flat::of(code, nodes);
         let set = vec![in alloc; None; 32]?;
         Ok(Way {
-            flat: Flat {
-                code: instructions,
-                words: code.words(),
-                locks: code.program().locks(),
-                nodes,
-            },
+            flat,
             spot: Spot {
                 me,
                 place,

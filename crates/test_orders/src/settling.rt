@@ -71,13 +71,7 @@ fn spot_at(place: usize) -> Spot
 fn settles_so(alloc: Global, row: Row) -> Result<bool, AllocError> {
     let program = parse(alloc, row.text).map_err(|_fault| AllocError)?;
     let code = Code::new(alloc, &program)?;
-    let (instructions, place) = code.parts();
-    let flat = Flat {
-        code: instructions,
-        words: code.words(),
-        locks: code.locks(),
-        nodes: 2,
-    };
+    let (flat, place) = Flat::of(&code, 2);
     let settling = settle_thread(alloc, &flat, &spot_at(place), row.most)?;
     let same = match &settling {
         Settling::Waits(_, made) | Settling::Turns(_, made) => made.as_slice() == row.deeds,

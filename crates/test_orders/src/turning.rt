@@ -10,13 +10,7 @@ use std::alloc::{AllocError, Global};
 fn course_at_start(alloc: Global, text: &[u8], most: u64) -> Result<Course, AllocError> {
     let program = parse(alloc, text).map_err(|_fault| AllocError)?;
     let code = Code::new(alloc, &program)?;
-    let (instructions, place) = code.parts();
-    let flat = Flat {
-        code: instructions,
-        words: code.words(),
-        locks: code.locks(),
-        nodes: 2,
-    };
+    let (flat, place) = Flat::of(&code, 2);
     let spot = Spot {
         me: 0,
         place,
