@@ -1,6 +1,7 @@
 pub mod Spelling
 pub mod Reading
 pub mod Lines
+pub mod Given
 pub mod EndLines
 pub mod Shown
 pub mod Rivals

@@ -11,14 +11,6 @@ use Rattle.lrc_step.specs.Spelling.{spelled}
 use Rattle.lrc_step.specs.declared.frame.TheConstants.{OPENING}
 use Rattle.lrc_step.specs.declared.script.TheConstants.{CLOSING}
 
--- a number in a list
-abbrev pub number_at : ℕ → ℕ → List ℕ
-number_at place number = comma_text place ++ decimal number
-
--- numbers in a list
-unfoldable pub numbers_text : List ℕ → List ℕ
-numbers_text numbers = codes "[" ++ each number_at numbers ++ codes "]"
-
 -- a number, or null where there is none
 abbrev pub optional_text : Option ℕ → List ℕ
 optional_text None = codes "null"
@@ -31,6 +23,14 @@ quoted text = codes "\"" ++ spelled text ++ codes "\""
 -- something in a list: a comma stands before each but the first
 abbrev pub comma_text : ℕ → List ℕ
 comma_text place = if place == 0 then [] else codes ","
+
+-- a number in a list
+abbrev pub number_at : ℕ → ℕ → List ℕ
+number_at place number = comma_text place ++ decimal number
+
+-- numbers in a list
+unfoldable pub numbers_text : List ℕ → List ℕ
+numbers_text numbers = codes "[" ++ each number_at numbers ++ codes "]"
 
 abbrev pub quoted_at : ℕ → List ℕ → List ℕ
 quoted_at place text = comma_text place ++ quoted text

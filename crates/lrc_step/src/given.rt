@@ -13,6 +13,7 @@ use lrc_why_chains::writes::{known_writes, last_written, unfollowed};
 use std::alloc::{AllocError, Global};
 
 /// The writes that a read gives what it gives by, as positions among the acts of the run.
+#[derive(Drop)]
 pub struct Given {
     /// The writes to its word that it knows and that happen before no other one that it knows, ascending.
     pub last: Vec<usize>,
@@ -21,7 +22,7 @@ pub struct Given {
 }
 
 // Those of the read at the position, which is of this word.
-fn given(
+fn writes_given(
     alloc: Global,
     acts: &[Act],
     order: &Order,
@@ -51,7 +52,7 @@ fn given_at(
 {
     match acts[position].deed {
         Deed::Read(word, _) => {
-            let given = given(alloc, acts, order, position, word)?;
+            let given = writes_given(alloc, acts, order, position, word)?;
             Ok(Some(given))
         }
         _ => Ok(None),

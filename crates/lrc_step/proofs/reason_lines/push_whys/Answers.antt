@@ -1,6 +1,7 @@
-use Rattle.std.proofs.Common.{◌≡◌, ◌∙◌, ◌<◌, ◌++◌, [], ℕ, List, None, Option, Vec, ap, ap₂, append_assoc, arith, get_or, length, map, sym, take}
+use Rattle.std.proofs.Common.{◌≡◌, ◌∙◌, ◌<◌, ◌++◌, [], ℕ, List, None, Option, Some, Vec, ap, ap₂, append_assoc, arith, get_or, length, map, sym, take}
 use Rattle.std.specs.declared.alloc.Global.{Global}
 use Rattle.std.proofs.lemmas.List.{get_or-map}
+use Rattle.std.proofs.lemmas.Option.{same_Some, slice_get-get_or}
 use Rattle.lrc_text.specs.Each.{each}
 use Rattle.lrc_text.specs.Parts.{texts_of}
 use Rattle.lrc_text.proofs.Each.{each_more}
@@ -32,10 +33,14 @@ loop-place-preserved c =
     let here : get_or texts n [] ≡ one.items = get_or-map bytes_of printed n one [] within ∙ ap bytes_of (sym c.index-printed-place.is) in
     let those : get_or all n [] ≡ two.items = get_or-map rivals_of rivals n two [] few ∙ ap rivals_of (sym c.index-rivals-place.is) in
     let position : ℕ = get_or positions n 0 in
-    let third : Option Given = get_or given n None in
+    let three = c.index-given-place.result in
+    let some : n < length given = omega arith in
+    let known : get_or given n None ≡ three = same_Some (get_or given n None) three
+    (sym (slice_get-get_or given n None some) ∙ slice_get-get_or given n three some ∙ ap Some (sym c.index-given-place.is)) in
     c.in_ok-push_why_line.ensures
-    ∙ ap₂ (λ (l : List ℕ) (r : List (Option Rival)). c.loop-place.text.items ++ why_line position (lines_in l) r third)
+    ∙ ap₂ (λ (l : List ℕ) (r : List (Option Rival)). c.loop-place.text.items ++ why_line position (lines_in l) r three)
     (c.deref.ensures.value ∙ sym here) (c.deref-in-loop-place.ensures.value ∙ sym those)
+    ∙ ap (λ (g : Option Given). c.loop-place.text.items ++ why_line position (lines_in (get_or texts n [])) (get_or all n []) g) (sym known)
     ∙ ap (λ (l : List ℕ). l ++ of n position) c.loop-place.invariant
     ∙ append_assoc old (each of (take n positions)) (of n position)
     ∙ ap (λ (l : List ℕ). old ++ l) (sym (each_more of positions n 0 c.loop-place-test.true))

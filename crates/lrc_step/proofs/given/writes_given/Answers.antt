@@ -1,6 +1,6 @@
 use Rattle.std.proofs.Common.{ℕ, List, subst, sym}
 use Rattle.lrc_why_chains.specs.Writes.{AreExactly, IsKnownWrite}
-use Rattle.lrc_step.proofs.given.given.Goals as goal
+use Rattle.lrc_step.proofs.given.writes_given.Goals as goal
 
 pub returns : goal.returns
 returns c value reads =
