@@ -22,6 +22,6 @@ findings_told-requires-clause-through c =
 pub met_told-requires-clause-many : goal.met_told-requires-clause-many
 met_told-requires-clause-many c = subst (IsSought c.args.task.now c.seek.new.self false) c.in-Many.is c.in_ok-sought.ensures.sought
 
-pub returns-in-Many-clause-findings : goal.returns-in-Many-clause-findings
-returns-in-Many-clause-findings c =
-    subst (IsTaskSearched c.args.task.now) (sym c.searched_of.ensures) (is_searched c.args.task.now c.in_ok-met.met c.in_ok-met.ensures.met)
+pub returns-in_ok-met-in-Many-clause-findings : goal.returns-in_ok-met-in-Many-clause-findings
+returns-in_ok-met-in-Many-clause-findings c =
+    subst (IsTaskSearched c.args.task.now) (sym c.searched_of.ensures) (is_searched c.args.task.now c.in_ok-met-in-Many.met c.in_ok-met-in-Many.ensures.met)
