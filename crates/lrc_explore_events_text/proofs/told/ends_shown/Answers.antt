@@ -12,18 +12,18 @@ pub found_shown-requires-clause-end : goal.found_shown-requires-clause-end
 found_shown-requires-clause-end c =
     (true, (subst (IsEndAnswer c.args.program.now c.args.nodes c.args.most c.args.races) c.in-Through.is c.in_ok-found.ensures.answer).1.end)
 
-pub returns-in-Through-clause-shows : goal.returns-in-Through-clause-shows
-returns-in-Through-clause-shows c =
+pub returns-in_ok-shown-in-Through-clause-shows : goal.returns-in_ok-shown-in-Through-clause-shows
+returns-in_ok-shown-in-Through-clause-shows c =
     let is = subst (IsEndAnswer c.args.program.now c.args.nodes c.args.most c.args.races) c.in-Through.is c.in_ok-found.ensures.answer in
-    free is.0 (c.in_ok-shown.ensures true is.1.end)
+    free is.0 (c.in_ok-shown-in-Through.ensures true is.1.end)
 
 pub race_shown-requires-clause-ends : goal.race_shown-requires-clause-ends
 race_shown-requires-clause-ends c =
     subst (EndsInRace c.args.program.now c.args.nodes) (sym c.deref.ensures.value)
     (subst (IsEndAnswer c.args.program.now c.args.nodes c.args.most c.args.races) c.in-Racy.is c.in_ok-found.ensures.answer).1
 
-pub returns-in-Racy-clause-shows : goal.returns-in-Racy-clause-shows
-returns-in-Racy-clause-shows c =
+pub returns-in_ok-shown-in-Racy-clause-shows : goal.returns-in_ok-shown-in-Racy-clause-shows
+returns-in_ok-shown-in-Racy-clause-shows c =
     let is = subst (IsEndAnswer c.args.program.now c.args.nodes c.args.most c.args.races) c.in-Racy.is c.in_ok-found.ensures.answer in
     let shown = c.in_ok-shown-in-Racy.shown in
     let e = c.in_ok-shown-in-Racy.ensures in
@@ -33,9 +33,9 @@ pub met_shown-requires-clause-gave : goal.met_shown-requires-clause-gave
 met_shown-requires-clause-gave c =
     (c.args.most, c.args.races, subst (IsEndAnswer c.args.program.now c.args.nodes c.args.most c.args.races) c.in-Many.is c.in_ok-found.ensures.answer)
 
-pub returns-in-Many-clause-shows : goal.returns-in-Many-clause-shows
-returns-in-Many-clause-shows c = record {
+pub returns-in_ok-text-in-Many-clause-shows : goal.returns-in_ok-text-in-Many-clause-shows
+returns-in_ok-text-in-Many-clause-shows c = record {
   met = c.in-Many.met;
   gave = subst (IsEndAnswer c.args.program.now c.args.nodes c.args.most c.args.races) c.in-Many.is c.in_ok-found.ensures.answer;
-  shows = c.in_ok-text.ensures;
+  shows = c.in_ok-text-in-Many.ensures;
 }

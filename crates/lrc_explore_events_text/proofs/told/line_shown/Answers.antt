@@ -38,20 +38,20 @@ pub met_shown-requires-clause-gave : goal.met_shown-requires-clause-gave
 met_shown-requires-clause-gave c =
     (c.args.most, false, (subst (IsSearched c.args.program.now c.args.nodes c.args.most) c.in-Many.is c.in_ok-found.ensures.findings).0)
 
-pub returns-in-Many-clause-shows : goal.returns-in-Many-clause-shows
-returns-in-Many-clause-shows c =
+pub returns-in_ok-text-in-Many-clause-shows : goal.returns-in_ok-text-in-Many-clause-shows
+returns-in_ok-text-in-Many-clause-shows c =
     let gave = (subst (IsSearched c.args.program.now c.args.nodes c.args.most) c.in-Many.is c.in_ok-found.ensures.findings).0 in
     record {
       met = c.in-Many.met;
       gave = subst (λ b. GaveUp c.args.program.now c.args.nodes c.args.most b c.in-Many.met) (sym c.if-races.false) gave;
-      shows = c.in_ok-text.ensures;
+      shows = c.in_ok-text-in-Many.ensures;
     }
 
-pub returns-in-All-clause-shows : goal.returns-in-All-clause-shows
-returns-in-All-clause-shows c =
-    let shown = c.in_ok-shown.shown in
+pub returns-in_ok-shown-in-All-clause-shows : goal.returns-in_ok-shown-in-All-clause-shows
+returns-in_ok-shown-in-All-clause-shows c =
+    let shown = c.in_ok-shown-in-All.shown in
     subst (λ b. ShowsLine c.args.program.now c.args.nodes c.args.races b c.args.line shown.text.items shown.status) (sym c.if-ends.false)
-    (free (λ is. let never : true ≡ false = sym is ∙ c.if-races.false in cc) (c.in_ok-shown.ensures false refl))
+    (free (λ is. let never : true ≡ false = sym is ∙ c.if-races.false in cc) (c.in_ok-shown-in-All.ensures false refl))
 
 pub returns-then-races-clause-too_many : goal.returns-then-races-clause-too_many
 returns-then-races-clause-too_many c =

@@ -9,9 +9,9 @@ pub met_shown-requires-clause-gave : goal.met_shown-requires-clause-gave
 met_shown-requires-clause-gave c =
     (c.args.most, true, subst (IsExplored c.args.program.now c.args.nodes c.args.most) c.in-Many.is c.in_ok-verdict.ensures.answer)
 
-pub returns-in-Many-clause-shows : goal.returns-in-Many-clause-shows
-returns-in-Many-clause-shows c = record {
+pub returns-in_ok-text-in-Many-clause-shows : goal.returns-in_ok-text-in-Many-clause-shows
+returns-in_ok-text-in-Many-clause-shows c = record {
   met = c.in-Many.met;
   gave = subst (IsExplored c.args.program.now c.args.nodes c.args.most) c.in-Many.is c.in_ok-verdict.ensures.answer;
-  shows = c.in_ok-text.ensures;
+  shows = c.in_ok-text-in-Many.ensures;
 }

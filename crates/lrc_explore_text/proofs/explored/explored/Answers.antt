@@ -6,8 +6,8 @@ use Rattle.lrc_text.specs.Parts.{whole_text}
 use Rattle.lrc_explore_text.proofs.Telling.{gives_up, of_orders, of_outcomes}
 use Rattle.lrc_explore_text.proofs.explored.explored.Goals as goal
 
-pub returns-then-outcomes-clause-ok : goal.returns-then-outcomes-clause-ok
-returns-then-outcomes-clause-ok c =
+pub returns-in_ok-printout-clause-ok : goal.returns-in_ok-printout-clause-ok
+returns-in_ok-printout-clause-ok c =
     let printout = c.in_ok-printout.printout in
     of_outcomes (wording_of c.args.wording.now) c.args.program.now c.args.nodes c.args.lines.now c.args.most c.args.outcomes c.if-outcomes.true
     (whole_text printout.parts.items) printout.status c.in_ok-printout.ensures.text c.in_ok-printout.ensures.status

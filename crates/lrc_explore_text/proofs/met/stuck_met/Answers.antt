@@ -1,24 +1,26 @@
 use Rattle.std.proofs.Common.{List, ℕ, Option, subst, sym}
 use Rattle.std.specs.Prelude.{map, option_map}
 use Rattle.lrc_explain_waits.specs.Traps.{wording_of}
+use Rattle.lrc_orders.specs.Stuck.{GetsStuck}
 use Rattle.lrc_explore.specs.Met.{IsStuckOrder}
 use Rattle.lrc_explore_text.specs.Met.{SaysStuckMet}
 use Rattle.lrc_explore_text.specs.Sections.{section_text}
 use Rattle.lrc_explore_text.proofs.Telling.{told_stuck}
 use Rattle.lrc_explore_text.proofs.met.stuck_met.Goals as goal
 
-pub returns-in-None : goal.returns-in-None
-returns-in-None c =
-    let section = c.in_ok-section.section in
+pub returns-in_ok-section-in-None : goal.returns-in_ok-section-in-None
+returns-in_ok-section-in-None c =
+    let section = c.in_ok-section-in-None.section in
     subst (λ o. SaysStuckMet (wording_of c.args.wording.now) c.args.program.now c.args.nodes c.args.lines.now (option_map (λ order. order.items) o) (section_text section))
-    (sym c.in-None.is) c.in_ok-section.ensures.text
+    (sym c.in-None.is) c.in_ok-section-in-None.ensures.text
 
 pub stuck_told-requires-clause-stuck : goal.stuck_told-requires-clause-stuck
 stuck_told-requires-clause-stuck c =
-    subst (λ o. IsStuckOrder c.args.program.now c.args.nodes (option_map (λ order. order.items) o)) c.in-Some.is c.requires.stuck
+    subst (GetsStuck c.args.program.now c.args.nodes) (sym c.deref.ensures.value)
+    (subst (λ o. IsStuckOrder c.args.program.now c.args.nodes (option_map (λ order. order.items) o)) c.in-Some.is c.requires.stuck)
 
-pub returns-in-Some : goal.returns-in-Some
-returns-in-Some c =
+pub returns-in_ok-section-in-Some : goal.returns-in_ok-section-in-Some
+returns-in_ok-section-in-Some c =
     let section = c.in_ok-section-in-Some.section in
     let order = subst (λ o. IsStuckOrder c.args.program.now c.args.nodes (option_map (λ order. order.items) o)) c.in-Some.is c.requires.stuck in
     subst (λ o. SaysStuckMet (wording_of c.args.wording.now) c.args.program.now c.args.nodes c.args.lines.now (option_map (λ order. order.items) o) (section_text section))

@@ -10,9 +10,9 @@ pub met_told-requires-clause-gave : goal.met_told-requires-clause-gave
 met_told-requires-clause-gave c =
     (c.args.most, true, subst (IsExplored c.args.program.now c.args.nodes c.args.most) c.in-Many.is c.in_ok-verdict.ensures.answer)
 
-pub returns-in-Many-clause-ok : goal.returns-in-Many-clause-ok
-returns-in-Many-clause-ok c = record {
+pub returns-in_ok-parts-in-Many-clause-ok : goal.returns-in_ok-parts-in-Many-clause-ok
+returns-in_ok-parts-in-Many-clause-ok c = record {
   met = c.in-Many.met;
   gave = subst (IsExplored c.args.program.now c.args.nodes c.args.most) c.in-Many.is c.in_ok-verdict.ensures.answer;
-  says = c.in_ok-parts.ensures;
+  says = c.in_ok-parts-in-Many.ensures;
 }
