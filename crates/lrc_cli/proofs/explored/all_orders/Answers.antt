@@ -7,7 +7,7 @@ use Rattle.lrc_named_core.specs.View.{trap_of}
 use Rattle.lrc_named_core.specs.declared.tree.Trap as code_trap
 use Rattle.lrc_explain_waits.specs.Traps.{Wording}
 use Rattle.lrc_cli_answer.specs.Labels.{labels_in}
-use Rattle.lrc_cli.specs.Answer.{IsAnswerTo, wording_in}
+use Rattle.lrc_cli.specs.Answer.{IsAnswerTo, IsSaid, IsSaidMet, wording_in}
 use Rattle.lrc_cli.specs.Met.{IsMetIn}
 use Rattle.lrc_cli.proofs.AnswerLemmas.{answered_weaker}
 use Rattle.lrc_cli.proofs.explored.all_orders.Goals as goal
@@ -30,7 +30,8 @@ returns-clause-ok c =
       traps = option_map (λ (list : Bor (List code_trap.Trap)). map trap_of list.now) c.traps.result;
     } in
     IfOk-weaker c.in_memory.result _ _
-    (answered_weaker _ _ _ _
+    (answered_weaker (IsAnswerTo exploring.memory exploring seen program c.deref-2.result.now) (IsSaid exploring text program)
+    (IsMetIn exploring.memory exploring seen program c.deref-2.result.now) (IsSaidMet exploring text program)
     (λ out status says. (
       c.in_ok-lines.lines.items,
       c.in_ok-lines.ensures program c.requires,
