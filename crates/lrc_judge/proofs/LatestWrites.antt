@@ -127,21 +127,22 @@ value_none written word value position n none old b =
 -- ---- flags
 
 pub flags-push : (run : List Act) (n : ℕ) (xs zs : List Bool) (flag : Bool) → length xs ≡ n → zs ≡ xs ++ flag ∷ []
-    → ((word value : ℕ) → IsDone run n (Write word value) → (flag ≡ true) ↔ AreOrdered run n word) → AreFlags run n xs → AreFlags run (n + 1) zs
-flags-push run n xs zs flag long pushed now old = λ k word value lt done.
+    → ((j word read value : ℕ) → IsDone run j (Read word read) → IsDone run n (Write word value) → (flag ≡ true) ↔ AreOrdered run n word)
+    → AreFlags run n xs → AreFlags run (n + 1) zs
+flags-push run n xs zs flag long pushed now old = λ j word read is_read k value lt done.
     elim (cases_eq k n) [
       | inl same ↦
           let at : k ≡ length xs = same ∙ sym long in
           let seam : slice_get (xs ++ flag ∷ []) (length xs) ≡ Some flag = slice_get-seam xs flag [] in
           let is : get_or zs k false ≡ flag = rw (pushed, at) (get_or_from_slice_get (xs ++ flag ∷ []) (length xs) flag false seam) in
           let here : (flag ≡ true) ↔ AreOrdered run k word =
-          subst (λ m. (flag ≡ true) ↔ AreOrdered run m word) (sym same) (now word value (subst (λ m. IsDone run m (Write word value)) same done)) in
+          subst (λ m. (flag ≡ true) ↔ AreOrdered run m word) (sym same) (now j word read value is_read (subst (λ m. IsDone run m (Write word value)) same done)) in
           subst (λ b. (b ≡ true) ↔ AreOrdered run k word) (sym is) here
       | inr other ↦
           let within : k < length xs = omega arith in
           let front : slice_get (xs ++ flag ∷ []) k ≡ Some (get_or xs k false) = slice_get-front xs (flag ∷ []) k within ∙ slice_get-get_or xs k false within in
           let is : get_or zs k false ≡ get_or xs k false = rw pushed (get_or_from_slice_get (xs ++ flag ∷ []) k (get_or xs k false) false front) in
-          subst (λ b. (b ≡ true) ↔ AreOrdered run k word) (sym is) (old k word value (omega arith) done)
+          subst (λ b. (b ≡ true) ↔ AreOrdered run k word) (sym is) (old j word read is_read k value (omega arith) done)
     ]
 
 -- what is judged of a read

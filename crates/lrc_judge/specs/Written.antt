@@ -1,7 +1,7 @@
 -- The writes to a word that happen before a position, by what is known of lanes.
 use Rattle.std.specs.Prelude.{◌≡◌, ℕ, ◌<◌, ◌≤◌, ◌↔◌, ◌⊎◌, Bool, false, IsTrue, List, Option, Some, None, Contains, slice_index_or}
 use Rattle.lrc_trace.specs.declared.act.Act.{Act}
-use Rattle.lrc_trace.specs.declared.act.Deed.TheVariants.{Write}
+use Rattle.lrc_trace.specs.declared.act.Deed.TheVariants.{Read, Write}
 use Rattle.lrc_trace.specs.Run.{IsDone}
 use Rattle.lrc_trace.specs.Reading.{AreOrdered}
 use Rattle.lrc_judge.specs.declared.entries.Told.TheVariants.{EachWrite, EachValue}
@@ -48,7 +48,11 @@ pub record IsValueBelow (written : Written) (word value below position : ℕ) : 
   pub there : Contains written.by_value.items (entry (record { word = word; value = value; node = node }) i)
   pub before : IsTrue (is_before written.order i position)
 
--- of each write before position n it is known whether the writes before it are ordered
-abbrev pub AreFlags : List Act → ℕ → List Bool → Type 0
-AreFlags run n ordered = (k word value : ℕ) → k < n → IsDone run k (Write word value)
+-- of each write of the word before position n it is known whether the writes before it are ordered
+abbrev pub AreFlagsOf : List Act → ℕ → ℕ → List Bool → Type 0
+AreFlagsOf run word n ordered = (k value : ℕ) → k < n → IsDone run k (Write word value)
     → IsTrue (slice_index_or ordered k false) ↔ AreOrdered run k word
+
+-- that is known of each word that is read
+abbrev pub AreFlags : List Act → ℕ → List Bool → Type 0
+AreFlags run n ordered = (j word read : ℕ) → IsDone run j (Read word read) → AreFlagsOf run word n ordered

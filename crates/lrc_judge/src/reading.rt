@@ -8,7 +8,7 @@ ghost use Rattle.lrc_judge.specs.Adding.{Adds};
 ghost use Rattle.lrc_judge.specs.Allowed.{AreAllowed};
 ghost use Rattle.lrc_judge.specs.Order.{is_before, IsOrderOf};
 ghost use Rattle.lrc_judge.specs.Tally.{IsTally};
-ghost use Rattle.lrc_judge.specs.Reading.{Misreads, IsFirstMisread};
+ghost use Rattle.lrc_judge.specs.Reading.{AreRead, Misreads, IsFirstMisread};
 ghost use Rattle.lrc_judge.specs.Written.{AreFlags, IsWrittenOf};
 ghost use Rattle.lrc_judge.specs.declared.TheConstants.{NODES};
 
@@ -17,6 +17,7 @@ use crate::order::Order;
 use crate::written::Written;
 use lrc_trace::act::{Act, Deed};
 use std::alloc::{AllocError, Global};
+use std::collections::BTreeSet;
 
 /// A write: its position, and its value.
 #[derive(Clone, Copy)]
@@ -148,18 +149,42 @@ pub fn values_allowed(
     Ok(values)
 }
 
-// Whether any two of the writes that happen before the write at this position are ordered. Of another act nothing is asked.
-fn flag_at(written: &Written, ordered: &[bool], acts: &[Act], position: usize) -> bool
+// The words that are read.
+fn words_read(alloc: Global, acts: &[Act]) -> Result<BTreeSet<u32>, AllocError>
+    ensures { IfOk result (AreRead acts.now (length acts.now)) }
+{
+    let mut words = BTreeSet::new(alloc);
+    for position in 0..acts.len() {
+        if let Deed::Read(word, _) = acts[position].deed {
+            words.insert(word)?;
+        }
+    }
+    Ok(words)
+}
+
+// Whether any two of the writes that happen before the write at this position are ordered, if its word is read. Of
+// another act nothing is asked.
+fn flag_at(
+    written: &Written,
+    words: &BTreeSet<u32>,
+    ordered: &[bool],
+    acts: &[Act],
+    position: usize,
+) -> bool
     requires written { IsWrittenOf acts.now written.now }
+    requires words { AreRead acts.now (length acts.now) words.now }
     requires nodes { All (λ act. act.node < NODES) acts.now }
     requires flags { AreFlags acts.now position ordered.now }
     requires long { position ≤ length ordered.now }
     requires within { position < length acts.now }
-    ensures { (word value : ℕ) → IsDone acts.now position (Write word value) → IsTrue result
+    ensures { (j word read value : ℕ) → IsDone acts.now j (Read word read)
+        → IsDone acts.now position (Write word value) → IsTrue result
         ↔ AreOrdered acts.now position word }
 {
     match acts[position].deed {
-        Deed::Write(word, _) => written.are_ordered(ordered, word, position),
+        Deed::Write(word, _) => {
+            !words.contains(&word) || written.are_ordered(ordered, word, position)
+        }
         _ => true,
     }
 }
@@ -194,12 +219,13 @@ pub fn first_fault_of_reading(alloc: Global, acts: &[Act]) -> Result<Option<usiz
         (IsFirstMisread acts.now)) }
 {
     let written = Written::of(alloc, acts)?;
+    let words = words_read(alloc, acts)?;
     let mut ordered = Vec::new(alloc);
     for position in 0..acts.len() {
         if !is_allowed(&written, ordered.as_slice(), acts, position) {
             return Ok(Some(position));
         }
-        let flag = flag_at(&written, ordered.as_slice(), acts, position);
+        let flag = flag_at(&written, &words, ordered.as_slice(), acts, position);
         ordered.push(flag)?;
     }
     Ok(None)

@@ -21,7 +21,7 @@ pub struct Written {
 impl Written {
     ghost use Rattle.lrc_trace.specs.declared.act.Act.{Act};
     ghost use Rattle.lrc_trace.specs.Reading.{AreOrdered, MayRead};
-    ghost use Rattle.lrc_judge.specs.Written.{AllLead, AreFlags, AreReady, IsLatestBelow, IsValueBelow, IsWrittenOf};
+    ghost use Rattle.lrc_judge.specs.Written.{AllLead, AreFlagsOf, AreReady, IsLatestBelow, IsValueBelow, IsWrittenOf};
 
     /// Returns the order and the writes of a run. It fails only if memory runs out.
     pub fn of(alloc: Global, acts: &[Act]) -> Result<Written, AllocError>
@@ -83,7 +83,7 @@ impl Written {
         requires ready { AreReady self.now }
         requires long { position ≤ length ordered.now }
         ensures { (run : List Act) → IsWrittenOf run self.now → All (λ act. act.node < NODES) run
-            → AreFlags run position ordered.now
+            → AreFlagsOf run word position ordered.now
             → IsTrue result ↔ AreOrdered run position word }
     {
         match self.latest(word, position) {

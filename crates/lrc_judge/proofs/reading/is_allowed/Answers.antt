@@ -6,7 +6,12 @@ use Rattle.lrc_judge.proofs.LatestWrites.{judged}
 use Rattle.lrc_judge.proofs.reading.is_allowed.Goals as goal
 
 pub allows-requires-clause-flag : goal.allows-requires-clause-flag
-allows-requires-clause-flag c = c.are_ordered-is_ordered.ensures c.args.acts.now c.requires.written c.requires.nodes c.requires.flags
+allows-requires-clause-flag c =
+    let quiet : Act = record { node = 0; deed = Quiet } in
+    let run = c.args.acts.now in
+    let here = Does-deed c.in-Read.is (Does-read run c.args.position quiet c.requires.within) in
+    c.are_ordered-is_ordered.ensures run c.requires.written c.requires.nodes
+    (c.requires.flags c.args.position c.in-Read.word c.in-Read.value (_, here))
 
 pub returns-in-Read : goal.returns-in-Read
 returns-in-Read c =

@@ -10,7 +10,7 @@ returns-then-ordered-latest c = λ run are in_range flags.
     let written = c.args.self.now in
     let latest = c.in-Some.latest in
     let found = latest_written run written are in_range c.args.word c.args.position latest c.in-Some.ensures in
-    let flag = flags latest c.args.word found.1.0 found.0 found.1.1 in
+    let flag = flags latest found.1.0 found.0 found.1.1 in
     let set : get_or c.args.ordered.now latest false ≡ true = c.if-ordered-latest.true in
     ordered_iff run written are in_range c.args.word c.args.position latest true c.leads.result c.in-Some.ensures
     (λ _. flag.0 set, λ _. refl) (c.leads.ensures run are)
@@ -20,7 +20,7 @@ returns-else-ordered-latest c = λ run are in_range flags.
     let written = c.args.self.now in
     let latest = c.in-Some.latest in
     let found = latest_written run written are in_range c.args.word c.args.position latest c.in-Some.ensures in
-    let flag = flags latest c.args.word found.1.0 found.0 found.1.1 in
+    let flag = flags latest found.1.0 found.0 found.1.1 in
     let unset : get_or c.args.ordered.now latest false ≡ false = c.if-ordered-latest.false in (
       λ t. absurd (false≢true (sym unset ∙ t)),
       λ o. flag.1 (ordered_flag run written are in_range c.args.word c.args.position latest c.in-Some.ensures o),
