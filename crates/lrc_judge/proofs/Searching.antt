@@ -2,6 +2,7 @@
 use Rattle.std.proofs.Common.{◌≡◌, ℕ, ◌+◌, ◌-◌, ◌<◌, ◌≤◌, ◌⊎◌, ◌++◌, List, [], ◌∷◌, length, get_or, inl, inr, refl, sym, subst, ◌∙◌, ap, arith}
 use Rattle.std.specs.Prelude.{◌&&◌, ◌==◌, not, Bool, true, false, Contains, Some, slice_get}
 use Rattle.std.specs.Ordering.{nat_cmp}
+use Rattle.std.specs.List.{AllWithin}
 use Rattle.std.specs.Cmp.{IsTotalOrder}
 use Rattle.std.specs.List.Sorted.{IsStrictlySortedBy, IsPartitionPoint}
 use Rattle.std.specs.declared.cmp.Ordering.{Ordering}
@@ -135,6 +136,26 @@ module _ (run : List Act) (these : Lane → ℕ → Type 0) (entries : List Entr
               subst (λ k. is_behind order lane position (get_or entries k d) ≡ true) same h
         ];
   }
+
+-- ---- where they are told apart by a look at two neighbours
+
+module _ (entries : List Entry) (order : Order) (searchable : AreSearchable order entries) (lane : Lane) (position : ℕ) where
+  pub behind_before : (at : ℕ) (x : Entry) → at < length entries → is_behind order lane position (get_or entries at x) ≡ true
+      → AllWithin (λ e. is_behind order lane position e ≡ true) entries 0 (at + 1)
+  behind_before at x within here = λ i d ge lt.
+      let same : get_or entries at x ≡ get_or entries at d = get_or_default entries at x d within in
+      searchable.first lane position i at d (omega arith) within (subst (λ e. is_behind order lane position e ≡ true) same here)
+
+  pub beyond_after : (at : ℕ) (x : Entry) → at < length entries → is_behind order lane position (get_or entries at x) ≡ false
+      → AllWithin (λ e. is_behind order lane position e ≡ false) entries at (length entries)
+  beyond_after at x within here = λ i d ge lt.
+      let same : get_or entries at x ≡ get_or entries at d = get_or_default entries at x d within in
+      elim (cases_Bool (is_behind order lane position (get_or entries i d))) [
+        | inl yes' ↦
+            let early = searchable.first lane position at i d ge lt yes' in
+            absurd (false≢true (sym (subst (λ e. is_behind order lane position e ≡ false) same here) ∙ early))
+        | inr no' ↦ no'
+      ]
 
 -- ---- where the entries before a position end
 

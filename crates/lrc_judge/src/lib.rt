@@ -13,6 +13,7 @@ mod entries;
 pub mod first;
 pub mod first_pairs;
 mod firsts;
+mod guesses;
 pub mod in_order;
 mod lanes;
 mod latest;

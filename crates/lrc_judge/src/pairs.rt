@@ -7,6 +7,7 @@ ghost use Rattle.lrc_judge.specs.Pairs.{AreConflictsOf, ArePairsWithLater, AreRa
 
 use crate::NODES;
 use crate::entries::{Told, entries_of};
+use crate::guesses::Guesses;
 pub use crate::lanes::Pair;
 use crate::lanes::{Entry, Lane, add_unordered};
 use crate::order::{Order, happens_before};
@@ -14,11 +15,13 @@ use lrc_trace::act::{Act, Deed};
 use std::alloc::{AllocError, Global};
 
 // Adds the pairs of the entry's position with earlier ones of other nodes' lanes of its word that are not before it.
+// Leaves for each of these lanes where those that are before it end.
 fn add_of_others(
     pairs: &mut Vec<Pair>,
     order: &Order,
     entry: Entry,
     among: &[Entry],
+    guesses: &mut Guesses,
 ) -> Result<(), AllocError>
     requires { AreSearchable order.now among.now }
     ensures { OnOk result (Adds pairs.old.items pairs.new.items
@@ -33,7 +36,8 @@ fn add_of_others(
             value: 0,
             node: other as u8,
         };
-        add_unordered(pairs, among, order, lane, entry.position)?;
+        let guess = guesses.beyond[other];
+        guesses.beyond[other] = add_unordered(pairs, among, order, lane, entry.position, guess)?;
     }
     Ok(())
 }
@@ -50,8 +54,9 @@ pub fn add_crossing(
     ensures { OnOk result (Adds pairs.old.items pairs.new.items
         (IsCrossing from.now among.now order.now)) }
 {
+    let mut guesses = Guesses::none();
     for entry in from {
-        add_of_others(pairs, order, *entry, among)?;
+        add_of_others(pairs, order, *entry, among, &mut guesses)?;
     }
     Ok(())
 }
@@ -99,7 +104,8 @@ impl Conflicts {
             value: 0,
             node: act.node,
         };
-        add_of_others(pairs, &self.order, Entry { lane, position }, among)
+        let entry = Entry { lane, position };
+        add_of_others(pairs, &self.order, entry, among, &mut Guesses::none())
     }
 
     /// Returns the racing pairs of accesses whose later one is at this position, sorted by the earlier, each once. The

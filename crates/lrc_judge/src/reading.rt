@@ -13,6 +13,7 @@ ghost use Rattle.lrc_judge.specs.Written.{AreFlags, IsWrittenOf};
 ghost use Rattle.lrc_judge.specs.declared.TheConstants.{NODES};
 
 use crate::NODES;
+use crate::guesses::Guesses;
 use crate::order::Order;
 use crate::written::Written;
 use lrc_trace::act::{Act, Deed};
@@ -166,6 +167,7 @@ fn words_read(alloc: Global, acts: &[Act]) -> Result<BTreeSet<u32>, AllocError>
 // another act nothing is asked.
 fn flag_at(
     written: &Written,
+    guesses: &mut Guesses,
     words: &BTreeSet<u32>,
     ordered: &[bool],
     acts: &[Act],
@@ -183,14 +185,20 @@ fn flag_at(
 {
     match acts[position].deed {
         Deed::Write(word, _) => {
-            !words.contains(&word) || written.are_ordered(ordered, word, position)
+            !words.contains(&word) || written.are_ordered(guesses, ordered, word, position)
         }
         _ => true,
     }
 }
 
 // Whether the act at this position, if it is a read, gives a value that it may give.
-fn is_allowed(written: &Written, ordered: &[bool], acts: &[Act], position: usize) -> bool
+fn is_allowed(
+    written: &Written,
+    guesses: &mut Guesses,
+    ordered: &[bool],
+    acts: &[Act],
+    position: usize,
+) -> bool
     requires written { IsWrittenOf acts.now written.now }
     requires nodes { All (λ act. act.node < NODES) acts.now }
     requires flags { AreFlags acts.now position ordered.now }
@@ -202,8 +210,8 @@ fn is_allowed(written: &Written, ordered: &[bool], acts: &[Act], position: usize
 {
     match acts[position].deed {
         Deed::Read(word, value) => {
-            let is_ordered = written.are_ordered(ordered, word, position);
-            written.allows(acts, position, word, value, is_ordered)
+            let is_ordered = written.are_ordered(guesses, ordered, word, position);
+            written.allows(guesses, acts, position, word, value, is_ordered)
         }
         _ => true,
     }
@@ -220,12 +228,20 @@ pub fn first_fault_of_reading(alloc: Global, acts: &[Act]) -> Result<Option<usiz
 {
     let written = Written::of(alloc, acts)?;
     let words = words_read(alloc, acts)?;
+    let mut guesses = Guesses::none();
     let mut ordered = Vec::new(alloc);
     for position in 0..acts.len() {
-        if !is_allowed(&written, ordered.as_slice(), acts, position) {
+        if !is_allowed(&written, &mut guesses, ordered.as_slice(), acts, position) {
             return Ok(Some(position));
         }
-        let flag = flag_at(&written, &words, ordered.as_slice(), acts, position);
+        let flag = flag_at(
+            &written,
+            &mut guesses,
+            &words,
+            ordered.as_slice(),
+            acts,
+            position,
+        );
         ordered.push(flag)?;
     }
     Ok(None)

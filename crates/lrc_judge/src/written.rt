@@ -4,6 +4,7 @@ ghost use Rattle.lrc_judge.specs.declared.TheConstants.{NODES};
 
 use crate::NODES;
 use crate::entries::{Told, entries_of};
+use crate::guesses::Guesses;
 use crate::lanes::{Entry, Lane, last_before};
 use crate::latest::{later_of, value_at};
 use crate::order::{Order, happens_before};
@@ -39,7 +40,7 @@ impl Written {
     }
 
     // The last write to the word that happens before the position.
-    fn latest(&self, word: u32, position: usize) -> Option<usize>
+    fn latest(&self, guesses: &mut Guesses, word: u32, position: usize) -> Option<usize>
         requires { AreReady self.now }
         ensures { IsLatestBelow self.now word NODES position result }
     {
@@ -50,14 +51,22 @@ impl Written {
                 value: 0,
                 node: node as u8,
             };
-            let found = last_before(self.by_word.as_slice(), &self.order, lane, position);
+            let mut guess = guesses.beyond[node];
+            let found = last_before(
+                self.by_word.as_slice(),
+                &self.order,
+                lane,
+                position,
+                &mut guess,
+            );
+            guesses.beyond[node] = guess;
             latest = later_of(latest, found);
         }
         latest
     }
 
     // Whether each write to the word that happens before the position is this one, or happens before it.
-    fn leads(&self, word: u32, position: usize, latest: usize) -> bool
+    fn leads(&self, guesses: &Guesses, word: u32, position: usize, latest: usize) -> bool
         requires { AreReady self.now }
         ensures { (run : List Act) → IsWrittenOf run self.now → IsTrue result
             ↔ AllLead self.now word NODES position latest }
@@ -68,7 +77,14 @@ impl Written {
                 value: 0,
                 node: node as u8,
             };
-            if let Some(found) = last_before(self.by_word.as_slice(), &self.order, lane, position) {
+            let mut guess = guesses.beyond[node];
+            if let Some(found) = last_before(
+                self.by_word.as_slice(),
+                &self.order,
+                lane,
+                position,
+                &mut guess,
+            ) {
                 if found != latest && !self.order.is_before(found, latest) {
                     return false;
                 }
@@ -78,16 +94,22 @@ impl Written {
     }
 
     /// Returns whether any two of the writes to the word that happen before the position are ordered. For each earlier
-    /// write, `ordered` tells the same about the writes before it.
-    pub fn are_ordered(&self, ordered: &[bool], word: u32, position: usize) -> bool
+    /// write to the word, `ordered` tells the same about the writes before it. The guesses serve the next search.
+    pub fn are_ordered(
+        &self,
+        guesses: &mut Guesses,
+        ordered: &[bool],
+        word: u32,
+        position: usize,
+    ) -> bool
         requires ready { AreReady self.now }
         requires long { position ≤ length ordered.now }
         ensures { (run : List Act) → IsWrittenOf run self.now → All (λ act. act.node < NODES) run
             → AreFlagsOf run word position ordered.now
             → IsTrue result ↔ AreOrdered run position word }
     {
-        match self.latest(word, position) {
-            Some(latest) => ordered[latest] && self.leads(word, position, latest),
+        match self.latest(guesses, word, position) {
+            Some(latest) => ordered[latest] && self.leads(guesses, word, position, latest),
             None => true,
         }
     }
@@ -97,13 +119,21 @@ impl Written {
         requires { AreReady self.now }
         ensures { IsTrue result ↔ IsValueBelow self.now word value NODES position }
     {
+        let mut guess = usize::MAX;
         for node in 0..NODES {
             let lane = Lane {
                 word,
                 value,
                 node: node as u8,
             };
-            if let Some(_) = last_before(self.by_value.as_slice(), &self.order, lane, position) {
+            let found = last_before(
+                self.by_value.as_slice(),
+                &self.order,
+                lane,
+                position,
+                &mut guess,
+            );
+            if let Some(_) = found {
                 return true;
             }
         }
@@ -113,6 +143,7 @@ impl Written {
     /// Returns whether the read of the word at the position may give the value.
     pub fn allows(
         &self,
+        guesses: &mut Guesses,
         acts: &[Act],
         position: usize,
         word: u32,
@@ -128,7 +159,7 @@ impl Written {
         if !is_ordered {
             return value == 0 || self.has(word, value, position);
         }
-        match self.latest(word, position) {
+        match self.latest(guesses, word, position) {
             Some(latest) => value == value_at(acts, latest),
             None => value == 0,
         }

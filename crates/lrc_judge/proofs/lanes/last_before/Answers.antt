@@ -11,17 +11,17 @@ nothing = record { lane = record { word = 0; value = 0; node = 0 }; position = 0
 pub returns-then-ne : goal.returns-then-ne
 returns-then-ne c =
     let entries = c.args.entries.now in
-    let beyond = c.first_beyond-beyond.result in
+    let beyond = c.first_beyond_from-beyond.result in
     let x : Entry = get_or entries (beyond - 1) nothing in
-    let bound = c.first_beyond-beyond.ensures.bound in
-    none_if_apart entries c.args.order.now c.args.lane c.args.position beyond c.requires.in_order c.first_beyond-beyond.ensures.point
+    let bound = c.first_beyond_from-beyond.ensures.bound in
+    none_if_apart entries c.args.order.now c.args.lane c.args.position beyond c.requires.in_order c.first_beyond_from-beyond.ensures.point
     (omega arith) bound x (get_or_default entries (beyond - 1) nothing x (omega arith)) (lane_differs x.lane c.args.lane c.if-ne.ensures)
 
 pub returns : goal.returns
 returns c =
     let entries = c.args.entries.now in
-    let beyond = c.first_beyond-beyond.result in
+    let beyond = c.first_beyond_from-beyond.result in
     let x : Entry = get_or entries (beyond - 1) nothing in
-    let bound = c.first_beyond-beyond.ensures.bound in
-    last_of_lane entries c.args.order.now c.args.lane c.args.position beyond c.requires.in_order c.first_beyond-beyond.ensures.point
+    let bound = c.first_beyond_from-beyond.ensures.bound in
+    last_of_lane entries c.args.order.now c.args.lane c.args.position beyond c.requires.in_order c.first_beyond_from-beyond.ensures.point
     (omega arith) bound x (get_or_default entries (beyond - 1) nothing x (omega arith)) (lane_agrees x.lane c.args.lane c.if-ne.ensures)

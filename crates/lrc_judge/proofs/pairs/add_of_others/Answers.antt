@@ -18,7 +18,7 @@ loop-other-preserved c =
     let e = c.args.entry in
     others-more c.args.among.now c.args.order.now e.lane.word e.lane.node e.position c.loop-other.other c.args.pairs.now.items
     c.loop-other.pairs.items c.add_unordered.new.pairs.items (λ own. c.if-other-from.false (own ∙ sym c.from.ensures)) c.loop-other.invariant
-    c.in_ok-add_unordered.ensures
+    c.in_ok-guesses.ensures.pairs
 
 pub returns : goal.returns
 returns c =
