@@ -1,5 +1,5 @@
 -- The entry that stands apart is put among the others.
-use Rattle.std.proofs.Common.{List, ℕ, subst, ap, ◌∙◌}
+use Rattle.std.proofs.Common.{ap, ◌∙◌}
 use Rattle.std.specs.Prelude.{slice_index}
 use Rattle.std.proofs.lemmas.Result.{IfOk-weaker}
 use Rattle.lrc_races_detector.specs.Chunks.{values}
