@@ -24,9 +24,12 @@ use Rattle.lrc_named.specs.declared.fault.NamedFault.TheVariants.{Names, NoMemor
 use Rattle.lrc_named.specs.Faults.{fault_of_kind}
 use Rattle.lrc_named.specs.Lines.{lines_of}
 use Rattle.lrc_named.specs.Named.{IsFaultless}
+use Rattle.lrc_named.specs.Named as named
 use Rattle.lrc_named.proofs.Answering.{long_found, name_fault, over_found, text_fault}
 use Rattle.lrc_named.proofs.OneCore.{no_fault}
-use Rattle.lrc_named_warned.specs.Warned.{HasFault, TellsCore, WarnsNamed}
+use Rattle.lrc_named_laws.proofs.Printed.{is_a_program}
+use Rattle.lrc_named_laws.specs.Printed.{program_of}
+use Rattle.lrc_named_warned.specs.Warned.{HasFault, IsProgramText, TellsCore, WarnsNamed}
 
 still_a_fault : (line : ℕ) (kind : FaultKind) → (kind ≡ kinds.NoMemory → ⊥) → fault_of_kind line kind ≡ NoMemory → ⊥
 still_a_fault line kinds.TooLong other e = cc
@@ -69,6 +72,21 @@ pub not_faulty : (text : List ℕ) (t : List Located) (tree : NamedTree) (declar
 not_faulty text t tree declared core is written fault =
     fault.2 (no_fault text (counted_in None tree.declarations) core fault.0
     (record { tokens = t; tree = tree; declared = declared; is = is; asked = refl; core_is = written }) fault.1)
+
+-- the core is a program of the language
+pub core_is_program : (text : List ℕ) (t : List Located) (tree : NamedTree) (layout : code_layout.Layout) (core : List ℕ) (origins : List Origin)
+    (owns : List (List Own)) → IsNamed text t tree → IsClean tree layout
+    → IsCoreTextFrom (declared_of layout.names) (lines_of t) tree core origins owns → IsProgramText core
+core_is_program text t tree layout core origins owns parsed clean from =
+    let printed : named.IsCoreText text (counted_in None tree.declarations) core = record {
+      tokens = t;
+      tree = tree;
+      declared = declared_of layout.names;
+      is = record { parsed = parsed; faultless = clean.no_fault; are_declared = clean.declared };
+      asked = refl;
+      core_is = from.is;
+    } in
+    (program_of printed, is_a_program text core (counted_in None tree.declarations) printed)
 
 pub warned : (file text printed : List ℕ) (t : List Located) (tree : NamedTree) (layout : code_layout.Layout) (core : List ℕ) (origins : List Origin)
     (owns : List (List Own)) → IsNamed text t tree → IsClean tree layout

@@ -1,5 +1,6 @@
 -- What is told of a named program without a fault.
 use Rattle.std.specs.Prelude.{◌≢◌, ℕ, List, []}
+use Rattle.lrc_lang.specs.Faults.{IsText}
 use Rattle.lrc_program.specs.Tree.{ProgramTree}
 use Rattle.lrc_named_tokens.specs.Token.{Located}
 use Rattle.lrc_named_tree.specs.Tree.{NamedTree}
@@ -45,6 +46,10 @@ pub record TellsCore (file : List ℕ) (tokens : List Located) (tree : NamedTree
   pub side : Side
   pub is_side : IsCoreSide core program side
   pub tells : TellsOf file tokens tree declared origins side printed
+
+-- the text is that of a program
+abbrev pub IsProgramText : List ℕ → Type 0
+IsProgramText text = (program : ProgramTree) × IsText text program
 
 -- This is told of a text that is a named program without a fault: what is warned of in its core, loops that learn of no write, and names that
 -- nothing uses.

@@ -12,7 +12,7 @@ ghost use Rattle.lrc_named_parse.specs.Faults.{IsNamed};
 ghost use Rattle.lrc_named_tokens.specs.View.{located_of};
 ghost use Rattle.lrc_named_tree.specs.View.{program_of};
 ghost use Rattle.lrc_named_warned.specs.CoreSide.{side_seen};
-ghost use Rattle.lrc_named_warned.specs.Warned.{HasFault, TellsCore, TellsOf, WarnsNamed};
+ghost use Rattle.lrc_named_warned.specs.Warned.{HasFault, IsProgramText, TellsCore, TellsOf, WarnsNamed};
 
 use crate::core_side::{CoreSide, core_side};
 use crate::tokens::{lines_of, spots_of};
@@ -115,6 +115,7 @@ fn lint_core(
     core: &[u8],
     origins: &[Origin<'_>],
 ) -> Result<Linted, AllocError>
+    requires { IsProgramText core.now }
     ensures told { IfOk result (λ linted. TellsCore file.now (map located_of tokens.now)
         (program_of program.now) (declared_of names.now) core.now (map origin_of origins.now)
         (whole_text linted.parts.items)) }
@@ -122,7 +123,10 @@ fn lint_core(
 {
     match parse_core(alloc, core) {
         Ok(parsed) => lint_both(alloc, file, tokens, program, names, core, origins, &parsed),
-        Err(_) => Err(AllocError),
+        Err(fault) => match fault.kind {
+            FaultKind::NoMemory => Err(AllocError),
+            _ => unreachable!(),
+        },
     }
 }
 

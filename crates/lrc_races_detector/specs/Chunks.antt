@@ -15,6 +15,11 @@ entry_in chunks index place = slice_index (chunk_of (slice_get chunks index)) pl
 abbrev pub value_of : List (Rc (Vec ℕ Global) Global) → ℕ → ℕ
 value_of chunks thread = entry_in chunks (thread / 128) (thread % 128)
 
+-- the chunks that vectors share, where they share some
+abbrev pub chunks_of : Option (Rc (Vec (Rc (Vec ℕ Global) Global) Global) Global) → List (Rc (Vec ℕ Global) Global)
+chunks_of (Some chunks) = chunks.value.items
+chunks_of None = []
+
 -- the first values of a function
 abbrev pub firsts : (ℕ → ℕ) → ℕ → List ℕ
 firsts f zero = []

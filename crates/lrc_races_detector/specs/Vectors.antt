@@ -1,9 +1,9 @@
 -- What vectors say, and what changes in one.
-use Rattle.std.specs.Prelude.{◌≡◌, ◌≢◌, ◌==◌, if◌then◌else◌, ℕ, zero, suc, ◌≤◌, ◌<◌, List, [], ◌∷◌, Option, Some, None, length, max, slice_index}
+use Rattle.std.specs.Prelude.{◌≡◌, ◌≢◌, ◌==◌, if◌then◌else◌, ℕ, zero, suc, ◌≤◌, ◌<◌, List, [], ◌∷◌, Option, Some, None, length, max, option_copied, slice_get, slice_index}
 use Rattle.lrc_races_detector.specs.declared.vectors.Entry.{Entry}
 use Rattle.lrc_races_detector.specs.declared.vectors.Known.{Known}
 use Rattle.lrc_races_detector.specs.declared.vectors.Vector.{Vector}
-use Rattle.lrc_races_detector.specs.Chunks.{values}
+use Rattle.lrc_races_detector.specs.Chunks.{chunks_of, values}
 
 -- the entry has this value, and all others are as before
 pub record IsPut (before after : List ℕ) (thread value : ℕ) : Type 0 where
@@ -38,9 +38,33 @@ abbrev pub apart_at : Option Entry → ℕ → ℕ
 apart_at (Some entry) thread = if entry.thread == thread then entry.value else 0
 apart_at None thread = 0
 
--- all entries
-abbrev pub entries : Known → List ℕ
-entries known = with_apart known.apart (values known.others.now)
+-- what the first so many of some entries say of a thread, at most
+abbrev pub greatest : List Entry → ℕ → ℕ → ℕ
+greatest recent thread zero = 0
+greatest recent thread (suc count) = max (apart_at (slice_get recent count) thread) (greatest recent thread count)
 
+-- entries, of which the first so many of others are raised
+abbrev pub with_first : List Entry → List ℕ → ℕ → List ℕ
+with_first recent others zero = others
+with_first recent others (suc count) = with_apart (slice_get recent count) (with_first recent others count)
+
+-- of each thread the greater
+abbrev pub joined : List ℕ → List ℕ → List ℕ
+joined [] ys = ys
+joined (x ∷ xs) [] = x ∷ xs
+joined (x ∷ xs) (y ∷ ys) = max x y ∷ joined xs ys
+
+-- all entries, but for the one that stands apart
+abbrev pub rest : Vector → List ℕ
+rest vector = with_first vector.recent.items (joined (values vector.others.items) (values (chunks_of vector.base))) (length vector.recent.items)
+
+-- all entries
 abbrev pub held : Vector → List ℕ
-held vector = with_apart vector.apart (values vector.others.items)
+held vector = with_apart vector.apart (rest vector)
+
+abbrev pub held_of : Option Vector → List ℕ
+held_of (Some vector) = held vector
+held_of None = []
+
+abbrev pub entries : Known → List ℕ
+entries known = held_of (option_copied known.vector)

@@ -5,7 +5,8 @@
 //! cycle of each barrier, and one for each thread of a closed cycle. For each variable and each thread that accesses
 //! it, it stores the last access and the last write, ascending by thread. Of a variable whose accesses all happen before
 //! its last one it looks at that alone. So memory grows with threads, locks and
-//! barriers, and with the threads of each variable, but not with the length of the trace.
+//! barriers, and with the threads of each variable, but not with the length of the trace. Vectors share what they know
+//! alike: of a thread that another forks and joins, that thread's vector has few entries of its own.
 //!
 //! Beside it, `fault_finder` finds the first event that no program would give: `held` has the holder of each lock,
 //! `waits` the threads that wait at a barrier, and `threads` those that were joined and those that are known.

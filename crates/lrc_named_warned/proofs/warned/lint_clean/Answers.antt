@@ -1,5 +1,5 @@
 -- By what the core comes to.
-use Rattle.std.proofs.Common.{List, ap, map, subst, ◌∙◌}
+use Rattle.std.proofs.Common.{List, ap, map, subst, sym, ◌∙◌}
 use Rattle.lrc_text.specs.Parts.{whole_text}
 use Rattle.lrc_named_core.specs.declared.tree.Origin as code_origin
 use Rattle.lrc_named_core.specs.View.{origin_of}
@@ -8,8 +8,19 @@ use Rattle.lrc_named_tree.specs.View.{program_of}
 use Rattle.lrc_named_names.specs.View.{declared_of}
 use Rattle.lrc_named.specs.Lines.{lines_of}
 use Rattle.lrc_named_written.specs.Written.{IsWritten}
-use Rattle.lrc_named_warned.proofs.Telling.{long_faulty, over_faulty, told_same, warned}
+use Rattle.lrc_named_warned.specs.Warned.{IsProgramText}
+use Rattle.lrc_named_warned.proofs.Telling.{core_is_program, long_faulty, over_faulty, told_same, warned}
 use Rattle.lrc_named_warned.proofs.warned.lint_clean.Goals as goal
+
+pub lint_core-requires : goal.lint_core-requires
+lint_core-requires c =
+    let t = map located_of c.args.tokens.now in
+    let tree = program_of c.args.program.now in
+    let layout = c.args.layout.now in
+    let from = subst (IsWritten (declared_of layout.names) (lines_of t) tree) c.in-Core.is
+    (subst (λ lines. IsWritten (declared_of layout.names) lines tree c.in_ok-written.written) (c.deref.ensures.value ∙ c.in_ok-lines.ensures) c.in_ok-written.ensures) in
+    subst IsProgramText (sym c.deref-in-Core.ensures.value)
+    (core_is_program c.args.text.now t tree layout c.in-Core.core.items (map origin_of c.in-Core.origins.items) _ c.requires.parsed c.requires.clean from)
 
 pub returns-in-Core : goal.returns-in-Core
 returns-in-Core c =
