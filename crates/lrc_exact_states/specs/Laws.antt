@@ -2,12 +2,23 @@
 use Rattle.std.specs.Prelude.{◌≡◌, ℕ, ◌≤◌, ◌↔◌, List}
 use Rattle.lrc_program.specs.declared.Program.{Program}
 use Rattle.lrc_trace.specs.declared.act.Act.{Act}
-use Rattle.lrc_exact.specs.Rule.{Shape}
+use Rattle.lrc_exact.specs.Rule.{Shape, State, KeepsExact}
 use Rattle.lrc_exact_outcomes.specs.Outcome.{IsExactOutcome}
-use Rattle.lrc_exact_states.specs.Searched.{IsAmong, IsClosedSearch, IsFound, Seen}
+use Rattle.lrc_exact_states.specs.Runs.{Base}
+use Rattle.lrc_exact_states.specs.Goes.{AreAlike}
+use Rattle.lrc_exact_states.specs.Searched.{IsAmong, IsClosedSearch, IsFound, IsReached, Seen}
+use Rattle.lrc_exact_states.specs.Key.{key_of}
 
 -- Without collections, what it has looked at being these runs, it finds each exact outcome, and no other.
 abbrev pub JoiningFindsAll : Type 0
 JoiningFindsAll = (program : Program) (shape : Shape) (cap : ℕ) (looked : List Seen) → shape.collect ≡ 0 → 1 ≤ cap
     → IsClosedSearch program shape cap (IsAmong looked) → (notes : List Act)
     → IsExactOutcome program shape notes ↔ IsFound program shape (IsAmong looked) notes
+
+-- Without collections, two runs that acts lead to, seen from where they may be, stand alike where their keys are equal.
+abbrev pub EqualKeysStandAlike : Type 0
+EqualKeysStandAlike = (program : Program) (shape : Shape) (cap : ℕ) (base base' : Base) (run run' : List Act) (states states' : List State)
+    → shape.collect ≡ 0 → 1 ≤ cap → IsReached program shape run base → IsReached program shape run' base'
+    → KeepsExact shape run states → KeepsExact shape run' states'
+    → key_of program shape cap base run states ≡ key_of program shape cap base' run' states'
+    → AreAlike program shape cap base base' run run' states states'

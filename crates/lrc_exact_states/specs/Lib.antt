@@ -3,4 +3,5 @@ pub mod Alike
 pub mod Runs
 pub mod Goes
 pub mod Searched
+pub mod Key
 pub mod Laws

@@ -1,10 +1,17 @@
-// The law of a search that joins runs. The function is a theorem: its body is empty, and its clause is the law.
+// The laws of a search that joins runs. Each function is a theorem: its body is empty, and its clause is the law.
 
-ghost use Rattle.lrc_exact_states.specs.Laws.{JoiningFindsAll};
+ghost use Rattle.lrc_exact_states.specs.Laws.{EqualKeysStandAlike, JoiningFindsAll};
 
 /// A search that joins exact runs which stand alike finds each exact outcome, and no other, if no barrier collects. Of each
 /// run it looks at each act that may come next, or at one that acquires no lock, or a node can look round for ever. Each run
 /// that such an act leads to is looked at too, or one that stands as it does is, and what the act compares is below the cap.
 pub fn joining_finds_all()
     ensures { JoiningFindsAll }
+{}
+
+/// Two exact runs whose keys are equal stand alike, if no barrier collects. A key is as much of what the nodes, the locks and
+/// the barriers know as decides what is still to come, with numbers and weights up to a cap: it does not grow where nodes only
+/// spin. Each run is seen from the beginning, or from a barrier behind which all nodes stood.
+pub fn equal_keys_stand_alike()
+    ensures { EqualKeysStandAlike }
 {}
