@@ -20,4 +20,5 @@ mod Fresh
 mod Texts
 mod Ranged
 mod Keys
+mod Capped
 mod Reached

@@ -1,5 +1,5 @@
 -- The key of a run that is seen from a base: as much of what the nodes, the locks and the barriers know as decides what is still to come.
-use Rattle.std.specs.Prelude.{ℕ, zero, suc, ◌+◌, ◌-◌, ◌==◌, ◌||◌, Bool, true, false, List, [], ◌∷◌, ◌++◌, Option, Some, None, if◌then◌else◌, length, map, min, nat_le, nat_lt, option_and_then, option_map, slice_get}
+use Rattle.std.specs.Prelude.{ℕ, zero, suc, ◌+◌, ◌-◌, ◌≤◌, ◌==◌, ◌||◌, Bool, true, false, All, List, [], ◌∷◌, ◌++◌, Option, Some, None, if◌then◌else◌, length, map, min, nat_le, nat_lt, option_and_then, option_map, slice_get}
 use Rattle.lrc_program.specs.declared.Program.{Program}
 use Rattle.lrc_trace.specs.declared.act.Act.{Act}
 use Rattle.lrc_trace.specs.declared.act.Deed.{Deed}
@@ -189,3 +189,24 @@ key_of program shape cap base run states =
           gaps_of cap (weight_of base.floor) program.words shape.nodes (known_at shape base run states place) (known_at shape base run states other))
           (places_in program shape base run)) (places_in program shape base run);
     }
+
+-- ---- how much it keeps
+
+-- a mark, a change and heights that are kept are no higher than the cap
+abbrev pub IsMarkUpTo : ℕ → Option Rank → Type 0
+IsMarkUpTo cap None = Unit {0}
+IsMarkUpTo cap (Some rank) = rank.weight ≤ cap
+
+abbrev pub IsChangeUpTo : ℕ → Option Change → Type 0
+IsChangeUpTo cap None = Unit {0}
+IsChangeUpTo cap (Some change) = change.weight ≤ cap
+
+abbrev pub AreHeightsUpTo : ℕ → Option (List ℕ) → Type 0
+AreHeightsUpTo cap None = Unit {0}
+AreHeightsUpTo cap (Some heights) = All (λ (height : ℕ). height ≤ cap) heights
+
+-- so is each of a key
+pub record IsKeyUpTo (cap : ℕ) (key : Key) : Type 0 where
+  pub marks : All (λ (words : List Word). All (λ (word : Word). IsMarkUpTo cap word.mark) words) key.words
+  pub heights : All (AreHeightsUpTo cap) key.heights
+  pub changes : All (λ (row : List (List Gap)). All (λ (gaps : List Gap). All (λ (gap : Gap). All (IsChangeUpTo cap) gap.changes) gaps) row) key.gaps

@@ -7,7 +7,7 @@ use Rattle.lrc_exact_outcomes.specs.Outcome.{IsExactOutcome}
 use Rattle.lrc_exact_states.specs.Runs.{Base}
 use Rattle.lrc_exact_states.specs.Goes.{AreAlike}
 use Rattle.lrc_exact_states.specs.Searched.{IsAmong, IsClosedSearch, IsFound, IsReached, Seen}
-use Rattle.lrc_exact_states.specs.Key.{key_of}
+use Rattle.lrc_exact_states.specs.Key.{IsKeyUpTo, key_of}
 
 -- Without collections, what it has looked at being these runs, it finds each exact outcome, and no other.
 abbrev pub JoiningFindsAll : Type 0
@@ -22,3 +22,8 @@ EqualKeysStandAlike = (program : Program) (shape : Shape) (cap : ℕ) (base base
     → KeepsExact shape run states → KeepsExact shape run' states'
     → key_of program shape cap base run states ≡ key_of program shape cap base' run' states'
     → AreAlike program shape cap base base' run run' states states'
+
+-- Of weights, and of how many intervals are known above the base, a key keeps no number above the cap, however long the run is.
+abbrev pub KeysKeepNoMore : Type 0
+KeysKeepNoMore = (program : Program) (shape : Shape) (cap : ℕ) (base : Base) (run : List Act) (states : List State)
+    → IsKeyUpTo cap (key_of program shape cap base run states)

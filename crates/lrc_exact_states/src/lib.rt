@@ -11,14 +11,14 @@
 //!
 //! PLAN (goes when the work is done). Without collections alone.
 //!
-//! 1. Done, checked: a search that joins runs that stand alike finds all (`joining_finds_all`); runs with equal keys stand alike
-//!    (`equal_keys_stand_alike`). A clause cannot be of `Type 1`. So `specs` has levels that are told apart (`Told`), and
-//!    `proofs/By` those of any kind, which the proofs are about.
+//! 1. Done: a search that joins runs that stand alike finds all (`joining_finds_all`); runs with equal keys stand alike
+//!    (`equal_keys_stand_alike`); what a key keeps of numbers is capped (`keys_keep_no_more_than_the_cap`). A clause cannot be of
+//!    `Type 1`. So `specs` has levels that are told apart (`Told`), and `proofs/By` those of any kind, which the proofs are about.
 //! 2. To do: the search looks at a run and a base (`Seen`). It is a closed search (`IsClosedSearch`): a run that acts lead to is
 //!    met, or one with the same key is. By `goes_on` of `IsReached` and the law for keys that gives `StandsAs`.
 //! 3. To do: a key, computed of `ExactRun` of `lrc_exact_search`, equal only where `key_of` is. `gaps` has each two places; what is
 //!    computed may have neighbours alone: of each node the numbers that are known at some place, in order, which place knows which,
-//!    and the last changes between neighbours. `last-parted` of `proofs/Keyed` joins them.
+//!    and the last changes between neighbours. `rows_same` of `proofs/Rows` joins them.
 //!    `Memory` of `lrc_exact_judge` keeps what is needed private, and has learned already for a node that is still to depart: take
 //!    the key where no node is between.
 //! 4. Each acquire and depart is held against `IsDecidedDeed`. Where one is not decided, the search is made again with the
