@@ -21,4 +21,5 @@ mod Texts
 mod Ranged
 mod Keys
 mod Capped
+mod Machine
 mod Reached

@@ -1,5 +1,5 @@
 -- Threads that come to the same place go on alike, and no deed of a thread is out of the program's range.
-use Rattle.std.proofs.Common.{◌≡◌, ℕ, ◌<◌, List, [], ◌∷◌, ◌++◌, refl, sym, subst, ◌∙◌}
+use Rattle.std.proofs.Common.{◌≡◌, ℕ, ◌<◌, List, [], ◌∷◌, ◌++◌, refl, sym, subst, ap, ◌∙◌}
 use Rattle.std.specs.Prelude.{Option, Some, None}
 use Rattle.std.proofs.lemmas.Option.{none-some, same_Some}
 use Rattle.lrc_program.specs.declared.Program.{Program}
@@ -11,6 +11,7 @@ use Rattle.lrc_exec.specs.Plain.{start_of}
 use Rattle.lrc_exec.specs.Follows.{FollowsText, Goes, quietly, printing, reading, writing, acquiring, releasing, arriving, departing, trapping, ending, Makes, and_then, deeds_of}
 use Rattle.lrc_exec.proofs.NextLaws.{IsFine, next_of-fine}
 use Rattle.lrc_orders.specs.Notes.{notes_of}
+use Rattle.lrc_lazy.specs.Standing.{Comes, there, onward}
 use Rattle.lrc_exact_states.specs.Goes.{IsTextAlike}
 use Rattle.lrc_exact_states.specs.Key.{after_next, thread_after}
 
@@ -40,6 +41,13 @@ makes_back [] more thread makes later = later
 makes_back (deed ∷ deeds) more (Some t) (and_then {after = after} goes makes) later =
     and_then goes (makes_back deeds more after makes (subst (λ (o : Option Thread). Makes (thread_after deeds o) more) (goes_is goes) later))
 makes_back (deed ∷ deeds) more None makes later = elim makes [ ]
+
+-- where its deeds lead it
+pub comes_is : (deeds : List Deed) (thread last : Option Thread) → Comes thread deeds last → thread_after deeds thread ≡ last
+comes_is [] thread last there = refl
+comes_is (deed ∷ deeds) (Some t) last (onward {after = after} goes comes) =
+    ap (thread_after deeds) (goes_is goes) ∙ comes_is deeds after last comes
+comes_is (deed ∷ deeds) None last comes = elim comes [ ]
 
 module _ (program : Program) (nodes : ℕ) where
   abbrev pub thread_of : List Act → ℕ → Option Thread

@@ -2,12 +2,14 @@
 use Rattle.std.specs.Prelude.{◌≡◌, ℕ, ◌≤◌, ◌↔◌, List}
 use Rattle.lrc_program.specs.declared.Program.{Program}
 use Rattle.lrc_trace.specs.declared.act.Act.{Act}
+use Rattle.lrc_exec.specs.Plain.{Plain}
 use Rattle.lrc_exact.specs.Rule.{Shape, State, KeepsExact}
 use Rattle.lrc_exact_outcomes.specs.Outcome.{IsExactOutcome}
 use Rattle.lrc_exact_states.specs.Runs.{Base}
 use Rattle.lrc_exact_states.specs.Goes.{AreAlike}
 use Rattle.lrc_exact_states.specs.Searched.{IsAmong, IsClosedSearch, IsFound, IsReached, Seen}
 use Rattle.lrc_exact_states.specs.Key.{IsKeyUpTo, key_of}
+use Rattle.lrc_exact_states.specs.Machine.{HasPartOfKey, IsMadeBy}
 
 -- Without collections, what it has looked at being these runs, it finds each exact outcome, and no other.
 abbrev pub JoiningFindsAll : Type 0
@@ -27,3 +29,9 @@ EqualKeysStandAlike = (program : Program) (shape : Shape) (cap : ℕ) (base base
 abbrev pub KeysKeepNoMore : Type 0
 KeysKeepNoMore = (program : Program) (shape : Shape) (cap : ℕ) (base : Base) (run : List Act) (states : List State)
     → IsKeyUpTo cap (key_of program shape cap base run states)
+
+-- What a key has of threads, locks and barriers is what the plain machine has after the acts.
+abbrev pub MachineHasPartOfKey : Type 0
+MachineHasPartOfKey = (program : Program) (shape : Shape) (cap : ℕ) (base : Base) (run : List Act) (states : List State) (machine : Plain)
+    → IsMadeBy program shape.nodes run machine
+    → HasPartOfKey shape.nodes program.locks base.first machine (key_of program shape cap base run states)

@@ -4,4 +4,5 @@ pub mod Runs
 pub mod Goes
 pub mod Searched
 pub mod Key
+pub mod Machine
 pub mod Laws

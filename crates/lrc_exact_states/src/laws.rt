@@ -1,6 +1,6 @@
 // The laws of a search that joins runs. Each function is a theorem: its body is empty, and its clause is the law.
 
-ghost use Rattle.lrc_exact_states.specs.Laws.{EqualKeysStandAlike, JoiningFindsAll, KeysKeepNoMore};
+ghost use Rattle.lrc_exact_states.specs.Laws.{EqualKeysStandAlike, JoiningFindsAll, KeysKeepNoMore, MachineHasPartOfKey};
 
 /// A search that joins exact runs which stand alike finds each exact outcome, and no other, if no barrier collects. Of each
 /// run it looks at each act that may come next, or at one that acquires no lock, or a node can look round for ever. Each run
@@ -19,4 +19,9 @@ pub fn equal_keys_stand_alike()
 /// Of weights, and of how many intervals are known above the base, a key keeps no number above the cap, however long the run is.
 pub fn keys_keep_no_more_than_the_cap()
     ensures { KeysKeepNoMore }
+{}
+
+/// What a key has of threads, locks and barriers is what the plain machine has after the acts.
+pub fn the_machine_has_its_part_of_a_key()
+    ensures { MachineHasPartOfKey }
 {}
