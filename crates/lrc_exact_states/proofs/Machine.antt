@@ -14,13 +14,13 @@ use Rattle.lrc_lazy.specs.Standing.{departures_of, is_waiting}
 use Rattle.lrc_exact.specs.Rule.{Shape, State}
 use Rattle.lrc_exact_states.specs.Runs.{Base}
 use Rattle.lrc_exact_states.specs.Key.{arrived_since, departed_since, each_from, is_held, key_of, thread_after}
-use Rattle.lrc_exact_states.specs.Machine.{HasPartOfKey, is_node, IsMadeBy}
+use Rattle.lrc_exact_states.specs.Machine.{HasPartOfKey, is_holder, IsMadeBy}
 use Rattle.lrc_exact_states.proofs.Held.{holds_is}
 use Rattle.lrc_exact_states.proofs.Listed.{each_agree}
 use Rattle.lrc_exact_states.proofs.Texts.{comes_is}
 
 module _ (program : Program) (nodes : ℕ) (run : List Act) (machine : Plain) (made : IsMadeBy program nodes run machine) where
-  held_is : (q l : ℕ) → is_held run q l (length run) ≡ is_node q (slice_index_or machine.holders l None)
+  held_is : (q l : ℕ) → is_held run q l (length run) ≡ is_holder q (slice_index_or machine.holders l None)
   held_is q l = by_holder (slice_index_or machine.holders l None) refl
     where
       says : (Holds run (length run) q l → is_held run q l (length run) ≡ true) × (is_held run q l (length run) ≡ true → Holds run (length run) q l)
@@ -29,7 +29,7 @@ module _ (program : Program) (nodes : ℕ) (run : List Act) (machine : Plain) (m
       never : (Holds run (length run) q l → ⊥) → is_held run q l (length run) ≡ false
       never none = elim (cases_Bool (is_held run q l (length run))) [ inl holds ↦ absurd (none (says.1 holds)) | inr fails ↦ fails ]
 
-      by_holder : (o : Option ℕ) → slice_index_or machine.holders l None ≡ o → is_held run q l (length run) ≡ is_node q o
+      by_holder : (o : Option ℕ) → slice_index_or machine.holders l None ≡ o → is_held run q l (length run) ≡ is_holder q o
       by_holder None free = never (λ h. made.matches.free l free q h)
       by_holder (Some holder) taken =
           let both = made.matches.held l holder taken in
@@ -70,9 +70,9 @@ machine_has_part program shape cap base run states machine made = record {
   threads = each_agree (λ (q : ℕ). thread_after (deeds_of q run) (Some (start_of program shape.nodes q))) (thread_in machine) 0 shape.nodes
       (λ q low high. thread_is program shape.nodes run machine made q (omega (arith, high)));
   held = each_agree (λ (q : ℕ). each_from 0 program.locks (λ (l : ℕ). is_held run q l (length run)))
-      (λ (q : ℕ). each_from 0 program.locks (λ (l : ℕ). is_node q (slice_index_or machine.holders l None))) 0 shape.nodes
+      (λ (q : ℕ). each_from 0 program.locks (λ (l : ℕ). is_holder q (slice_index_or machine.holders l None))) 0 shape.nodes
       (λ q low high.
-      each_agree (λ (l : ℕ). is_held run q l (length run)) (λ (l : ℕ). is_node q (slice_index_or machine.holders l None)) 0 program.locks
+      each_agree (λ (l : ℕ). is_held run q l (length run)) (λ (l : ℕ). is_holder q (slice_index_or machine.holders l None)) 0 program.locks
       (λ l low' high'. held_is program shape.nodes run machine made q l));
   arrived = each_agree (arrived_since base run) (λ (q : ℕ). slice_index machine.arrivals q - base.first) 0 shape.nodes
       (λ q low high. ap (λ n. n - base.first) (arrivals_are program shape.nodes run machine made q (omega (arith, high))));

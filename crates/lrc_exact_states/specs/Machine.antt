@@ -18,13 +18,13 @@ pub record IsMadeBy (program : Program) (nodes : ℕ) (run : List Act) (machine 
   pub stopped : (n : ℕ) → n < nodes → thread_in machine n ≡ None → departs_before run n (length run) ≡ arrives_before run n (length run)
 
 -- whether the node is the holder
-abbrev pub is_node : ℕ → Option ℕ → Bool
-is_node node None = false
-is_node node (Some holder) = holder == node
+abbrev pub is_holder : ℕ → Option ℕ → Bool
+is_holder node None = false
+is_holder node (Some holder) = holder == node
 
 -- the key has the machine's threads and holders, and its counts, those of the base left out
 pub record HasPartOfKey (nodes locks first : ℕ) (machine : Plain) (key : Key) : Type 0 where
   pub threads : key.threads ≡ each_from 0 nodes (thread_in machine)
-  pub held : key.held ≡ each_from 0 nodes (λ (node : ℕ). each_from 0 locks (λ (lock : ℕ). is_node node (slice_index_or machine.holders lock None)))
+  pub held : key.held ≡ each_from 0 nodes (λ (node : ℕ). each_from 0 locks (λ (lock : ℕ). is_holder node (slice_index_or machine.holders lock None)))
   pub arrived : key.arrived ≡ each_from 0 nodes (λ (node : ℕ). slice_index machine.arrivals node - first)
   pub departed : key.departed ≡ each_from 0 nodes (λ (node : ℕ). departures_of machine node - first)
