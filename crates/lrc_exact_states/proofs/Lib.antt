@@ -23,3 +23,4 @@ mod Keys
 mod Capped
 mod Machine
 mod Reached
+mod Keyed

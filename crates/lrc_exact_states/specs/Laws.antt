@@ -9,6 +9,7 @@ use Rattle.lrc_exact_states.specs.Runs.{Base}
 use Rattle.lrc_exact_states.specs.Goes.{AreAlike}
 use Rattle.lrc_exact_states.specs.Searched.{IsAmong, IsClosedSearch, IsFound, IsReached, Seen}
 use Rattle.lrc_exact_states.specs.Key.{IsKeyUpTo, key_of}
+use Rattle.lrc_exact_states.specs.Keyed.{IsKeyedSearch}
 use Rattle.lrc_exact_states.specs.Machine.{HasPartOfKey, IsMadeBy}
 
 -- Without collections, what it has looked at being these runs, it finds each exact outcome, and no other.
@@ -24,6 +25,12 @@ EqualKeysStandAlike = (program : Program) (shape : Shape) (cap : ℕ) (base base
     → KeepsExact shape run states → KeepsExact shape run' states'
     → key_of program shape cap base run states ≡ key_of program shape cap base' run' states'
     → AreAlike program shape cap base base' run run' states states'
+
+-- So a search that joins runs with equal keys finds each exact outcome, and no other.
+abbrev pub JoiningByKeysFindsAll : Type 0
+JoiningByKeysFindsAll = (program : Program) (shape : Shape) (cap : ℕ) (looked : List Seen) → shape.collect ≡ 0 → 1 ≤ cap
+    → IsKeyedSearch program shape cap (IsAmong looked) → (notes : List Act)
+    → IsExactOutcome program shape notes ↔ IsFound program shape (IsAmong looked) notes
 
 -- Of weights, and of how many intervals are known above the base, a key keeps no number above the cap, however long the run is.
 abbrev pub KeysKeepNoMore : Type 0

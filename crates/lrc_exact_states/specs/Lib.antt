@@ -4,5 +4,6 @@ pub mod Runs
 pub mod Goes
 pub mod Searched
 pub mod Key
+pub mod Keyed
 pub mod Machine
 pub mod Laws

@@ -1,6 +1,6 @@
 // The laws of a search that joins runs. Each function is a theorem: its body is empty, and its clause is the law.
 
-ghost use Rattle.lrc_exact_states.specs.Laws.{EqualKeysStandAlike, JoiningFindsAll, KeysKeepNoMore, MachineHasPartOfKey};
+ghost use Rattle.lrc_exact_states.specs.Laws.{EqualKeysStandAlike, JoiningByKeysFindsAll, JoiningFindsAll, KeysKeepNoMore, MachineHasPartOfKey};
 
 /// A search that joins exact runs which stand alike finds each exact outcome, and no other, if no barrier collects. Of each
 /// run it looks at each act that may come next, or at one that acquires no lock, or a node can look round for ever. Each run
@@ -14,6 +14,13 @@ pub fn joining_finds_all()
 /// spin. Each run is seen from the beginning, or from a barrier behind which all nodes stood.
 pub fn equal_keys_stand_alike()
     ensures { EqualKeysStandAlike }
+{}
+
+/// A search that joins exact runs with equal keys finds each exact outcome, and no other, if no barrier collects. Of each run it
+/// looks at each act that may come next, or at one that acquires no lock, or a node can look round for ever. Each run that such
+/// an act leads to has the key of one that is looked at, and what the act compares is below the cap.
+pub fn joining_by_keys_finds_all()
+    ensures { JoiningByKeysFindsAll }
 {}
 
 /// Of weights, and of how many intervals are known above the base, a key keeps no number above the cap, however long the run is.

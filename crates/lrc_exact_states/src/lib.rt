@@ -11,11 +11,12 @@
 //!
 //! PLAN (goes when the work is done). Without collections alone.
 //!
-//! 1. Done: a search that joins runs that stand alike finds all (`joining_finds_all`); runs with equal keys stand alike
-//!    (`equal_keys_stand_alike`); what a key keeps of numbers is capped (`keys_keep_no_more_than_the_cap`). A clause cannot be of
-//!    `Type 1`. So `specs` has levels that are told apart (`Told`), and `proofs/By` those of any kind, which the proofs are about.
-//! 2. To do: the search looks at a run and a base (`Seen`). It is a closed search (`IsClosedSearch`): a run that acts lead to is
-//!    met, or one with the same key is. By `goes_on` of `IsReached` and the law for keys that gives `StandsAs`.
+//! 1. Done: a search that joins runs that stand alike finds all (`joining_finds_all`), runs with equal keys stand alike
+//!    (`equal_keys_stand_alike`), so a search that joins by keys finds all (`joining_by_keys_finds_all`). What a key keeps of numbers
+//!    is capped; its threads, holders and counts are the plain machine's. A clause cannot be of `Type 1`. So `specs` has levels that
+//!    are told apart (`Told`), and `proofs/By` those of any kind, which the proofs are about.
+//! 2. To do: the search looks at runs and bases (`Seen`), so that it is an `IsKeyedSearch`: a run that acts lead to has the key of one
+//!    that is met. After the departs from a barrier a run is level, and its base is there (`from_level`).
 //! 3. To do: a key, computed of `ExactRun` of `lrc_exact_search`, equal only where `key_of` is. `gaps` has each two places; what is
 //!    computed may have neighbours alone: of each node the numbers that are known at some place, in order, which place knows which,
 //!    and the last changes between neighbours. `rows_same` of `proofs/Rows` joins them.
