@@ -177,26 +177,24 @@ class Run:
     def level(s):
         """all nodes know the same: that is the floor from here on"""
         s.floor = s.time[0]; s.arr = [None]*s.n
-    # ------------------------------------------------------------ the state, as far as it decides what comes
+    # ------------------------------------------------------------ the key, as crates/lrc_exact_states/specs/Key.antt has it
     def key(s, cap):
-        W = sum(s.floor); N = range(s.n)
-        hold = [t for t in s.time] + [None if r is None or all(r[q] <= s.floor[q] for q in N) else r for r in s.rel] + list(s.arr)
-        know = []
-        for q in N:
-            up = [0 if t is None else max(0, t[q]-s.floor[q]) for t in hold]
-            levels = sorted(set(up)); rank = tuple(levels.index(u) for u in up)
-            parts = []
-            for a, b in zip(levels, levels[1:]):
-                last = {}
-                for j in range(s.floor[q]+a+1, s.floor[q]+b+1):
-                    for w, v in s.made[q][j][1].items(): last[w] = (v, min(cap, s.made[q][j][0]-W))
-                parts.append(tuple(sorted(last.items())))
-            know.append((rank, tuple(parts), tuple(min(cap, u) for u in up), levels[0] == 0))
-        marks = tuple(tuple(None if m is None or m[0] <= W else (min(cap, m[0]-W), m[1]) for m in row) for row in s.mark)
-        # a place with nothing above the floor is as none
-        there = tuple(t is not None for t in hold[s.n+s.locks:])
-        return (tuple(s.th), tuple(map(tuple, s.val)), marks, tuple(tuple(sorted(b.items())) for b in s.before), tuple(know), there,
-                tuple(s.holder), tuple(a-min(s.nd) for a in s.na), tuple(a-min(s.nd) for a in s.nd), s.notes)
+        """as much of the state as decides what comes: of each two places how they stand to each other"""
+        W = sum(s.floor); N = range(s.n); up = lambda b, x: min(cap, max(0, x-b))
+        locks = [None if r is None or not any(r[q] > s.floor[q] for q in N) else r for r in s.rel]
+        first = min(s.nd)                             # the number of the barrier at the base; no node is two barriers ahead
+        arrived = [a-first for a in s.na]
+        known = list(s.time) + locks + [s.arr[i] for i in N for _ in range(arrived[i])]
+        def gap(q, a, b):
+            last = {}
+            for j in range(a[q]+1, b[q]+1):
+                for w, v in s.made[q][j][1].items(): last[w] = (v, up(W, s.made[q][j][0]))
+            return (a[q] <= b[q], tuple(last.get(w) for w in range(s.words)))
+        heights = tuple(None if k is None else tuple(up(s.floor[q], k[q]) for q in N) for k in known)
+        gaps = tuple(tuple(tuple(None if a is None or b is None else gap(q, a, b) for q in N) for b in known) for a in known)
+        marks = tuple(tuple(None if m is None or m[0] <= W else (up(W, m[0]), m[1]) for m in row) for row in s.mark)
+        return (tuple(s.th), s.notes, tuple(s.holder), tuple(arrived), tuple(d-first for d in s.nd), tuple(map(tuple, s.val)), marks,
+                tuple(tuple(b.get(w) for w in range(s.words)) for b in s.before), heights, gaps)
 class Undecided(Exception): pass
 class TooMany(Exception): pass
 def ahead(run, cap, limit=3000):

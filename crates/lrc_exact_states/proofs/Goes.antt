@@ -7,7 +7,7 @@ use Rattle.lrc_trace.specs.declared.act.Act.{Act}
 use Rattle.lrc_trace.specs.declared.act.Deed.{Deed}
 use Rattle.lrc_trace.specs.declared.act.Deed.TheVariants.{Read}
 use Rattle.lrc_trace.specs.Synchronization.{MayGoOn}
-use Rattle.lrc_trace.proofs.Positions.{Does-deed, Does-last}
+use Rattle.lrc_trace.proofs.Positions.{Does-deed, Does-last, Does-within}
 use Rattle.lrc_trace.proofs.Prefixes.{IsWellSynchronized-more, MayGoOn-last}
 use Rattle.lrc_exec.specs.Plain.{start_of}
 use Rattle.lrc_exec.specs.Follows.{FollowsText, Makes, deeds_of}
@@ -16,11 +16,12 @@ use Rattle.lrc_orders.specs.Notes.{notes_with}
 use Rattle.lrc_orders.proofs.Noting.{notes_more}
 use Rattle.lrc_lazy.specs.Lazy.{IsOver}
 use Rattle.lrc_lazy.proofs.Deeds.{deeds_joined}
+use Rattle.lrc_lazy.proofs.Following.{stands_first}
 use Rattle.lrc_exact.specs.LocalRule.{state_after}
 use Rattle.lrc_exact.specs.Rule.{Shape, State, exact_rule, exact_value, KeepsExact}
 use Rattle.lrc_exact.proofs.LocalRules.{before-same, keeps-more, one_list, prefix-alike}
 use Rattle.lrc_exact_laws.specs.Laws.{IsExactRun}
-use Rattle.lrc_exact_judge.proofs.Reading.{reads-more}
+use Rattle.lrc_exact_judge.proofs.Reading.{reads-more, reads-none}
 use Rattle.lrc_exact_states.specs.Goes.{IsTextAlike}
 use Rattle.lrc_exact_states.specs.Runs.{Base, here, IsDecidedDeed}
 use Rattle.lrc_exact_states.proofs.By.{AreAlikeBy}
@@ -62,6 +63,18 @@ module _ (program : Program) (nodes : ℕ) where
 module _ (program : Program) (shape : Shape) where
   abbrev Exact : List Act → Type 0
   Exact run = IsExactRun program shape run
+
+  -- the run without acts
+  pub none_yet : Exact []
+  none_yet = record {
+    follows = (stands_first program shape.nodes).follows;
+    synchronized = record {
+      acquires = λ j n l does. let lt = Does-within does in absurd (omega arith);
+      releases = λ j n l does. let lt = Does-within does in absurd (omega arith);
+      departs = λ j n does. let lt = Does-within does in absurd (omega arith);
+    };
+    exact = reads-none shape;
+  }
 
   -- one way
   goes_there : (run run' : List Act) (states states' : List State) → KeepsExact shape run states → KeepsExact shape run' states' → Exact run'

@@ -28,7 +28,7 @@ beyond (x ∷ xs) zero le = absurd (omega (arith, le))
 beyond (x ∷ xs) (suc q) le = beyond xs q (omega (arith, le))
 
 -- nobody has arrived with a number as high as the count of arrives
-none_there : (shape : Shape) (run : List Act) (states : List State) → KeepsExact shape run states → (number q : ℕ)
+pub none_there : (shape : Shape) (run : List Act) (states : List State) → KeepsExact shape run states → (number q : ℕ)
     → (q < shape.nodes → arrives_before run q (length run) ≤ number) → arrived_state run states number (length run) q ≡ None
 none_there shape run states keeps number q few = elim (last-cases (arrives_there run number q) states (length run)) [
   | inl (none, never) ↦ none

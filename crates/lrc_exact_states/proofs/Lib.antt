@@ -1,5 +1,4 @@
 mod Levels
-mod Keyed
 mod Learning
 mod Closing
 mod Stepping
@@ -9,3 +8,19 @@ mod Chains
 mod Level
 mod Goes
 mod Searched
+mod Kept
+mod Rows
+mod Listed
+mod Placed
+mod Lower
+mod Decided
+mod Selves
+mod Held
+mod Fresh
+mod Texts
+mod Ranged
+mod Keys
+mod Capped
+mod Machine
+mod Reached
+mod Keyed

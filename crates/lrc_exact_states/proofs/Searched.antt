@@ -9,21 +9,18 @@ use Rattle.lrc_trace.specs.declared.act.Deed.TheVariants.{Quiet, Print, Read, Wr
 use Rattle.lrc_trace.specs.Run.{act_of}
 use Rattle.lrc_orders.specs.Notes.{notes_of}
 use Rattle.lrc_lazy.specs.Lazy.{IsOver}
-use Rattle.lrc_lazy.proofs.Following.{stands_first}
 use Rattle.lrc_lazy.specs.Swapped.{IsNoAcquire}
-use Rattle.lrc_trace.proofs.Positions.{Does-within}
 use Rattle.lrc_exact.specs.LocalRule.{state_after}
 use Rattle.lrc_exact.specs.Rule.{Shape, State, exact_rule}
 use Rattle.lrc_exact.proofs.LocalRules.{one_list}
 use Rattle.lrc_exact_laws.specs.Laws.{IsExactRun}
-use Rattle.lrc_exact_judge.proofs.Reading.{reads-none}
 use Rattle.lrc_exact_outcomes.specs.Outcome.{IsExactOutcome}
 use Rattle.lrc_exact_outcomes.proofs.Fronting.{in_front}
 use Rattle.lrc_exact_outcomes.proofs.Running.{exact_front, may_come, one_deed}
 use Rattle.lrc_exact_states.specs.Runs.{Base, begun, IsDecidedDeed, IsLevel}
 use Rattle.lrc_exact_states.specs.Searched.{first_seen, from_level, as_before, IsClosedSearch, IsFound, IsLook, IsLookedAt, by_all, by_one, for_ever, AreLooks, still, onward, IsSeenFrom, LeadsOn, Seen}
 use Rattle.lrc_exact_states.proofs.By.{AreAlikeBy, by_told}
-use Rattle.lrc_exact_states.proofs.Goes.{alike_more, alike_then, goes_alike, over_alike}
+use Rattle.lrc_exact_states.proofs.Goes.{alike_more, alike_then, goes_alike, none_yet, over_alike}
 use Rattle.lrc_exact_states.proofs.Level.{begun_alike, level_alike}
 
 module _ (program : Program) (shape : Shape) (cap : ℕ) (calm : shape.collect ≡ 0) where
@@ -40,24 +37,13 @@ module _ (program : Program) (shape : Shape) (cap : ℕ) (calm : shape.collect �
 
   -- ---- no act
 
-  none_yet : Exact []
-  none_yet = record {
-    follows = (stands_first program nodes).follows;
-    synchronized = record {
-      acquires = λ j n l does. let lt = Does-within does in absurd (omega arith);
-      releases = λ j n l does. let lt = Does-within does in absurd (omega arith);
-      departs = λ j n does. let lt = Does-within does in absurd (omega arith);
-    };
-    exact = reads-none shape;
-  }
-
   stands_begun : 1 ≤ cap → Stands [] (begun nodes) (first_seen nodes)
   stands_begun some = record {
     states = [];
     states' = [];
     alike = record {
-      exact = none_yet;
-      exact' = none_yet;
+      exact = none_yet program shape;
+      exact' = none_yet program shape;
       text = record { makes = λ n lt more. (λ m. m, λ m. m); notes = refl };
       alike = begun_alike shape cap some;
     };

@@ -240,7 +240,7 @@ module _ (shape : Shape) (cap : ℕ) (floor floor' : List ℕ) (made made' : Tab
   arrived_alike (Some state) None knows knows' a k = absurd a
   arrived_alike None (Some state') knows knows' a k = absurd a
 
-  all_alike : (count : ℕ) (arrived arrived' : ℕ → Option State) → ((q : ℕ) → ArriveAlike nodes made made' level (arrived q) (arrived' q))
+  pub all_alike : (count : ℕ) (arrived arrived' : ℕ → Option State) → ((q : ℕ) → ArriveAlike nodes made made' level (arrived q) (arrived' q))
       → IsAllAlike nodes made made' level (known_by_all count nodes arrived) (known_by_all count nodes arrived')
   all_alike zero arrived arrived' a =
       no_arrive (length-replicate {A = ℕ} nodes 0) (length-replicate {A = ℕ} nodes 0) (λ q. entry-zeros nodes q) (λ q. entry-zeros nodes q)

@@ -3,4 +3,7 @@ pub mod Alike
 pub mod Runs
 pub mod Goes
 pub mod Searched
+pub mod Key
+pub mod Keyed
+pub mod Machine
 pub mod Laws

@@ -37,6 +37,12 @@ pub data IsSeenFrom (shape : Shape) (run : List Act) (before : Base) : Base → 
   as_before : IsSeenFrom shape run before before
   from_level : {now : Base} (states : List State) → KeepsExact shape run states → IsLevel shape now run states → zero < shape.nodes → IsSeenFrom shape run before now
 
+-- a run that acts lead to from the beginning, and from where it is seen
+pub data IsReached (program : Program) (shape : Shape) : List Act → Base → Type 0 where
+  begins : IsReached program shape [] (begun shape.nodes)
+  goes_on : {run : List Act} {before now : Base} (act : Act) → IsReached program shape run before → IsExactRun program shape (run ++ act ∷ [])
+      → IsSeenFrom shape (run ++ act ∷ []) before now → IsReached program shape (run ++ act ∷ []) now
+
 -- an act leads to a run that is looked at, or to one that stands as such a run; what the act compares is decided
 pub record LeadsOn (program : Program) (shape : Shape) (cap : ℕ) (Looked : Seen → Type 0) (seen : Seen) (act : Act) : Type 0 where
   pub decided : (states : List State) → KeepsExact shape seen.acts states

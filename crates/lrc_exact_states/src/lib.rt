@@ -6,23 +6,25 @@
 //! a floor that all nodes know, up to a cap. So a node that spins comes back to a state that was met, though its intervals
 //! are more. Where two weights at the cap are compared, that is not decided, and the cap has to be higher.
 //!
+//! This is the key of a run (`specs/Key.antt`), as it is seen from a base: from the beginning, or from a barrier behind which
+//! all nodes stood.
+//!
 //! PLAN (goes when the work is done). Without collections alone.
 //!
-//! 1. Done: all is checked, and `laws.rt` has the law that a search which joins finds all.
-//! 2. A clause cannot be of `Type 1`. So `specs` has levels that are told apart (`Told`), and `proofs/By` those of any kind, which the
-//!    proofs are about.
-//! 3. The search looks at a run and a base (`Seen`). It is a closed search (`IsClosedSearch`): a run that acts lead to is
-//!    met, or one with the same key is. The key has of each node its spot, values, values before the open interval, and
-//!    marks above the floor; of each node's intervals how the numbers that each node, lock and arrive knows stand to each
-//!    other, each number less the floor's and the last change of each word between two of them, up to the cap; the holders,
-//!    and the counts of arrives and departs less the base's. After the departs from a barrier a run is level, and its base is there.
-//!    `Memory` of `lrc_exact_judge` keeps these private, and has learned already for a node that is still to depart.
-//! 4. The law for keys: equal keys, so `AreRunsAlike`. A level is a pair of numbers that one place knows in both runs. `Keyed` of
-//!    `proofs` has the first part: levels in a row, of which neighbours are alike, are `AreLevels` (`levels_of_rows`). To do: that it is
-//!    told whether a pair is in a row (`Told`); that a key's rows are such, and hold what each place knows; texts, marks and locks.
-//! 5. Each acquire and depart is held against `IsDecidedDeed`. Where one is not decided, the search is made again with the
+//! 1. Done: a search that joins runs that stand alike finds all (`joining_finds_all`), runs with equal keys stand alike
+//!    (`equal_keys_stand_alike`), so a search that joins by keys finds all (`joining_by_keys_finds_all`). What a key keeps of numbers
+//!    is capped; its threads, holders and counts are the plain machine's. A clause cannot be of `Type 1`. So `specs` has levels that
+//!    are told apart (`Told`), and `proofs/By` those of any kind, which the proofs are about.
+//! 2. To do: the search looks at runs and bases (`Seen`), so that it is an `IsKeyedSearch`: a run that acts lead to has the key of one
+//!    that is met. After the departs from a barrier a run is level, and its base is there (`from_level`).
+//! 3. To do: a key, computed of `ExactRun` of `lrc_exact_search`, equal only where `key_of` is. `gaps` has each two places; what is
+//!    computed may have neighbours alone: of each node the numbers that are known at some place, in order, which place knows which,
+//!    and the last changes between neighbours. `rows_same` of `proofs/Rows` joins them.
+//!    `Memory` of `lrc_exact_judge` keeps what is needed private, and has learned already for a node that is still to depart: take
+//!    the key where no node is between.
+//! 4. Each acquire and depart is held against `IsDecidedDeed`. Where one is not decided, the search is made again with the
 //!    next cap (4, 16, .., 4,096), then as it is today, without joining; so it is with collections.
-//! 6. `FitsExactly` of `lrc_exact_search` says that what comes next is met. It has to say: is met, or stands as what is.
+//! 5. `FitsExactly` of `lrc_exact_search` says that what comes next is met. It has to say: is met, or stands as what is.
 #![tactic(auto)]
 
 pub mod laws;
