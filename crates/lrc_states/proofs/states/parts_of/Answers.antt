@@ -32,7 +32,7 @@ returns-clause-states c made goes =
     let sized : c.told.inside.0.1.1.0.size ≡ told.options.size = ap (λ (t : code_told.Told). t.options.size) c.told.view_is in
     if_ok c.parts.result (c.parts.ensures.told plan start.1.0 made _ at goes_on)
     (λ parts tells.
-    states_so told range plan labels setting count start c.told.inside.0.1.1.1.0.now same _ others c.told.inside.0.1.1.0.size sized
+    states_so told range plan labels setting count start c.told.inside.0.1.1.1.0.now same _ others c.args.telling c.told.inside.0.1.1.0.size sized
     (whole_text parts.items) tells)
 
 pub returns-clause-fault : goal.returns-clause-fault
