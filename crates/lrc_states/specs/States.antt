@@ -1,5 +1,5 @@
 -- The lines of a run's turns with the states of its nodes.
-use Rattle.std.specs.Prelude.{◌≡◌, ◌⊎◌, ◌<◌, ◌≤◌, ℕ, ◌+◌, Bool, true, Option, None, Some, List, [], ◌∷◌, ◌++◌, codes, decimal, drop, filter, length, map, nat_le, slice_get, take}
+use Rattle.std.specs.Prelude.{◌≡◌, ◌<◌, ◌≤◌, ℕ, Bool, true, Option, None, Some, List, [], ◌∷◌, ◌++◌, codes, decimal, drop, filter, length, map, nat_le, slice_get, take}
 use Rattle.std.specs.List.{enumerate_from, flat_map}
 use Rattle.std.specs.Option.{option_to_list}
 use Rattle.lrc_trace.specs.declared.act.Act.{Act}

@@ -1,8 +1,7 @@
-use Rattle.std.proofs.Common.{◌≡◌, ◌∙◌, IfOk, ap, map}
+use Rattle.std.proofs.Common.{◌≡◌, ◌∙◌, ap}
 use Rattle.lrc_lines.specs.Walks.{walk_behind}
 use Rattle.lrc_replay.specs.Acts.{Plan}
-use Rattle.lrc_state_text.specs.Place.{named_seen}
-use Rattle.lrc_states.specs.Names.{names_behind, names_set}
+use Rattle.lrc_states.specs.Names.{names_set}
 use Rattle.lrc_states.proofs.Whole.{if_ok}
 use Rattle.lrc_states.proofs.player.Player.names_of.Goals as goal
 

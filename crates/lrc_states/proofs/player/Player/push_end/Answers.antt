@@ -1,4 +1,4 @@
-use Rattle.std.proofs.Common.{◌≡◌, ◌∙◌, ◌++◌, OnOk, ap, append_assoc, codes, rules}
+use Rattle.std.proofs.Common.{◌≡◌, ◌∙◌, ◌++◌, ℕ, OnOk, Some, ap, append_assoc, codes, rules, slice_get, subst, sym}
 use Rattle.lrc_replay.proofs.Coursing.{on_ok}
 use Rattle.lrc_text.proofs.Fronts.{ends_ok, grown_by}
 use Rattle.lrc_states.specs.Members.{stands_member}
@@ -14,7 +14,7 @@ returns-clause-line c plan world turns l is there =
     let first = c.in_ok-extend_from_slice.ensures.items in
     let second = grown_by old (codes ",\"state\":") told first (c.in_ok-push_next_state.ensures.line plan world turns l is there) in
     let third = grown_by old (codes ",\"state\":" ++ told) did second c.in_ok-extend_from_slice-2.ensures.items in
-    let here = c.in_ok-state.ensures world l is.replay there in
+    let here = c.in_ok-state.ensures world l is.replay (subst (λ (n : ℕ). slice_get world.nodes n ≡ Some l) (sym c.from.ensures) there) in
     let fourth = grown_by old (codes ",\"state\":" ++ told ++ did) stands third
     (c.in_ok-push_stands.ensures ∙ ap (λ n. c.extend_from_slice-2.new.self.items ++ stands_member c.args.telling n) here)
     ∙ ap (λ t. old ++ t) (append_assoc (codes ",\"state\":" ++ told) did stands) in

@@ -1,4 +1,4 @@
-use Rattle.std.proofs.Common.{◌≡◌, ◌∙◌, ap, map}
+use Rattle.std.proofs.Common.{◌≡◌, ◌∙◌, ℕ, Some, ap, map, slice_get, subst, sym}
 use Rattle.lrc_replay.proofs.Coursing.{on_ok}
 use Rattle.lrc_state_text.specs.Place.{named_seen}
 use Rattle.lrc_protocol.specs.Node.{Node}
@@ -12,11 +12,13 @@ returns-clause-line c plan world turns l is there =
     let node = c.args.node in
     let names : map named_seen c.deref.result.now ≡ names_behind plan world.acts node =
     ap (map named_seen) c.deref.ensures.value ∙ c.in_ok-names.ensures plan world.acts is.plan_is is.course in
+    let here = subst (λ (n : ℕ). slice_get world.nodes n ≡ Some l) (sym c.from.ensures) there in
     on_ok c.push_next_state.result c.push_next_state.ensures.text
     (λ told. state_so plan world.acts node c.args.known.now c.in_ok-state.state.now l.node c.spot.result.line (map named_seen c.deref.result.now)
-    _ _ (c.in_ok-state.ensures world l is.replay there) (ap (λ s. s.line) (c.spot.ensures plan world.acts is.course)) names told)
+    _ _ (c.in_ok-state.ensures world l is.replay here) (ap (λ s. s.line) (c.spot.ensures plan world.acts is.course)) names told)
 
 pub returns-clause-known : goal.returns-clause-known
 returns-clause-known c world l is there =
+    let here = subst (λ (n : ℕ). slice_get world.nodes n ≡ Some l) (sym c.from.ensures) there in
     on_ok c.push_next_state.result c.push_next_state.ensures.known
-    (λ known. known ∙ ap (λ (n : Node). stored_in n.memory) (c.in_ok-state.ensures world l is.replay there))
+    (λ known. known ∙ ap (λ (n : Node). stored_in n.memory) (c.in_ok-state.ensures world l is here))

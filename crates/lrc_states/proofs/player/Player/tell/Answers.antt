@@ -7,7 +7,7 @@ use Rattle.lrc_states.specs.States.{event_members, known_of}
 use Rattle.lrc_states.proofs.Keeping.{keeps, keeps_less, others_after}
 use Rattle.lrc_states.proofs.Playing.{left_by, one_turn, passed_over}
 use Rattle.lrc_states.proofs.Showing.{add_text}
-use Rattle.lrc_states.proofs.Telling.{line_so, stands_after}
+use Rattle.lrc_states.proofs.TurnLine.{line_so, stands_after}
 use Rattle.lrc_states.proofs.player.Player.tell.Goals as goal
 
 pub returns-in_default-clause-player : goal.returns-in_default-clause-player

@@ -1,4 +1,4 @@
-use Rattle.std.proofs.Common.{◌≡◌, ◌∙◌, ◌∷◌, [], ℕ, Option, None, Some, Vec, Global, ap, arith, false, length, rules, subst, sym, true}
+use Rattle.std.proofs.Common.{◌≡◌, ◌∙◌, ◌∷◌, [], ℕ, Option, Vec, Global, ap, arith, false, length, rules, subst, sym, true}
 use Rattle.lrc_protocol.specs.Run.{World}
 use Rattle.lrc_replay.proofs.Coursing.{on_ok}
 use Rattle.lrc_replay.specs.Turns.{turn_by}

@@ -1,5 +1,5 @@
 -- The line of a turn.
-use Rattle.std.proofs.Common.{◌≡◌, ◌∙◌, ◌++◌, ℕ, List, [], ◌∷◌, Option, Some, None, ap, refl, sym, codes, map}
+use Rattle.std.proofs.Common.{◌≡◌, ◌∙◌, ◌++◌, ℕ, List, Option, Some, None, ap, refl, sym, codes}
 use Rattle.std.specs.Prelude.{option_map, slice_get}
 use Rattle.std.specs.Option.{option_to_list}
 use Rattle.std.proofs.lemmas.Option.{same_Some, slice_get-map}
@@ -13,7 +13,7 @@ use Rattle.lrc_protocol.specs.Run.{Input, Logged, World}
 use Rattle.lrc_protocol.specs.Run as log
 use Rattle.lrc_replay.specs.Acts.{Plan}
 use Rattle.lrc_replay.specs.Replays.{brought_by, MakesTurn, message_of}
-use Rattle.lrc_replay.specs.Turns.{is_again, Turn, turn_by}
+use Rattle.lrc_replay.specs.Turns.{is_again, Turn}
 use Rattle.lrc_state_text.specs.Intervals.{StoredInterval}
 use Rattle.lrc_states.specs.declared.members.MessageParts.{MessageParts}
 use Rattle.lrc_states.specs.declared.told.Telling.{Telling}
