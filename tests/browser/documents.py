@@ -137,7 +137,8 @@ class Lines:
         state = {"time": [0] * 16, "open": 1, "waits": "no", "needs": [], "at": 3, "names": {}, "locks": [], "episode": 0, "manager": None,
                  "pages": [], "intervals": [], "collected": [0] * 16, "sent": [0] * 16, "taken": [0] * 16}
         lines = [{"program": "large.tm", "text": LARGE_PROGRAM},
-                 {"nodes": 16, "words": 65536, "locks": 0, "page": 64, "labels": [], "flight": [], "states": [state] * 16, "written": []}]
+                 {"nodes": 16, "words": 65536, "locks": 0, "page": 64, "labels": [], "flight": [], "states": [state] * 16, "written": [],
+                  "flying": [], "stand": [{"kind": "no"}] * 16}]
         pages = [[] for _ in range(16)]
         for turn in range(2000):
             node, word = turn % 16, turn * 521 % 65536
@@ -145,7 +146,10 @@ class Lines:
                                 "keeper": 0, "base": None})
             act = {"position": turn, "deed": f"write {word} 7", "line": 4, "interval": 1}
             after = state | {"pages": sorted(pages[node], key=lambda page: page["page"])}
-            lines.append({"turn": turn, "event": f"run {node}", "node": node, "take": None, "again": False, "act": act, "sends": [], "state": after})
+            parts = {"by": {"kind": "run", "of": node}, "done": {"kind": "write", "word": word, "value": "7"}, "took": None, "sent": [],
+                     "stands": {"kind": "no"}}
+            lines.append({"turn": turn, "event": f"run {node}", "node": node, "take": None, "again": False, "act": act, "sends": [], "state": after}
+                         | parts)
         return document_of("\n".join(json.dumps(line, separators=(",", ":")) for line in lines).encode())
 
 

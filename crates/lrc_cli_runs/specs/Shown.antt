@@ -10,6 +10,7 @@ use Rattle.lrc_trace.specs.declared.end.End.{End}
 use Rattle.lrc_report.specs.ReportText.{run_status_of, run_text}
 use Rattle.lrc_run.specs.Run.{turns_of_nodes}
 use Rattle.lrc_source.specs.Telling.{ReadText}
+use Rattle.lrc_states.specs.declared.told.Telling.TheVariants.{InWords}
 use Rattle.lrc_stats.specs.StatsText.{stats_text}
 use Rattle.lrc_world.specs.declared.keep.Keep.{Keep}
 use Rattle.lrc_world.specs.declared.keep.Keep.TheVariants.{All, Newest, Turns}
@@ -66,7 +67,7 @@ IsBytes part report turned out =
 
 -- the same in any form: with the states of the nodes, or with the bytes of their messages, it is of turns
 abbrev pub IsTraceShown : Form → ReadText → Program → RunOptions → Run → List ℕ → Type 0
-IsTraceShown (States part) text program options run out = IsStated part text program options run out
+IsTraceShown (States part) text program options run out = IsStated InWords part text program options run out
 IsTraceShown (Bytes part) text program options run out = IsBytes part run.report (turns_in program options run.events.items) out
 IsTraceShown form text program options run out = IsFormShown form text program options run out
 

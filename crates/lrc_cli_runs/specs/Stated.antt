@@ -10,6 +10,8 @@ use Rattle.lrc_source.specs.Telling.{ReadText, shown_text}
 use Rattle.lrc_states.specs.States.{AreStates, IsUnshown, Told}
 use Rattle.lrc_states.specs.declared.fault.StatesFault.TheVariants.{TooLong}
 use Rattle.lrc_states.specs.declared.told.Range.{Range}
+use Rattle.lrc_states.specs.declared.told.Telling.{Telling}
+use Rattle.lrc_states.specs.declared.told.Telling.TheVariants.{AlsoInMembers}
 use Rattle.lrc_step.specs.Lines.{document, run_lines}
 use Rattle.lrc_step.specs.EndLines.{TellsEnds}
 use Rattle.lrc_step.specs.RaceLines.{TellsRaces}
@@ -31,8 +33,8 @@ abbrev pub range_of : Part → Range
 range_of part = record { from = part.from; to = part.to }
 
 -- the turns of the part with the states of the nodes
-abbrev pub IsStated : Part → ReadText → Program → RunOptions → Run → List ℕ → Type 0
-IsStated part text program options run out = AreStates (told_of text program options run) (range_of part) out
+abbrev pub IsStated : Telling → Part → ReadText → Program → RunOptions → Run → List ℕ → Type 0
+IsStated telling part text program options run out = AreStates (told_of text program options run) (range_of part) telling out
 
 -- the turns of the part are more than may be shown
 abbrev pub HasTooManyTurns : Part → ReadText → Program → RunOptions → Run → Type 0
@@ -70,11 +72,11 @@ end_shown (Some position) count = min (position + 1) count
 abbrev pub acts_shown : Part → (count : ℕ) → races.Part
 acts_shown part count = record { from = first_shown part.from count; until = end_shown part.to count }
 
--- The document that shows the turns of a part of the run, under the name of the program's file: the states, the run with reasons and how its
--- nodes ended, its races, and why the acts of the part are as they are.
+-- The document that shows the turns of a part of the run, under the name of the program's file: the states, told also in members; the run with
+-- reasons and how its nodes ended; its races; and why the acts of the part are as they are.
 pub record IsStepped (name : List ℕ) (part : Part) (text : ReadText) (program : Program) (options : RunOptions) (run : Run) (out : List ℕ) : Type 0 where
   pub states : List ℕ
-  pub are_states : IsStated part text program options run states
+  pub are_states : IsStated AlsoInMembers part text program options run states
   pub explained : List ℕ
   pub is_explained : IsExplained text program options run.report.acts.items run.report.first_race explained
   pub ends : List ℕ

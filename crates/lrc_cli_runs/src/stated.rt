@@ -20,7 +20,7 @@ use lrc_judge::order::{Order, happens_before};
 use lrc_lines::walks::lines_of_acts;
 use lrc_node::options_of;
 use lrc_source::source::Source;
-use lrc_states::{Range, StatesFault, Told, states_parts};
+use lrc_states::{Range, StatesFault, Telling, Told, states_parts};
 use lrc_step::{Part as ShownActs, explain_part, races_part, reasons_part, step_document};
 use lrc_trace::act::Act;
 use lrc_world::run::Run;
@@ -29,13 +29,14 @@ use std::alloc::{AllocError, Global};
 /// Returns the turns of a part of a run with the states of its nodes, in parts that make the text together.
 pub(crate) fn stated(
     alloc: Global,
+    telling: Telling,
     part: Part,
     source: &Source<'_>,
     options: &RunOptions<'_>,
     run: &Run,
 ) -> Result<Vec<Vec<u8>>, Fault>
     requires ran { (keep : AnyKeep) × IsRunWith source.now.program options.now keep run.now }
-    ensures ok { IfOk result (λ parts. IsStated part source.now.text source.now.program
+    ensures ok { IfOk result (λ parts. IsStated telling part source.now.text source.now.program
         options.now run.now (whole_text parts.items)) }
     ensures err { IfErr result (IsStatesFault part source.now.text source.now.program options.now
         run.now) }
@@ -47,7 +48,7 @@ pub(crate) fn stated(
         options: options_of(&setting),
         events: &run.events,
     };
-    match states_parts(alloc, &told, range_of(part)) {
+    match states_parts(alloc, &told, range_of(part), telling) {
         Ok(parts) => Ok(parts),
         Err(StatesFault::TooLong) => Err(Fault::TooManyTurns),
         Err(StatesFault::NoMemory) => Err(Fault::NoMemory),
@@ -220,7 +221,7 @@ pub(crate) fn stepped(
     ensures err { IfErr result (IsStatesFault part source.now.text source.now.program options.now
         run.now) }
 {
-    let states = stated(alloc, part, source, options, run)?;
+    let states = stated(alloc, Telling::AlsoInMembers, part, source, options, run)?;
     let order = happens_before(alloc, &run.report.acts)?;
     let explained = explained_text(alloc, source, options, run, &order)?;
     let ends = ends_text(alloc, source, options, run, &explained)?;

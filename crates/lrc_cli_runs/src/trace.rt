@@ -32,6 +32,7 @@ use lrc_lines::statements::lines_of_statements;
 use lrc_log::Entry;
 use lrc_protocol::Event;
 use lrc_source::source::Source;
+use lrc_states::Telling;
 use lrc_turns_text::messages_part;
 use lrc_world::run::Run;
 use lrc_world::turned::Turned;
@@ -52,7 +53,7 @@ pub(crate) fn traced(
         run.now) }
 {
     match form {
-        Form::States(part) => stated(alloc, part, source, options, run),
+        Form::States(part) => stated(alloc, Telling::InWords, part, source, options, run),
         Form::Bytes(part) => Ok(bytes_parts(alloc, part, run)?),
         Form::Acts | Form::Messages | Form::Events | Form::Json | Form::Rapid => {
             Ok(trace_parts(alloc, form, source, options, run)?)

@@ -3,7 +3,7 @@ pub mod Keeping
 pub mod Playing
 pub mod Naming
 pub mod Showing
-pub mod Telling
+pub mod TurnLine
 pub mod Shown
 pub mod Starting
 pub mod Lines

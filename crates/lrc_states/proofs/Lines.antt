@@ -1,7 +1,7 @@
 -- Turns that are told one after another.
-use Rattle.std.proofs.Common.{◌≡◌, ◌∙◌, ◌+◌, ◌<◌, ◌≤◌, ◌++◌, ℕ, Bool, List, [], ◌∷◌, Option, Some, None, ap, refl, sym, subst, arith, length, get_or, take, drop, append-nil}
+use Rattle.std.proofs.Common.{◌≡◌, ◌∙◌, ◌+◌, ◌<◌, ◌≤◌, ◌++◌, ℕ, Bool, List, [], ◌∷◌, Option, Some, None, ap, refl, sym, subst, arith, length, get_or, take, drop}
 use Rattle.std.specs.Prelude.{filter, fold, Vec}
-use Rattle.std.specs.List.{enumerate_from, flat_map}
+use Rattle.std.specs.List.{enumerate_from}
 use Rattle.std.specs.declared.alloc.Global.{Global}
 use Rattle.std.proofs.lemmas.List.{append_assoc, length-append, take-append-drop, take_all}
 use Rattle.std.proofs.lemmas.List.Elements.{filter-append}
@@ -13,6 +13,7 @@ use Rattle.lrc_replay.specs.Turns.{Turn, turn_by, turns_from}
 use Rattle.lrc_replay.proofs.Turning.{goes_on, turns_on}
 use Rattle.lrc_text.specs.Parts.{whole_text}
 use Rattle.lrc_states.specs.declared.player.Player.{Player}
+use Rattle.lrc_states.specs.declared.told.Telling.{Telling}
 use Rattle.lrc_states.specs.Players.{AddsLines, IsPlayer}
 use Rattle.lrc_states.specs.States.{is_within, most_turns, shown_now, turn_line, turn_lines, turns_shown}
 use Rattle.lrc_states.proofs.Playing.{IsPlayed, plays_on}
@@ -59,10 +60,10 @@ no_more to turns world events k =
 -- ---- turns that are told
 
 -- so many events are played, and their turns are told behind one part
-pub record IsTold (plan : Plan) (world : World) (turns : ℕ) (to : Option ℕ) (events : List Event) (k : ℕ) (old now : List (Vec ℕ Global)) (player : Player)
-    : Type 0 where
+pub record IsTold (plan : Plan) (telling : Telling) (world : World) (turns : ℕ) (to : Option ℕ) (events : List Event) (k : ℕ)
+    (old now : List (Vec ℕ Global)) (player : Player) : Type 0 where
   pub played_is : IsPlayed plan world turns events k player
-  pub lines : AddsLines plan (turns_shown to turns world (take k events)) old now
+  pub lines : AddsLines plan telling (turns_shown to turns world (take k events)) old now
 
 shown_next : (world end : World) (to : Option ℕ) (turns : ℕ) (events : List Event) (k : ℕ) (d : Event) (within : k < length events)
     (goes : played world events ≡ Some end) (now : World) → played world (take k events) ≡ Some now
@@ -72,18 +73,19 @@ shown_next world end to turns events k d within goes now stands =
     ap (shown_now to turns) (turns_on world end events k d within goes now stands)
     ∙ shown_more to turns (turns_from (Some world) (take k events)) (turn_by now (get_or events k d))
 
-pub lines_next : (plan : Plan) (some one : List (ℕ × Turn)) (all : List (ℕ × Turn)) (old now next : List (Vec ℕ Global))
-    → all ≡ some ++ one → AddsLines plan some old now → AddsLines plan one now next → AddsLines plan all old next
-lines_next plan some one all old now next all_is first second = record {
-  text = second.text ∙ ap (λ l. l ++ turn_lines plan one) first.text ∙ append_assoc (whole_text old) (turn_lines plan some) (turn_lines plan one)
-      ∙ ap (λ l. whole_text old ++ l) (sym (flat_map-append (λ (at : ℕ × Turn). turn_line plan at.0 at.1) some one))
-      ∙ ap (λ s. whole_text old ++ turn_lines plan s) (sym all_is);
+pub lines_next : (plan : Plan) (telling : Telling) (some one : List (ℕ × Turn)) (all : List (ℕ × Turn)) (old now next : List (Vec ℕ Global))
+    → all ≡ some ++ one → AddsLines plan telling some old now → AddsLines plan telling one now next → AddsLines plan telling all old next
+lines_next plan telling some one all old now next all_is first second = record {
+  text = second.text ∙ ap (λ l. l ++ turn_lines plan telling one) first.text
+      ∙ append_assoc (whole_text old) (turn_lines plan telling some) (turn_lines plan telling one)
+      ∙ ap (λ l. whole_text old ++ l) (sym (flat_map-append (λ (at : ℕ × Turn). turn_line plan telling at.0 at.1) some one))
+      ∙ ap (λ s. whole_text old ++ turn_lines plan telling s) (sym all_is);
   many = omega (arith, first.many, second.many, ap length all_is, length-append some one);
 }
 
-module _ (plan : Plan) (world end : World) (turns : ℕ) (to : Option ℕ) (events : List Event) (k : ℕ) (d : Event) (old now : List (Vec ℕ Global))
-    (player : Player) (within : k < length events) (goes : played world events ≡ Some end)
-    (told : IsTold plan world turns to events k old now player) where
+module _ (plan : Plan) (telling : Telling) (world end : World) (turns : ℕ) (to : Option ℕ) (events : List Event) (k : ℕ) (d : Event)
+    (old now : List (Vec ℕ Global)) (player : Player) (within : k < length events) (goes : played world events ≡ Some end)
+    (told : IsTold plan telling world turns to events k old now player) where
   abbrev before : ℕ
   before = turns + length (turns_from (Some world) (take k events))
 
@@ -91,14 +93,14 @@ module _ (plan : Plan) (world end : World) (turns : ℕ) (to : Option ℕ) (even
       → ((w m : World) (t : ℕ) → IsPlayer plan w t player → event_on w (get_or events k d) ≡ Some m
       → IsPlayer plan m (t + length (turn_by w (get_or events k d))) new)
       → ((w m : World) (t : ℕ) → IsPlayer plan w t player → event_on w (get_or events k d) ≡ Some m
-      → AddsLines plan (shown_now to t (turn_by w (get_or events k d))) now next)
-      → IsTold plan world turns to events (k + 1) old next new
+      → AddsLines plan telling (shown_now to t (turn_by w (get_or events k d))) now next)
+      → IsTold plan telling world turns to events (k + 1) old next new
   tells_on next new plays adds =
       let at = told.played_is in
       let m = goes_on world end events k d within goes at.0 at.1 in
       record {
         played_is = plays_on plan world end turns events k d player new within goes at plays;
-        lines = lines_next plan (turns_shown to turns world (take k events)) (shown_now to before (turn_by at.0 (get_or events k d)))
+        lines = lines_next plan telling (turns_shown to turns world (take k events)) (shown_now to before (turn_by at.0 (get_or events k d)))
             (turns_shown to turns world (take (k + 1) events)) old now next (shown_next world end to turns events k d within goes at.0 at.1)
             told.lines (adds at.0 m.0 before at.2 m.1);
       }
@@ -124,10 +126,12 @@ module _ (plan : Plan) (world end : World) (turns : ℕ) (to : Option ℕ) (even
         first,
       )
 
-pub told_all : (plan : Plan) (world : World) (turns : ℕ) (to : Option ℕ) (events : List Event) (k : ℕ) (old now : List (Vec ℕ Global)) (player : Player)
-    → length events ≤ k → length old ≡ 1 → length now ≤ most_turns + 1 → IsTold plan world turns to events k old now player
-    → (whole_text now ≡ whole_text old ++ turn_lines plan (turns_shown to turns world events)) × (length (turns_shown to turns world events) ≤ most_turns)
-told_all plan world turns to events k old now player past first few told =
+pub told_all : (plan : Plan) (telling : Telling) (world : World) (turns : ℕ) (to : Option ℕ) (events : List Event) (k : ℕ)
+    (old now : List (Vec ℕ Global)) (player : Player)
+    → length events ≤ k → length old ≡ 1 → length now ≤ most_turns + 1 → IsTold plan telling world turns to events k old now player
+    → (whole_text now ≡ whole_text old ++ turn_lines plan telling (turns_shown to turns world events))
+    × (length (turns_shown to turns world events) ≤ most_turns)
+told_all plan telling world turns to events k old now player past first few told =
     let all = take_all k events past in
-    let lines = subst (λ (l : List Event). AddsLines plan (turns_shown to turns world l) old now) all told.lines in
+    let lines = subst (λ (l : List Event). AddsLines plan telling (turns_shown to turns world l) old now) all told.lines in
     (lines.text, omega (arith, lines.many, first, few))

@@ -1,5 +1,5 @@
 -- A run that is played again, one event further.
-use Rattle.std.proofs.Common.{◌≡◌, ◌∙◌, ℕ, ◌+◌, ◌<◌, ◌≤◌, List, [], ◌∷◌, ◌++◌, Option, Some, None, refl, sym, ap, subst, length, arith, get_or, take}
+use Rattle.std.proofs.Common.{◌≡◌, ◌∙◌, ℕ, ◌+◌, ◌<◌, ◌≤◌, List, ◌++◌, Some, None, sym, ap, subst, length, arith, get_or, take}
 use Rattle.std.specs.Prelude.{Result, Ok, Err, OnOk}
 use Rattle.std.specs.Option.{option_to_list}
 use Rattle.lrc_trace.specs.declared.act.Act.{Act}
@@ -10,7 +10,7 @@ use Rattle.std.proofs.lemmas.Option.{same_Some}
 use Rattle.lrc_protocol.specs.Run.{event_on, played, World}
 use Rattle.lrc_replay.specs.Acts.{Plan}
 use Rattle.lrc_replay.specs.Courses.{IsCourse, plan_of}
-use Rattle.lrc_replay.specs.Replays.{IsMade, IsReplay, nodes_played}
+use Rattle.lrc_replay.specs.Replays.{IsMade, nodes_played}
 use Rattle.lrc_replay.specs.Turns.{turn_by, turns_from}
 use Rattle.lrc_replay.proofs.Turning.{goes_on, turns_on}
 use Rattle.lrc_states.specs.declared.player.Player.{Player}

@@ -1,7 +1,6 @@
 -- The turns that are shown.
-use Rattle.std.proofs.Common.{◌≡◌, ◌∙◌, ◌+◌, ◌++◌, ℕ, Bool, true, false, cond, List, [], ◌∷◌, Option, Some, None, ap, refl, sym, arith, append-nil, length}
+use Rattle.std.proofs.Common.{◌≡◌, ◌∙◌, ◌++◌, ℕ, Bool, false, cond, List, [], ◌∷◌, Option, Some, None, ap, refl, sym, arith, append-nil, length}
 use Rattle.std.specs.Prelude.{filter, slice_get, Vec}
-use Rattle.std.specs.List.{flat_map}
 use Rattle.std.specs.declared.alloc.Global.{Global}
 use Rattle.std.proofs.lemmas.List.{length-append}
 use Rattle.std.proofs.lemmas.List.Concat.{flat_map-append}
@@ -13,6 +12,7 @@ use Rattle.lrc_protocol.specs.Run as log
 use Rattle.lrc_replay.specs.Acts.{Plan}
 use Rattle.lrc_replay.specs.Turns.{Turn, turn_by, turn_done, turn_taking, turn_with}
 use Rattle.lrc_text.specs.Parts.{whole_text}
+use Rattle.lrc_states.specs.declared.told.Telling.{Telling}
 use Rattle.lrc_states.specs.Players.{AddsLines}
 use Rattle.lrc_states.specs.States.{is_within, shown_now, turn_line, turn_lines}
 
@@ -50,16 +50,17 @@ hidden to number world (events.Deliver place) late = hidden_taking to number wor
 hidden to number world (events.Repeat place) late = hidden_taking to number world (events.Repeat place) (slice_get world.flight place) late
 
 -- one line more, or none
-pub lines_more : (plan : Plan) (shown : List (ℕ × Turn)) (number : ℕ) (turn : Turn) (old new : List (Vec ℕ Global)) (line : Vec ℕ Global)
-    → shown ≡ (number, turn) ∷ [] → line.items ≡ turn_line plan number turn → new ≡ old ++ line ∷ [] → AddsLines plan shown old new
-lines_more plan shown number turn old new line shown_is line_is new_is = record {
+pub lines_more : (plan : Plan) (telling : Telling) (shown : List (ℕ × Turn)) (number : ℕ) (turn : Turn) (old new : List (Vec ℕ Global)) (line : Vec ℕ Global)
+    → shown ≡ (number, turn) ∷ [] → line.items ≡ turn_line plan telling number turn → new ≡ old ++ line ∷ [] → AddsLines plan telling shown old new
+lines_more plan telling shown number turn old new line shown_is line_is new_is = record {
   text = ap whole_text new_is ∙ flat_map-append (λ (part : Vec ℕ Global). part.items) old (line ∷ [])
-      ∙ ap (λ l. whole_text old ++ (l ++ [])) line_is ∙ ap (λ s. whole_text old ++ turn_lines plan s) (sym shown_is);
+      ∙ ap (λ l. whole_text old ++ (l ++ [])) line_is ∙ ap (λ s. whole_text old ++ turn_lines plan telling s) (sym shown_is);
   many = omega (arith, ap length new_is, length-append old (line ∷ []), ap length shown_is);
 }
 
-pub lines_same : (plan : Plan) (shown : List (ℕ × Turn)) (old : List (Vec ℕ Global)) → shown ≡ [] → AddsLines plan shown old old
-lines_same plan shown old none = record {
-  text = sym (append-nil (whole_text old)) ∙ ap (λ s. whole_text old ++ turn_lines plan s) (sym none);
+pub lines_same : (plan : Plan) (telling : Telling) (shown : List (ℕ × Turn)) (old : List (Vec ℕ Global)) → shown ≡ []
+    → AddsLines plan telling shown old old
+lines_same plan telling shown old none = record {
+  text = sym (append-nil (whole_text old)) ∙ ap (λ s. whole_text old ++ turn_lines plan telling s) (sym none);
   many = omega (arith, ap length none);
 }

@@ -1,5 +1,5 @@
 -- Where the turns begin that are shown.
-use Rattle.std.proofs.Common.{◌≡◌, ◌∙◌, ◌+◌, ◌<◌, ◌≤◌, ◌++◌, ℕ, List, Option, Some, None, ap, refl, sym, subst, arith, length, get_or, take, drop}
+use Rattle.std.proofs.Common.{◌≡◌, ◌∙◌, ◌+◌, ◌<◌, ◌≤◌, ◌++◌, ℕ, List, Option, Some, None, ap, sym, subst, arith, length, get_or, take, drop}
 use Rattle.std.specs.Option.{option_to_list}
 use Rattle.std.proofs.lemmas.List.{drop_more, length-append, take-append-drop, take_all, drop_all}
 use Rattle.lrc_program.specs.declared.Program.{Program}
@@ -10,7 +10,7 @@ use Rattle.lrc_protocol.specs.Run.{event_on, fresh_world, played, World}
 use Rattle.lrc_replay.specs.Replays.{IsMade, IsReplay, nodes_played}
 use Rattle.lrc_replay.specs.declared.replay.Replay.{Replay}
 use Rattle.lrc_replay.proofs.Turning.{goes_on}
-use Rattle.lrc_states.specs.States.{IsCut, IsStart, MakesAct}
+use Rattle.lrc_states.specs.States.{IsStart, MakesAct}
 
 -- so many events are played, and so many acts are left up to the position
 abbrev pub IsBefore : World → List Event → (k position left : ℕ) → Replay → Type 0

@@ -16,6 +16,7 @@ use Rattle.lrc_states.specs.declared.fault.StatesFault.{StatesFault}
 use Rattle.lrc_states.specs.declared.fault.StatesFault.TheVariants.{NoMemory, TooLong}
 use Rattle.lrc_states.specs.declared.player.Player.{Player}
 use Rattle.lrc_states.specs.declared.told.Range.{Range}
+use Rattle.lrc_states.specs.declared.told.Telling.{Telling}
 use Rattle.lrc_states.specs.Players.{IsPlayer, IsSetting}
 use Rattle.lrc_states.specs.States.{AreStates, first_line, IsShown, IsStart, IsUnshown, most_turns, Told, turn_lines, turns_shown}
 
@@ -67,9 +68,9 @@ module _ (told : Told) (range : Range) (plan : Plan) (labels : List Label) (sett
       ∙ sym (fold-append step_of (Some fresh) (take count told.events) (drop count told.events))
       ∙ ap (played fresh) (take-append-drop count told.events) ∙ goes
 
-  pub shown_so : (out : List ℕ) → out ≡ first_line plan told.options.size labels world ++ turn_lines plan shown
-      → IsShown told range (length shown) out
-  shown_so out is = record {
+  pub shown_so : (telling : Telling) (out : List ℕ) → out ≡ first_line plan telling told.options.size labels world ++ turn_lines plan telling shown
+      → IsShown told range telling (length shown) out
+  shown_so telling out is = record {
     plan = plan;
     program_is = setting.program_is;
     nodes_are = setting.nodes_are;
@@ -82,7 +83,7 @@ module _ (told : Told) (range : Range) (plan : Plan) (labels : List Label) (sett
     shown = shown;
     shown_are = refl;
     counted = refl;
-    whole = is ∙ ap (λ (l : List Label). first_line plan told.options.size l world ++ turn_lines plan shown) setting.labels_are;
+    whole = is ∙ ap (λ (l : List Label). first_line plan telling told.options.size l world ++ turn_lines plan telling shown) setting.labels_are;
   }
 
   -- the events as the code reads them
@@ -109,19 +110,19 @@ module _ (told : Told) (range : Range) (plan : Plan) (labels : List Label) (sett
 
     -- the same of events that are these
     module _ (others : List Event) (are : others ≡ drop count read) where
-      pub states_so : (size : Size) → size ≡ told.options.size → (out : List ℕ)
-          → (out ≡ first_line plan size labels world ++ turn_lines plan (turns_shown range.to turns world others))
+      pub states_so : (telling : Telling) (size : Size) → size ≡ told.options.size → (out : List ℕ)
+          → (out ≡ first_line plan telling size labels world ++ turn_lines plan telling (turns_shown range.to turns world others))
           × (length (turns_shown range.to turns world others) ≤ most_turns)
-          → AreStates told range out
-      states_so size sized out tells =
+          → AreStates told range telling out
+      states_so telling size sized out tells =
           let those : others ≡ drop count told.events = are ∙ ap (λ (l : List Event). drop count l) same in
           let lines = subst
-          (λ (l : List Event). (out ≡ first_line plan told.options.size labels world ++ turn_lines plan (turns_shown range.to turns world l))
+          (λ (l : List Event). (out ≡ first_line plan telling told.options.size labels world ++ turn_lines plan telling (turns_shown range.to turns world l))
           × (length (turns_shown range.to turns world l) ≤ most_turns)) those
           (subst
-          (λ (z : Size). (out ≡ first_line plan z labels world ++ turn_lines plan (turns_shown range.to turns world others))
+          (λ (z : Size). (out ≡ first_line plan telling z labels world ++ turn_lines plan telling (turns_shown range.to turns world others))
           × (length (turns_shown range.to turns world others) ≤ most_turns)) sized tells) in
-          (length shown, lines.1, shown_so out lines.0)
+          (length shown, lines.1, shown_so telling out lines.0)
 
       pub unshown_so : {T : Type 0} (r : Result T StatesFault)
           → (r ≡ Err TooLong → most_turns < length (turns_shown range.to turns world others)) → IfErr r (IsUnshown told range)
@@ -129,5 +130,7 @@ module _ (told : Told) (range : Range) (plan : Plan) (labels : List Label) (sett
       unshown_so (Err TooLong) many =
           let those : others ≡ drop count told.events = are ∙ ap (λ (l : List Event). drop count l) same in
           let long = subst (λ (l : List Event). most_turns < length (turns_shown range.to turns world l)) those (many refl) in
-          (length shown, long, (first_line plan told.options.size labels world ++ turn_lines plan shown, shown_so _ refl))
+          let lines : Telling → List ℕ =
+          λ telling. first_line plan telling told.options.size labels world ++ turn_lines plan telling shown in
+          (length shown, long, λ telling. (lines telling, shown_so telling (lines telling) refl))
       unshown_so (Err NoMemory) many = tt

@@ -1,4 +1,5 @@
 pub mod Objects
 pub mod Names
+pub mod Members
 pub mod States
 pub mod Players

@@ -12,6 +12,7 @@ use Rattle.lrc_protocol.specs.Run.{Logged, World}
 use Rattle.lrc_replay.specs.Replays.{IsReplay, LeavesOut}
 use Rattle.lrc_replay.specs.Turns.{Turn}
 use Rattle.lrc_states.specs.declared.player.Player.{Player}
+use Rattle.lrc_states.specs.declared.told.Telling.{Telling}
 use Rattle.lrc_replay.specs.Acts.{Plan}
 use Rattle.lrc_replay.specs.Courses.{IsCourse, plan_of}
 use Rattle.lrc_states.specs.Objects.{message_object, truth_text}
@@ -45,14 +46,14 @@ pub record LeavesTurn (plan : Plan) (acts : List Act) (turns : ℕ) (next : Worl
   pub known : AreKnown player.shown next
 
 -- the line of a turn that is made in this world, and none where none is made
-abbrev pub TellsTurn : Plan → World → (number : ℕ) → List Turn → Option (Vec ℕ Global) → Type 0
-TellsTurn plan world number turns None = turns ≡ []
-TellsTurn plan world number turns (Some line) =
-    (turn : Turn) × (turns ≡ turn ∷ []) × (turn.before ≡ world) × (line.items ≡ turn_line plan number turn)
+abbrev pub TellsTurn : Plan → Telling → World → (number : ℕ) → List Turn → Option (Vec ℕ Global) → Type 0
+TellsTurn plan telling world number turns None = turns ≡ []
+TellsTurn plan telling world number turns (Some line) =
+    (turn : Turn) × (turns ≡ turn ∷ []) × (turn.before ≡ world) × (line.items ≡ turn_line plan telling number turn)
 
 -- the lines of these turns are added, each as a part of its own
-pub record AddsLines (plan : Plan) (turns : List (ℕ × Turn)) (old new : List (Vec ℕ Global)) : Type 0 where
-  pub text : whole_text new ≡ whole_text old ++ turn_lines plan turns
+pub record AddsLines (plan : Plan) (telling : Telling) (turns : List (ℕ × Turn)) (old new : List (Vec ℕ Global)) : Type 0 where
+  pub text : whole_text new ≡ whole_text old ++ turn_lines plan telling turns
   pub many : length new ≡ length old + length turns
 
 -- the message that an event names

@@ -1,5 +1,5 @@
 -- The lines of a run's turns with the states of its nodes.
-use Rattle.std.specs.Prelude.{◌≡◌, ◌⊎◌, ◌<◌, ◌≤◌, ℕ, ◌+◌, Bool, true, Option, None, Some, List, [], ◌∷◌, ◌++◌, codes, decimal, drop, filter, length, map, nat_le, slice_get, take}
+use Rattle.std.specs.Prelude.{◌≡◌, ◌<◌, ◌≤◌, ℕ, Bool, true, Option, None, Some, List, [], ◌∷◌, ◌++◌, codes, decimal, drop, filter, length, map, nat_le, slice_get, take}
 use Rattle.std.specs.List.{enumerate_from, flat_map}
 use Rattle.std.specs.Option.{option_to_list}
 use Rattle.lrc_trace.specs.declared.act.Act.{Act}
@@ -22,8 +22,11 @@ use Rattle.lrc_state_text.specs.State.{state_text}
 use Rattle.lrc_text.specs.Each.{each}
 use Rattle.lrc_source.specs.Telling.{AreLines, ReadText, names_told}
 use Rattle.lrc_states.specs.declared.told.Range.{Range}
+use Rattle.lrc_states.specs.declared.told.Telling.{Telling}
 use Rattle.lrc_states.specs.declared.told.Told as code_told
 use Rattle.lrc_replay.specs.Acts.{last_notes, notes_behind, Plan, spot_behind}
+use Rattle.lrc_replay.specs.Replays.{brought_by}
+use Rattle.lrc_states.specs.Members.{did_members, first_members, stands_member, taken_parts}
 use Rattle.lrc_states.specs.Names.{names_behind}
 use Rattle.lrc_states.specs.declared.fault.StatesFault.{StatesFault}
 use Rattle.lrc_states.specs.declared.fault.StatesFault.TheVariants.{NoMemory, TooLong}
@@ -58,10 +61,11 @@ abbrev pub written_list : Plan → World → List ℕ
 written_list plan world = notes_list (last_notes plan.program.words (notes_behind plan [] world.acts))
 
 -- how all stands before the first turn that is shown
-abbrev pub first_line : Plan → Size → List Label → World → List ℕ
-first_line plan size labels world =
+abbrev pub first_line : Plan → Telling → Size → List Label → World → List ℕ
+first_line plan telling size labels world =
     setting_members plan size ++ codes ",\"labels\":[" ++ labels_list labels ++ codes "],\"flight\":[" ++ flight_list world
-    ++ codes "],\"states\":[" ++ states_list plan world ++ codes "],\"written\":[" ++ written_list plan world ++ codes "]}\n"
+    ++ codes "],\"states\":[" ++ states_list plan world ++ codes "],\"written\":[" ++ written_list plan world ++ codes "]"
+    ++ first_members telling world ++ codes "}\n"
 
 -- ---- a turn
 
@@ -91,10 +95,16 @@ abbrev pub made_members : Plan → List Act → (node : ℕ) → TurnRecord → 
 made_members plan acts node made =
     codes ",\"act\":" ++ act_or_null (spot_behind plan acts node) made.act ++ codes ",\"sends\":[" ++ messages_list made.out ++ codes "]"
 
-abbrev pub turn_line : Plan → (number : ℕ) → Turn → List ℕ
-turn_line plan number turn =
+-- the members about a turn that are not told in words
+abbrev pub turn_members : Telling → Turn → List ℕ
+turn_members telling turn =
+    did_members telling turn.event (taken_parts (brought_by turn.input)) turn.made ++ stands_member telling turn.after
+
+abbrev pub turn_line : Plan → Telling → (number : ℕ) → Turn → List ℕ
+turn_line plan telling number turn =
     turn_head number turn ++ made_members plan turn.before.acts turn.node turn.made ++ codes ",\"state\":"
-    ++ state_behind plan (acts_after turn) turn.node (known_of (slice_get turn.before.nodes turn.node)) turn.after ++ codes "}\n"
+    ++ state_behind plan (acts_after turn) turn.node (known_of (slice_get turn.before.nodes turn.node)) turn.after
+    ++ turn_members telling turn ++ codes "}\n"
 
 -- ---- which turns are shown
 
@@ -131,8 +141,8 @@ shown_now to number turns = filter (λ at. is_within to (length at.1.before.acts
 abbrev pub turns_shown : Option ℕ → (number : ℕ) → World → (rest : List Event) → List (ℕ × Turn)
 turns_shown to number world rest = shown_now to number (turns_from (Some world) rest)
 
-abbrev pub turn_lines : Plan → List (ℕ × Turn) → List ℕ
-turn_lines plan turns = flat_map (λ at. turn_line plan at.0 at.1) turns
+abbrev pub turn_lines : Plan → Telling → List (ℕ × Turn) → List ℕ
+turn_lines plan telling turns = flat_map (λ at. turn_line plan telling at.0 at.1) turns
 
 -- the most turns that are shown
 abbrev pub most_turns : ℕ
@@ -159,7 +169,7 @@ abbrev pub AreNamesTold : ReadText → Names → Type 0
 AreNamesTold text told = (names : Names) × AreNamesOf text.core names × (told ≡ names_told text.telling names)
 
 -- the lines, and how many turns they show
-pub record IsShown (told : Told) (range : Range) (count : ℕ) (out : List ℕ) : Type 0 where
+pub record IsShown (told : Told) (range : Range) (telling : Telling) (count : ℕ) (out : List ℕ) : Type 0 where
   pub plan : Plan
   pub program_is : plan.program ≡ told.program
   pub nodes_are : plan.nodes ≡ told.nodes
@@ -172,13 +182,14 @@ pub record IsShown (told : Told) (range : Range) (count : ℕ) (out : List ℕ) 
   pub shown : List (ℕ × Turn)
   pub shown_are : shown ≡ turns_shown range.to (length (turns_of told.program told.nodes told.options before)) world rest
   pub counted : count ≡ length shown
-  pub whole : out ≡ first_line plan told.options.size (labels_in told) world ++ turn_lines plan shown
+  pub whole : out ≡ first_line plan telling told.options.size (labels_in told) world ++ turn_lines plan telling shown
 
 -- all lines, of no more turns than are shown at most
-abbrev pub AreStates : Told → Range → List ℕ → Type 0
-AreStates told range out = (count : ℕ) × (count ≤ most_turns) × IsShown told range count out
+abbrev pub AreStates : Told → Range → Telling → List ℕ → Type 0
+AreStates told range telling out = (count : ℕ) × (count ≤ most_turns) × IsShown told range telling count out
 
--- why there are no lines
+-- why there are no lines: they would show too many turns, however they are told
 abbrev pub IsUnshown : Told → Range → StatesFault → Type 0
-IsUnshown told range TooLong = (count : ℕ) × (most_turns < count) × ((out : List ℕ) × IsShown told range count out)
+IsUnshown told range TooLong =
+    (count : ℕ) × (most_turns < count) × ((telling : Telling) → (out : List ℕ) × IsShown told range telling count out)
 IsUnshown told range NoMemory = Unit {0}

@@ -2,7 +2,8 @@
 //! a line for each turn. The run is replayed from its events.
 //!
 //! `objects` writes what lines about turns contain: messages, labels, acts, and the last write to a word. (The size of a
-//! message that is too long to be sent is written as `no`. No run has such a message.)
+//! message that is too long to be sent is written as `no`. No run has such a message.) `members` writes what the lines have
+//! more that tell also in members.
 //!
 //! Decisions:
 //!
@@ -12,6 +13,7 @@
 
 mod fault;
 mod first;
+mod members;
 mod names;
 mod objects;
 mod player;
@@ -25,4 +27,4 @@ pub use objects::{
     truth,
 };
 pub use states::states_parts;
-pub use told::{Range, Told};
+pub use told::{Range, Telling, Told};

@@ -1,6 +1,6 @@
 // A run that is played again, and the lines of its turns.
 
-ghost use Rattle.std.specs.Prelude.{◌≡◌, ◌+◌, ◌≤◌, ◌++◌, All, IfOk, List, None, OnOk, Some, ℕ, codes, length, slice_get};
+ghost use Rattle.std.specs.Prelude.{◌≡◌, ◌+◌, ◌≤◌, ◌++◌, All, IfOk, List, None, OnOk, Some, ℕ, codes, length, map, slice_get};
 ghost use Rattle.std.specs.BTreeMap.{Updates};
 ghost use Rattle.std.specs.Ordering.{nat_cmp};
 ghost use Rattle.lrc_private_names.specs.Ways.{IsOnWay};
@@ -11,11 +11,16 @@ ghost use Rattle.lrc_replay.specs.Turns.{turn_by};
 ghost use Rattle.lrc_replay.specs.Acts.{Plan as AnyPlan};
 ghost use Rattle.lrc_replay.specs.Courses.{IsCourse, plan_of};
 ghost use Rattle.lrc_state_text.specs.Intervals.{stored_in};
+ghost use Rattle.lrc_state_text.specs.Place.{named_seen};
+ghost use Rattle.lrc_states.specs.Members.{stands_member, taken_parts};
+ghost use Rattle.lrc_states.specs.Names.{names_behind};
 ghost use Rattle.lrc_states.specs.Players.{AreKnown, IsPlayer, LeavesTurn, TellsTurn, message_or_null, take_members, was_taken};
 ghost use Rattle.lrc_states.specs.States.{event_members, known_of, made_members, state_behind};
 ghost use Rattle.lrc_trace.specs.declared.act.Act.{Act};
 
+use crate::members::{MessageParts, did_members, parts_of, push_stands};
 use crate::names::names_set;
+use crate::told::Telling;
 use crate::{push_act, push_envelope, push_envelopes, truth};
 use lrc_envelope::Envelope;
 use lrc_events::push_event;
@@ -23,7 +28,7 @@ use lrc_log::Turn;
 use lrc_node::{NodeState, Options};
 use lrc_protocol::Event;
 use lrc_replay::{Course, Plan, Replay};
-use lrc_state_text::{Known, Place, push_next_state, push_state};
+use lrc_state_text::{Known, NamedValue, Place, push_next_state, push_state};
 use lrc_text::push_number;
 use std::alloc::{AllocError, Global};
 use std::collections::BTreeMap;
@@ -107,7 +112,11 @@ impl<'c> Player<'c> {
     }
 
     /// Plays an event, and returns the line of its turn, or none if it makes no turn.
-    pub(crate) fn tell(&mut self, event: Event) -> Result<Option<Vec<u8>>, AllocError>
+    pub(crate) fn tell(
+        &mut self,
+        telling: Telling,
+        event: Event,
+    ) -> Result<Option<Vec<u8>>, AllocError>
         requires { All IsOnWay self.old.course.ways.items }
         ensures on { All IsOnWay self.new.course.ways.items }
         ensures player { (plan : AnyPlan) (world next : World) (turns : ℕ)
@@ -115,12 +124,13 @@ impl<'c> Player<'c> {
             → OnOk result (IsPlayer plan next (turns + length (turn_by world event)) self.new) }
         ensures told { (plan : AnyPlan) (world next : World) (turns : ℕ)
             → IsPlayer plan world turns self.old → event_on world event ≡ Some next
-            → IfOk result (TellsTurn plan world turns (turn_by world event)) }
+            → IfOk result (TellsTurn plan telling world turns (turn_by world event)) }
     {
         let place = self.place_of(event);
         let mut known = self.take_known(place)?;
         let mut line = Vec::new(self.alloc);
         self.push_head(&mut line, event, place)?;
+        let taken = self.taken(event);
         let Some(turn) = self.replay.make(event)? else {
             return Ok(None);
         };
@@ -128,8 +138,9 @@ impl<'c> Player<'c> {
             return Err(AllocError);
         };
         self.push_turn(&mut line, node, &turn)?;
+        let did = did_members(self.alloc, telling, event, taken, &turn)?;
         self.follow(turn)?;
-        self.push_end(&mut line, node, &mut known)?;
+        self.push_end(&mut line, telling, node, &mut known, &did)?;
         self.shown.insert(place, known)?;
         Ok(Some(line))
     }
@@ -173,19 +184,31 @@ impl<'c> Player<'c> {
         }
     }
 
-    // Adds the state of a node behind its turn, and the end of the line. What the node stores is known then.
-    fn push_end(&self, line: &mut Vec<u8>, node: u8, known: &mut Known) -> Result<(), AllocError>
+    // Adds the state of a node behind its turn, the members about what it did, and the end of the line. What the node
+    // stores is known then.
+    fn push_end(
+        &self,
+        line: &mut Vec<u8>,
+        telling: Telling,
+        node: u8,
+        known: &mut Known,
+        did: &[u8],
+    ) -> Result<(), AllocError>
         ensures line { (plan : AnyPlan) (world : World) (turns : ℕ) (l : Logged)
             → IsPlayer plan world turns self.now → slice_get world.nodes node ≡ Some l
             → OnOk result (line.new.items
             ≡ line.old.items ++ (codes ",\"state\":"
-            ++ state_behind plan world.acts node known.old l.node ++ codes "}\n")) }
+            ++ state_behind plan world.acts node known.old l.node
+            ++ (did.now ++ stands_member telling l.node) ++ codes "}\n")) }
         ensures known { (world : World) (l : Logged)
             → IsReplay self.now.replay world → slice_get world.nodes node ≡ Some l
             → OnOk result (known.new ≡ stored_in l.node.memory) }
     {
         line.extend_from_slice(b",\"state\":")?;
         self.push_next_state(line, node, known)?;
+        line.extend_from_slice(did)?;
+        let state = self.state_of(usize::from(node))?;
+        push_stands(line, telling, state)?;
         line.extend_from_slice(b"}\n")
     }
 
@@ -212,6 +235,17 @@ impl<'c> Player<'c> {
         self.push_taken(line, event)?;
         line.extend_from_slice(b",\"again\":")?;
         line.extend_from_slice(truth(self.is_again(event, node)))
+    }
+
+    // The parts of the message that an event names.
+    fn taken(&self, event: Event) -> Option<MessageParts>
+        ensures { (world : World) → IsReplay self.now.replay world
+            → result ≡ taken_parts (message_of world event) }
+    {
+        match self.replay.message(event) {
+            Some(envelope) => Some(parts_of(&envelope.message)),
+            None => None,
+        }
     }
 
     // Adds the message that an event names.
@@ -261,6 +295,29 @@ impl<'c> Player<'c> {
         line.extend_from_slice(b"]")
     }
 
+    /// Returns the state of the node at this place, which is there.
+    pub(crate) fn state_of(&self, place: usize) -> Result<&NodeState<'c>, AllocError>
+        ensures { (world : World) (l : Logged) → IsReplay self.now.replay world
+            → slice_get world.nodes place ≡ Some l → IfOk result (λ state. state.now ≡ l.node) }
+    {
+        match self.replay.state(place) {
+            Some(state) => Ok(state),
+            None => Err(AllocError),
+        }
+    }
+
+    // The private names of a node whose value is not 0.
+    fn names_of(&self, node: u8) -> Result<Vec<NamedValue<'c>>, AllocError>
+        ensures { (plan : AnyPlan) (acts : List Act) → plan_of self.now.plan ≡ plan
+            → IsCourse plan acts self.now.course
+            → IfOk result (λ names. map named_seen names.items ≡ names_behind plan acts node) }
+    {
+        match self.course.privates(node) {
+            Some(values) => names_set(self.alloc, self.plan.names, values),
+            None => Err(AllocError),
+        }
+    }
+
     /// Adds the state of a node whose intervals in `known` were told before.
     pub(crate) fn push_state(
         &self,
@@ -273,13 +330,8 @@ impl<'c> Player<'c> {
             → OnOk result (line.new.items
             ≡ line.old.items ++ state_behind plan world.acts node known.now l.node) }
     {
-        let Some(state) = self.replay.state(usize::from(node)) else {
-            return Err(AllocError);
-        };
-        let Some(values) = self.course.privates(node) else {
-            return Err(AllocError);
-        };
-        let names = names_set(self.alloc, self.plan.names, values)?;
+        let state = self.state_of(usize::from(node))?;
+        let names = self.names_of(node)?;
         let place = Place {
             at: self.course.spot(node).line,
             names: &names,
@@ -302,13 +354,8 @@ impl<'c> Player<'c> {
             → IsReplay self.now.replay world → slice_get world.nodes node ≡ Some l
             → OnOk result (known.new ≡ stored_in l.node.memory) }
     {
-        let Some(state) = self.replay.state(usize::from(node)) else {
-            return Err(AllocError);
-        };
-        let Some(values) = self.course.privates(node) else {
-            return Err(AllocError);
-        };
-        let names = names_set(self.alloc, self.plan.names, values)?;
+        let state = self.state_of(usize::from(node))?;
+        let names = self.names_of(node)?;
         let place = Place {
             at: self.course.spot(node).line,
             names: &names,

@@ -14,7 +14,7 @@ ghost use Rattle.lrc_text.specs.Parts.{whole_text};
 use crate::fault::StatesFault;
 use crate::player::Player;
 use crate::start::events_skipped;
-use crate::told::{Range, Told};
+use crate::told::{Range, Telling, Told};
 use lrc_exec::code::Code;
 use lrc_labels::label::Label;
 use lrc_page::Size;
@@ -31,11 +31,12 @@ pub fn states_parts(
     alloc: Global,
     told: &Told<'_>,
     range: Range,
+    telling: Telling,
 ) -> Result<Vec<Vec<u8>>, StatesFault>
     requires few { told.now.nodes ≤ 16 }
     ensures states { (made : World) → run_of told.now.source.now.program told.now.nodes
         told.now.options told.now.events.now ≡ Some made
-        → IfOk result (λ parts. AreStates (told_seen told.now) range (whole_text parts.items)) }
+        → IfOk result (λ parts. AreStates (told_seen told.now) range telling (whole_text parts.items)) }
     ensures fault { (made : World) → run_of told.now.source.now.program told.now.nodes
         told.now.options told.now.events.now ≡ Some made
         → IfErr result (IsUnshown (told_seen told.now) range) }
@@ -46,6 +47,7 @@ pub fn states_parts(
         alloc,
         told,
         range,
+        telling,
         source.code(),
         source.lines(),
         &names,
@@ -58,6 +60,7 @@ fn parts_of(
     alloc: Global,
     told: &Told<'_>,
     range: Range,
+    telling: Telling,
     code: &Code<'_>,
     lines: &[u32],
     names: &[&[u8]],
@@ -69,7 +72,7 @@ fn parts_of(
         (map label_seen labels.now) }
     ensures states { (made : World) → run_of told.now.source.now.program told.now.nodes
         told.now.options told.now.events.now ≡ Some made
-        → IfOk result (λ parts. AreStates (told_seen told.now) range (whole_text parts.items)) }
+        → IfOk result (λ parts. AreStates (told_seen told.now) range telling (whole_text parts.items)) }
     ensures fault { (made : World) → run_of told.now.source.now.program told.now.nodes
         told.now.options told.now.events.now ≡ Some made
         → IfErr result (IsUnshown (told_seen told.now) range) }
@@ -83,7 +86,8 @@ fn parts_of(
     };
     let mut player = Player::start(alloc, plan, &told.options)?;
     player.pass_all(&told.events[..skipped])?;
-    player.parts(told.options.size, labels, &told.events[skipped..], range.to)
+    let size = told.options.size;
+    player.parts(telling, size, labels, &told.events[skipped..], range.to)
 }
 
 impl Player<'_> {
@@ -105,6 +109,7 @@ impl Player<'_> {
     // How all stands, and the turns of events up to the one that makes the act at a position, each line a part of its own.
     fn parts(
         &mut self,
+        telling: Telling,
         size: Size,
         labels: &[Label<'_>],
         events: &[Event],
@@ -114,23 +119,24 @@ impl Player<'_> {
         ensures told { (plan : AnyPlan) (world end : World) (turns : ℕ)
             → IsPlayer plan world turns self.old → played world events.now ≡ Some end
             → IfOk result (λ parts. (whole_text parts.items
-            ≡ first_line plan size (map label_seen labels.now) world
-            ++ turn_lines plan (turns_shown to turns world events.now))
+            ≡ first_line plan telling size (map label_seen labels.now) world
+            ++ turn_lines plan telling (turns_shown to turns world events.now))
             × (length (turns_shown to turns world events.now) ≤ most_turns)) }
         ensures fault { (plan : AnyPlan) (world end : World) (turns : ℕ)
             → IsPlayer plan world turns self.old → played world events.now ≡ Some end
             → result ≡ Err TooLong → most_turns < length (turns_shown to turns world events.now) }
     {
-        let first = self.first_line(size, labels)?;
+        let first = self.first_line(telling, size, labels)?;
         let mut parts = Vec::new(self.alloc);
         parts.push(first)?;
-        self.tell_all(events, to, &mut parts)?;
+        self.tell_all(telling, events, to, &mut parts)?;
         Ok(parts)
     }
 
     // Plays events, and tells their turns, up to the turn that makes the act at a position.
     fn tell_all(
         &mut self,
+        telling: Telling,
         events: &[Event],
         to: Option<u64>,
         parts: &mut Vec<Vec<u8>>,
@@ -141,14 +147,14 @@ impl Player<'_> {
             → IsPlayer plan world turns self.old → played world events.now ≡ Some end
             → OnOk result ((whole_text parts.new.items
             ≡ whole_text parts.old.items
-            ++ turn_lines plan (turns_shown to turns world events.now))
+            ++ turn_lines plan telling (turns_shown to turns world events.now))
             × (length (turns_shown to turns world events.now) ≤ most_turns)) }
         ensures fault { (plan : AnyPlan) (world end : World) (turns : ℕ)
             → IsPlayer plan world turns self.old → played world events.now ≡ Some end
             → result ≡ Err TooLong → most_turns < length (turns_shown to turns world events.now) }
     {
         for event in events {
-            self.tell_within(*event, to, parts)?;
+            self.tell_within(telling, *event, to, parts)?;
         }
         Ok(())
     }
@@ -156,6 +162,7 @@ impl Player<'_> {
     // Plays an event, and tells its turn, if it is no later than that of the act at a position.
     fn tell_within(
         &mut self,
+        telling: Telling,
         event: Event,
         to: Option<u64>,
         parts: &mut Vec<Vec<u8>>,
@@ -168,7 +175,7 @@ impl Player<'_> {
             → OnOk result (IsPlayer plan next (turns + length (turn_by world event)) self.new) }
         ensures told { (plan : AnyPlan) (world next : World) (turns : ℕ)
             → IsPlayer plan world turns self.old → event_on world event ≡ Some next
-            → OnOk result (AddsLines plan
+            → OnOk result (AddsLines plan telling
             (shown_now to turns (turn_by world event)) parts.old.items parts.new.items) }
         ensures few { OnOk result (length parts.new.items ≤ most_turns + 1) }
         ensures fault { (plan : AnyPlan) (world next : World) (turns : ℕ)
@@ -180,7 +187,7 @@ impl Player<'_> {
             self.pass(event)?;
             return Ok(());
         }
-        match self.tell(event)? {
+        match self.tell(telling, event)? {
             Some(line) => keep(parts, line),
             None => Ok(()),
         }

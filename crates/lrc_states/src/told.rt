@@ -20,3 +20,12 @@ pub struct Range {
     pub from: Option<u64>,
     pub to: Option<u64>,
 }
+
+/// How the lines are told.
+#[derive(Clone, Copy, Debug, PartialEq, Eq)]
+pub enum Telling {
+    /// Events, deeds, messages and waits in words alone, as `trace --as states` prints them.
+    InWords,
+    /// Also as members of their own behind the others, each an object of its parts.
+    AlsoInMembers,
+}

@@ -5,10 +5,10 @@ pub const CLOSING: &[u8] = br##"</script>
 <script>
 "use strict";
 
-// Data flows one way. `readRun` takes the lines apart, once, and makes a moment of each turn: the states of all nodes just after it. `at` is
-// the moment that is shown. `draw` makes each region of the page anew from that moment: header, source, nodes, story, timeline. A key or a
-// button calls `go`, which sets `at` and draws. The functions of arrays stand in the frame, before the data. Only text nodes are made from
-// data, never markup.
+// Data flows one way. `readRun` reads the lines, once, and makes a moment of each turn: the states of all nodes just after it. `at` is the
+// moment that is shown. `draw` makes each region of the page anew from that moment: header, source, nodes, story, timeline. A key or a button
+// calls `go`, which sets `at` and draws. The functions of arrays stand in the frame, before the data. Words of the data are shown as they stand;
+// what the page goes by are members. Only text nodes are made from data, never markup.
 
 // ---- The run, as the lines of the data say it ----
 // A moment is a state of all nodes: moment 0 is the start, moment k stands just after the k-th turn of the data.
@@ -21,7 +21,8 @@ function readRun(text) {
   const run = { turns: [], races: [], why: new Map(), explain: [], ends: [], deadlocks: [] };
   for (const line of text.trim().split("\n")) {
     const part = JSON.parse(line);
-    if ("turn" in part) run.turns.push({ ...part, act: part.act && readAct(part.act) });
+    if ("turn" in part) run.turns.push(readTurn(part));
+    else if ("states" in part) Object.assign(run, readStart(part));
     else if ("race" in part) run.races.push(part);
     else if ("why" in part) run.why.set(part.why, part);
     else Object.assign(run, part);
@@ -34,12 +35,23 @@ function readRun(text) {
   return Object.assign(run, { isPart: run.turns[0]?.turn > 0 || run.goesOn });
 }
 
+/** The members that say in parts what others say in words, each put into what it is of. A value has 64 bits, so it stays a text. */
+function readTurn({ by, done, took, sent, stands, ...turn }) {
+  const { act, take, sends, state } = turn;
+  return { ...turn, by, act: act && { ...act, word: null, ...done }, take: take && { ...take, ...took },
+    sends: withParts(sends, sent), state: { ...state, wait: stands } };
+}
+function readStart({ flying, stand, ...start }) {
+  return { ...start, flight: withParts(start.flight, flying), states: start.states.map((state, node) => ({ ...state, wait: stand[node] })) };
+}
+function withParts(messages, parts) { return messages.map((message, k) => ({ ...message, ...parts[k] })); }
+
 /** Whether some node comes to another end, or to another line, than it has at the last turn that is shown. */
 function goesOn({ ends, moments }) {
   const { states } = moments.at(-1);
   return ends.some(({ end, line }, node) => end !== endOf(states[node]) || line !== states[node].at);
 }
-function endOf({ waits }) { return ["ended", "trapped"].find(end => waits.startsWith(end)) ?? "unfinished"; }
+function endOf({ wait }) { return ["ended", "trapped"].includes(wait.kind) ? wait.kind : "unfinished"; }
 
 /** Races with acts that are not shown, by the reasons: moment 0 stands for those before the part, none for those behind it. */
 function racesBeyond({ why, races, momentOfAct, turns }) {
@@ -53,33 +65,26 @@ function racesBeyond({ why, races, momentOfAct, turns }) {
   }));
 }
 
-/** Takes the deed apart. A value has 64 bits, more than a number has here, so it stays a text. */
-function readAct(act) {
-  const [kind, first, second] = act.deed.split(" ");
-  const isAccess = kind === "read" || kind === "write";
-  return { ...act, kind, word: isAccess ? +first : null, lock: +first, value: isAccess ? second : first };
-}
-
 function momentsOf(run) {
   const moments = [{ states: run.states, flight: run.flight.map(message => ({ ...message, sent: 0, takes: [] })) }];
   const messages = [...moments[0].flight];
   for (const turn of run.turns) {
-    const { node, event, take, sends, state } = turn;
+    const { node, by, take, sends, state } = turn;
     const before = moments.at(-1);
     const taken = take && messages.find(({ from, to, number }) => from === take.from && to === take.to && number === take.number);
     taken?.takes.push(moments.length);
     const sent = sends.map(message => ({ ...message, sent: moments.length, takes: [] }));
     messages.push(...sent);
-    const flight = before.flight.filter(message => message !== taken || event.startsWith("repeat")).concat(sent);
+    const flight = before.flight.filter(message => message !== taken || by.kind === "repeat").concat(sent);
     moments.push({ turn, flight, states: before.states.with(node, follow(before.states[node], state)) });
   }
   return { moments, messages };
 }
 
-/** A line names the intervals that are new or changed; those that a collection covers are gone. */
+/** A line names the intervals that are new or changed; those whose times a collection covers are gone. */
 function follow(before, state) {
   const stored = new Map([...before.intervals, ...state.intervals].map(entry => [entry.interval, entry]));
-  const isKept = ({ interval }) => { const [node, index] = interval.split("."); return index > state.collected[node]; };
+  const isKept = ({ stamp }) => stamp.some((entry, node) => entry > state.collected[node]);
   return { ...state, intervals: [...stored.values()].filter(isKept) };
 }
 
@@ -123,14 +128,16 @@ const traps = ["", "division by zero", "word out of range", "lock out of range",
 
 /** The indices of a word or of a lock under a label, by rows. */
 function placeOf({ of, from, sizes = [] }, number) {
-  return of.endsWith("s") ? bracketed(indicesOf(number - from, [Infinity, ...sizes])) : "";
+  return ["words", "locks"].includes(of) ? bracketed(indicesOf(number - from, [Infinity, ...sizes])) : "";
 }
-function labelled(kind, number) {
-  const label = run.labels.find(({ of, from, to }) => of.startsWith(kind) && from <= number && number <= to);
-  return label ? `${kind} ${number} (${label.name}${placeOf(label, number)})` : `${kind} ${number}`;
+function labelOf(kind, number) {
+  const label = run.labels.find(({ of, from, to }) => [kind, `${kind}s`].includes(of) && from <= number && number <= to);
+  return label ? `${label.name}${placeOf(label, number)}` : "";
 }
+function numbered(kind, number) { const label = labelOf(kind, number); return label ? `${number} (${label})` : String(number); }
+function labelled(kind, number) { return `${kind} ${numbered(kind, number)}`; }
 /** A word's label alone, and the room that it takes above a column of values: at most that of nine signs. */
-function nameOf(word) { return / \((.*)\)$/.exec(labelled("word", word))?.[1] ?? ""; }
+function nameOf(word) { return labelOf("word", word); }
 function labelWidth(word) { return `--label: ${Math.min(9, Math.max(nameOf(word).length, String(word).length))}`; }
 function counted(count, thing) { return count === 1 ? `1 ${thing}` : `${count} ${thing}s`; }
 
@@ -148,35 +155,37 @@ const deedWords = {
   arrive: (act, { episode }) => `arrives at barrier ${episode}`,
   depart: () => "departs",
   print: ({ value }) => `prints ${value}`,
-  trap: ({ value }) => `traps: ${traps[value]}`,
+  trap: ({ cause }) => `traps: ${traps[cause]}`,
   end: () => "ends",
   quiet: ({ line }) => `goes on: ${run.source[line - 1].replace(/#.*/, "").trim()}`,
 };
 
+const askedWords = {
+  "lock-request": lock => labelled("lock", lock),
+  "changes-request": page => `changes of page ${page}`,
+  "page-request": page => `the whole of page ${page}`,
+};
+
 const messageWords = {
-  "lock-request": lock => `a request for ${labelled("lock", lock)}`,
   "lock-forward": lock => `a forwarded request for ${labelled("lock", lock)}`,
   "lock-grant": lock => `the grant of ${labelled("lock", lock)}`,
   "arrive": episode => `the arrival at barrier ${episode}`,
   "depart": episode => `the departure of barrier ${episode}`,
   "clean": episode => `the clean of barrier ${episode}`,
   "discard": episode => `the discard of barrier ${episode}`,
-  "changes-request": page => `a request for changes of page ${page}`,
   "changes-reply": page => `changes of page ${page}`,
-  "page-request": page => `a request for the whole of page ${page}`,
   "page-reply": page => `the whole of page ${page}`,
 };
 
-/** A message's kind, and the number of its lock, barrier or page. */
-function kindOf({ message }) { return message.split(" ")[0]; }
-function numberOf({ message }) { return +message.match(/ (\d+)/)[1]; }
-function inWords(message) { return messageWords[kindOf(message)](numberOf(message)); }
+/** A message by its kind, and the number of its lock, barrier or page. */
+function inWords({ kind, of }) { return kind in askedWords ? `a request for ${askedIn({ kind, of })}` : messageWords[kind](of); }
+function askedIn({ kind, of }) { return askedWords[kind](of); }
 
 /** What the run came to, as the headline of its last turn: a deadlock, or else where nodes trapped. */
 function ending() {
   if (run.deadlocks.length) return `Deadlock: ${run.deadlocks.map(circleInWords).join("; ")}`;
   const { states } = run.moments[lastMoment];
-  return states.flatMap((state, node) => state.waits.startsWith("trapped") ? [`Node ${node} trapped at line ${state.at}: ${traps[state.waits.split(" ")[1]]}`] : []).join("; ");
+  return states.flatMap(({ wait, at }, node) => wait.kind === "trapped" ? [`Node ${node} trapped at line ${at}: ${traps[wait.of]}`] : []).join("; ");
 }
 
 function circleInWords(circle) { return [...circle, circle[0]].map(node => `node ${node}`).join(" waits for "); }
@@ -194,8 +203,8 @@ function headline({ turn, states }) {
   const does = act && deedWords[act.kind](act, states[node]);
   if (take) return `Node ${node} takes ${inWords(take)} from node ${take.from}${again ? ", again" : ""}${does ? `, and ${does}` : ""}`;
   if (does) return `Node ${node} ${does}`;
-  const and = kindOf(sends[0]) === kindOf(sends.at(-1)) ? "" : " and changes";
-  return `Node ${node} asks ${sends.length > 1 ? "nodes" : "node"} ${listed(sends.map(({ to }) => to))} for ${inWords(sends[0]).replace("a request for ", "")}${and}`;
+  const and = sends[0].kind === sends.at(-1).kind ? "" : " and changes";
+  return `Node ${node} asks ${sends.length > 1 ? "nodes" : "node"} ${listed(sends.map(({ to }) => to))} for ${askedIn(sends[0])}${and}`;
 }
 
 /** The rule of the protocol that the turn is a case of; for a read of an old value, why it is old. */
@@ -206,7 +215,7 @@ function because({ turn, states }, before) {
     : "At the start all copies are valid and zero, and a lock's token is with its manager."}`;
   const state = states[turn.node];
   const rule = turn.again ? () => "It was taken before: nothing happens."
-    : turn.take ? takeRules[kindOf(turn.take)] : turn.act ? actRules[turn.act.kind] : whyItAsks;
+    : turn.take ? takeRules[turn.take.kind] : turn.act ? actRules[turn.act.kind] : whyItAsks;
   const newer = turn.act?.kind === "read" && newerWrite(state, turn.act.word);
   const untold = newer && !isToldOf(state, newer) ? ` in ${newer.node}.${newer.interval} (act ${newer.position}), and no notice of that has come` : "";
   return `${rule?.(turn, before, state) ?? ""}${newer ? ` Node ${newer.node} wrote ${newer.value}${untold}.` : ""}`;
@@ -228,17 +237,17 @@ const actRules = {
 };
 
 function whyItAsks({ sends }, before) {
-  const number = numberOf(sends[0]);
-  const { copy, lacks } = pageOf(before, number);
-  if (kindOf(sends[0]) === "lock-request") return `The token is elsewhere. Node ${sends[0].to} manages the lock.`;
-  return copy === "absent" ? `It has no copy of page ${number}, and node ${sends[0].to} keeps one.`
-    : `Its copy of page ${number} is invalid: it was told of ${listed(lacks)}, and has not fetched the changes.`;
+  const { kind, of, to } = sends[0];
+  const { copy, lacks } = pageOf(before, of);
+  if (kind === "lock-request") return `The token is elsewhere. Node ${to} manages the lock.`;
+  return copy === "absent" ? `It has no copy of page ${of}, and node ${to} keeps one.`
+    : `Its copy of page ${of} is invalid: it was told of ${listed(lacks)}, and has not fetched the changes.`;
 }
 
 const takeRules = {
   "lock-request": ({ sends }) => `It manages the lock, and forwards this to the node that asked last, node ${sends[0].to}.`,
   "lock-forward": ({ sends }) => sends.length
-    ? `The token is here and free. The grant tells what this node knew at its last release of the lock, ${sends[0].message.match(/time \S+/)}.`
+    ? "The token is here and free. The grant tells what this node knew at its last release of the lock."
     : "The lock is held or awaited here: who asks comes next.",
   "lock-grant": whatItLearns,
   "arrive": ({ sends }) => sends.length ? "All have come: each is sent the joined time and the intervals that it lacks." : "Others have not come yet.",
@@ -256,20 +265,19 @@ function whatItLearns(turn, before, state) {
   const news = state.intervals.map(({ interval }) => interval).filter(interval => !known.has(interval));
   const isHit = ({ page, copy }) => copy === "invalid" && pageOf(before, page).copy !== "invalid";
   const invalid = state.pages.filter(isHit).map(({ page }) => page);
-  const collects = /upkeep|discard/.test(state.waits) ? " A collection: who keeps a page brings it up to date, and says that it is clean." : "";
+  const collects = ["upkeep", "discard"].includes(state.wait.kind) ? " A collection: who keeps a page brings it up to date, and says that it is clean." : "";
   return `It learns ${news.length ? `of ${listed(news)}` : "nothing new"}${invalid.length ? `: page ${listed(invalid)} becomes invalid` : ""}.${collects}`;
 }
 
 function whatIsApplied({ take }, before, state) {
   if (state.needs.some(({ base, changes }) => base === "due" || changes.length)) return "More is still to come.";
-  const { lacks } = pageOf(before, numberOf(take));
+  const { lacks } = pageOf(before, take.of);
   return `Nothing more is missing${lacks.length ? `: the changes of ${listed(lacks)} are applied${lacks.length > 1 ? ", in this order" : ""}` : ""}.`;
 }
 
-function waitsInWords({ waits }) {
-  const [kind, number] = waits.split(" ");
+function waitsInWords({ wait: { kind, of } }) {
   const what = { grant: "lock", depart: "barrier", page: "page", upkeep: "upkeep", discard: "discard" }[kind];
-  return what ? `waits: ${what} ${number}` : kind === "trapped" ? `trapped: ${traps[number]}` : kind === "no" ? "" : waits;
+  return what ? `waits: ${what} ${of}` : kind === "trapped" ? `trapped: ${traps[of]}` : kind === "no" ? "" : kind;
 }
 
 // ---- Drawing: each function draws one region anew ----
@@ -410,7 +418,7 @@ function drawNode(view) {
   const time = state.time.map((entry, other) => make("li", { class: classes({ own: other === node, changed: entry !== before.time[other] }) }, entry));
   panel.classList.toggle("now", turn !== null);
   panel.replaceChildren(make("h2", {}, badge(node)),
-    make("span", { class: classes({ line: true, changed: state.at !== before.at }) }, caption(/ended|trapped/.test(state.waits) ? "at line " : "next line "), state.at),
+    make("span", { class: classes({ line: true, changed: state.at !== before.at }) }, caption(endOf(state) === "unfinished" ? "next line " : "at line "), state.at),
     make("span", { class: "waits", title: waits }, marked(waits, { changed: waits && waits !== waitsInWords(before) })),
     make("ol", { class: "time", "aria-label": "time" }, ...time),
     ...view.grids.length ? [make("div", { class: "grids" }, ...view.grids.map(grid => gridTable(view, grid)))] : [],
@@ -465,7 +473,7 @@ function wordIn({ node, state, before, turn, raced }, word) {
 function wordCell(view, word) {
   const { text, done, twinValue, newer, holds, title } = wordIn(view, word);
   return make("li", { class: classes({ word: true, ...holds }), style: labelWidth(word), title },
-    marked(labelled("word", word).slice("word ".length), { name: true }),
+    marked(numbered("word", word), { name: true }),
     marked(text, { value: true }),
     make("span", { class: "note" }, done || (twinValue === null ? "" : `twin ${twinValue}`), newer ? marked(` now ${newer.value}`, { off: true }) : null));
 }

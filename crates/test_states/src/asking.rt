@@ -6,7 +6,7 @@ use lrc_protocol::Event;
 use lrc_source::read_text::ReadText;
 use lrc_source::source::Source;
 use lrc_source::text::SourceText;
-use lrc_states::{Range, Told, states_parts};
+use lrc_states::{Range, Telling, Told, states_parts};
 use std::alloc::Global;
 
 /// More steps than a node makes here.
@@ -28,25 +28,32 @@ pub struct Run<'a> {
 }
 
 /// The lines of those turns of a run that are in a range.
-pub fn lines_of(alloc: Global, run: &Run<'_>, range: Range) -> Result<Vec<Vec<u8>>, Mistake> {
+pub fn lines_of(
+    alloc: Global,
+    telling: Telling,
+    run: &Run<'_>,
+    range: Range,
+) -> Result<Vec<Vec<u8>>, Mistake> {
     let text = ReadText::written(run.text);
-    lines_of_text(alloc, &text, run, range)
+    lines_of_text(alloc, telling, &text, run, range)
 }
 
 // The same of the text.
 fn lines_of_text(
     alloc: Global,
+    telling: Telling,
     text: &ReadText<'_>,
     run: &Run<'_>,
     range: Range,
 ) -> Result<Vec<Vec<u8>>, Mistake> {
     let read = SourceText::read(alloc, text)?;
-    lines_of_read(alloc, &read, run, range)
+    lines_of_read(alloc, telling, &read, run, range)
 }
 
 // The same of its text as it is read.
 fn lines_of_read(
     alloc: Global,
+    telling: Telling,
     read: &SourceText<'_>,
     run: &Run<'_>,
     range: Range,
@@ -61,7 +68,7 @@ fn lines_of_read(
         options: run.options,
         events: run.events,
     };
-    Ok(states_parts(alloc, &told, range)?)
+    Ok(states_parts(alloc, &told, range, telling)?)
 }
 
 /// Whether the lines are this text, one behind the other.

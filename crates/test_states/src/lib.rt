@@ -9,6 +9,8 @@ mod checks;
 #[cfg(test)]
 mod long;
 #[cfg(test)]
+mod members;
+#[cfg(test)]
 mod parts;
 #[cfg(test)]
 mod rows;

@@ -5,7 +5,7 @@ use crate::checks::{Mistake, passes};
 use lrc_node::Options;
 use lrc_page::Size;
 use lrc_protocol::Event;
-use lrc_states::{Range, StatesFault};
+use lrc_states::{Range, StatesFault, Telling};
 use std::alloc::{AllocError, Global};
 
 // Adds an event so many times.
@@ -53,7 +53,7 @@ fn endless(alloc: Global, turns: u32, range: Range) -> Result<Vec<Vec<u8>>, Mist
         options: on_small_pages(2_001),
         events: &events,
     };
-    lines_of(alloc, &run, range)
+    lines_of(alloc, Telling::InWords, &run, range)
 }
 
 const LAST_OF_2000: &[u8] =
@@ -164,7 +164,7 @@ fn sixteen_nodes(alloc: Global) -> Result<(), Mistake> {
         options: on_small_pages(MANY_STEPS),
         events: &events,
     };
-    let lines = lines_of(alloc, &run, ALL)?;
+    let lines = lines_of(alloc, Telling::InWords, &run, ALL)?;
     end_in(&lines, 308, READ_OF_13)
 }
 

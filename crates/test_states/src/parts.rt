@@ -6,7 +6,7 @@ use lrc_page::Size;
 use lrc_states::Range;
 
 // Node 1 is told what node 0 did up to the release of the lock, and not what it wrote behind that.
-const LATE: &[u8] =
+pub const LATE: &[u8] =
     b"# Node 1 asks for the lock while node 0 goes on after it gave it back. It is told what node 0 did up to the release, and
 # not that it wrote word 1 afterwards: it reads 1, and then 0.
 words 2;
@@ -26,7 +26,7 @@ if me == 0 {
 }
 ";
 
-const LATE_EVENTS: &[u8] =
+pub const LATE_EVENTS: &[u8] =
     b"run 0\nrun 0\nrun 0\nrun 0\nrun 0\nrun 1\nrun 1\ndeliver 0\ndeliver 0\ndeliver 0\n\
       run 1\ndeliver 0\ndeliver 0\nrun 1\nrun 1\nrun 1\nrun 1\nrun 1\nrun 0\n";
 

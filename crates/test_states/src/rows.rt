@@ -5,7 +5,7 @@ use crate::checks::{Mistake, passes};
 use lrc_events::events::events_of;
 use lrc_node::Options;
 use lrc_page::Size;
-use lrc_states::Range;
+use lrc_states::{Range, Telling};
 use std::alloc::Global;
 use std::process::Abort;
 
@@ -35,7 +35,7 @@ fn tell(alloc: Global, row: &Row) -> Result<(), Mistake> {
         },
         events: &events,
     };
-    let lines = lines_of(alloc, &run, row.range)?;
+    let lines = lines_of(alloc, Telling::InWords, &run, row.range)?;
     if is_text(&lines, row.told) {
         Ok(())
     } else {

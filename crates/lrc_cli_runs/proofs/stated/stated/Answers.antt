@@ -37,7 +37,7 @@ of_run P text program options keep run part made_by events range ran by_options 
 
 pub returns-in-Ok-clause-ok : goal.returns-in-Ok-clause-ok
 returns-in-Ok-clause-ok c =
-    of_run (λ told range. AreStates told range (whole_text c.in-Ok.parts.items)) c.args.source.now.text c.args.source.now.program c.args.options.now c.requires.ran.0
+    of_run (λ told range. AreStates told range c.args.telling (whole_text c.in-Ok.parts.items)) c.args.source.now.text c.args.source.now.program c.args.options.now c.requires.ran.0
     c.args.run.now c.args.part c.options_of.result c.deref.result.now c.range_of.result c.requires.ran.1
     (c.options_of.ensures ∙ c.setting_of-setting.ensures.options) c.deref.ensures.value c.range_of.ensures c.in-Ok.ensures.states
 

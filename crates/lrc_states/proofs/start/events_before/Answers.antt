@@ -1,4 +1,4 @@
-use Rattle.std.proofs.Common.{◌≡◌, ◌∙◌, ◌+◌, ◌++◌, None, ap, arith, length, rules}
+use Rattle.std.proofs.Common.{◌≡◌, ◌∙◌, ◌++◌, None, ap, arith, length, rules}
 use Rattle.std.specs.Option.{option_to_list}
 use Rattle.lrc_protocol.specs.Run.{fresh_world}
 use Rattle.lrc_states.proofs.Starting.{found, passed, seeks, skips}

@@ -1,14 +1,9 @@
-use Rattle.std.proofs.Common.{◌≡◌, ◌∙◌, ◌∷◌, ◌++◌, ◌<◌, ◌≤◌, [], ℕ, length, Some, Vec, Global, ap, ap₂, sym, subst, rules, map}
-use Rattle.std.specs.Prelude.{Err, List}
+use Rattle.std.proofs.Common.{◌≡◌, ◌∙◌, ap, rules, map}
 use Rattle.lrc_labels.specs.Reading.{label_seen}
-use Rattle.lrc_program.specs.declared.Program.{Program}
 use Rattle.lrc_protocol.specs.Run.{fresh_world, played}
-use Rattle.lrc_states.specs.declared.fault.StatesFault.{StatesFault}
-use Rattle.lrc_states.specs.declared.fault.StatesFault.TheVariants.{TooLong}
-use Rattle.lrc_states.specs.Players.{IsPlayer, plan_with}
-use Rattle.lrc_states.specs.States.{first_line, most_turns, told_seen, turn_lines, turns_shown}
+use Rattle.lrc_states.specs.Players.{plan_with}
+use Rattle.lrc_states.specs.States.{told_seen}
 use Rattle.lrc_text.specs.Parts.{whole_text}
-use Rattle.lrc_protocol.specs.declared.event.Event.{Event}
 use Rattle.lrc_states.specs.declared.told.Told as code_told
 use Rattle.lrc_states.proofs.Whole.{begins_at, goes_so, if_ok, others_so, player_so, stands_so, starts_so, states_so, unshown_so}
 use Rattle.lrc_states.proofs.states.parts_of.Goals as goal
@@ -32,7 +27,7 @@ returns-clause-states c made goes =
     let sized : c.told.inside.0.1.1.0.size ≡ told.options.size = ap (λ (t : code_told.Told). t.options.size) c.told.view_is in
     if_ok c.parts.result (c.parts.ensures.told plan start.1.0 made _ at goes_on)
     (λ parts tells.
-    states_so told range plan labels setting count start c.told.inside.0.1.1.1.0.now same _ others c.told.inside.0.1.1.0.size sized
+    states_so told range plan labels setting count start c.told.inside.0.1.1.1.0.now same _ others c.args.telling c.told.inside.0.1.1.0.size sized
     (whole_text parts.items) tells)
 
 pub returns-clause-fault : goal.returns-clause-fault

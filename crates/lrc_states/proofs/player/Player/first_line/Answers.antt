@@ -1,5 +1,6 @@
 use Rattle.std.proofs.Common.{codes, map}
 use Rattle.lrc_labels.specs.Reading.{label_seen}
+use Rattle.lrc_states.specs.Members.{first_members}
 use Rattle.lrc_states.specs.Objects.{labels_list}
 use Rattle.lrc_states.specs.States.{flight_list, setting_members, states_list, written_list}
 use Rattle.lrc_states.proofs.Showing.{add_text}
@@ -21,4 +22,6 @@ returns c plan world turns is =
     let w7 = add_text _ states w6 (c.in_ok-push_states.ensures plan world turns is) in
     let w8 = add_text _ (codes "],\"written\":[") w7 c.in_ok-extend_from_slice-4.ensures.items in
     let w9 = add_text _ written w8 (c.in_ok-push_written.ensures plan world turns is) in
-    add_text _ (codes "]}\n") w9 c.in_ok-extend_from_slice-5.ensures.items
+    let w10 = add_text _ (codes "]") w9 c.in_ok-extend_from_slice-5.ensures.items in
+    let w11 = add_text _ (first_members c.args.telling world) w10 (c.in_ok-push_first_members.ensures world is.replay) in
+    add_text _ (codes "}\n") w11 c.in_ok-extend_from_slice-6.ensures.items

@@ -1,4 +1,4 @@
-use Rattle.std.proofs.Common.{◌≡◌, ◌+◌, ℕ, List, Some, length, take}
+use Rattle.std.proofs.Common.{◌≡◌, ◌+◌, ℕ, Some, length, take}
 use Rattle.std.specs.Prelude.{All}
 use Rattle.lrc_private_names.specs.Ways.{IsOnWay}
 use Rattle.lrc_protocol.specs.Run.{World, played}

@@ -1,28 +1,24 @@
-use Rattle.std.proofs.Common.{◌≡◌, ◌∙◌, ap, map, rules}
-use Rattle.lrc_lines.specs.Walks.{walk_behind}
+use Rattle.std.proofs.Common.{◌≡◌, ◌∙◌, ℕ, Some, ap, map, slice_get, subst, sym}
 use Rattle.lrc_replay.proofs.Coursing.{on_ok}
-use Rattle.lrc_replay.specs.Acts.{Plan}
 use Rattle.lrc_state_text.specs.Place.{named_seen}
 use Rattle.lrc_protocol.specs.Node.{Node}
 use Rattle.lrc_state_text.specs.Intervals.{stored_in}
-use Rattle.lrc_states.specs.Names.{names_behind, names_set}
+use Rattle.lrc_states.specs.Names.{names_behind}
 use Rattle.lrc_states.proofs.Showing.{state_so}
 use Rattle.lrc_states.proofs.player.Player.push_next_state.Goals as goal
 
 pub returns-clause-line : goal.returns-clause-line
 returns-clause-line c plan world turns l is there =
     let node = c.args.node in
-    let privates = (walk_behind plan.program plan.nodes plan.lines world.acts node).thread.privates in
-    let state : c.in-Some.state.now ≡ l.node = search rules in
-    let values : c.in-Some-privates.values.now ≡ privates = c.in-Some-privates.ensures.values plan world.acts is.course in
     let names : map named_seen c.deref.result.now ≡ names_behind plan world.acts node =
-    ap (map named_seen) c.deref.ensures.value ∙ c.in_ok-names.ensures ∙ ap (λ (p : Plan). names_set p.names c.in-Some-privates.values.now) is.plan_is
-    ∙ ap (names_set plan.names) values in
+    ap (map named_seen) c.deref.ensures.value ∙ c.in_ok-names.ensures plan world.acts is.plan_is is.course in
+    let here = subst (λ (n : ℕ). slice_get world.nodes n ≡ Some l) (sym c.from.ensures) there in
     on_ok c.push_next_state.result c.push_next_state.ensures.text
-    (λ told. state_so plan world.acts node c.args.known.now c.in-Some.state.now l.node c.spot.result.line (map named_seen c.deref.result.now)
-    _ _ state (ap (λ s. s.line) (c.spot.ensures plan world.acts is.course)) names told)
+    (λ told. state_so plan world.acts node c.args.known.now c.in_ok-state.state.now l.node c.spot.result.line (map named_seen c.deref.result.now)
+    _ _ (c.in_ok-state.ensures world l is.replay here) (ap (λ s. s.line) (c.spot.ensures plan world.acts is.course)) names told)
 
 pub returns-clause-known : goal.returns-clause-known
 returns-clause-known c world l is there =
-    let state : c.in-Some.state.now ≡ l.node = search rules in
-    on_ok c.push_next_state.result c.push_next_state.ensures.known (λ known. known ∙ ap (λ (n : Node). stored_in n.memory) state)
+    let here = subst (λ (n : ℕ). slice_get world.nodes n ≡ Some l) (sym c.from.ensures) there in
+    on_ok c.push_next_state.result c.push_next_state.ensures.known
+    (λ known. known ∙ ap (λ (n : Node). stored_in n.memory) (c.in_ok-state.ensures world l is here))

@@ -1,4 +1,4 @@
-use Rattle.std.proofs.Common.{◌≡◌, ◌∙◌, ◌<◌, ◌≤◌, ◌++◌, ap, arith, length, rules}
+use Rattle.std.proofs.Common.{◌∙◌, ◌<◌, ◌≤◌, ◌++◌, ap, arith, length, rules}
 use Rattle.std.proofs.lemmas.List.{take_all}
 use Rattle.lrc_text.specs.Each.{each}
 use Rattle.lrc_states.specs.States.{first_state}

@@ -7,7 +7,7 @@ use Rattle.lrc_states.specs.States.{event_members, known_of}
 use Rattle.lrc_states.proofs.Keeping.{keeps, keeps_less, others_after}
 use Rattle.lrc_states.proofs.Playing.{left_by, one_turn, passed_over}
 use Rattle.lrc_states.proofs.Showing.{add_text}
-use Rattle.lrc_states.proofs.Telling.{line_so, stands_after}
+use Rattle.lrc_states.proofs.TurnLine.{line_so, stands_after}
 use Rattle.lrc_states.proofs.player.Player.tell.Goals as goal
 
 pub returns-in_default-clause-player : goal.returns-in_default-clause-player
@@ -74,7 +74,8 @@ returns-clause-told c plan world next turns was goes =
       made.0,
       made.2.is,
       made.2.before_is,
-      line_so plan world next event made.0 turn turns kept.turns c.place_of-place.result c.in-Ok.node _ after.0.node _ _ _
-          made.2 made.1 place node is.counted (c.in_ok-known.ensures.known world was.replay was.known) after.2 head
+      line_so plan c.args.telling world next event made.0 turn turns kept.turns c.place_of-place.result c.in-Ok.node _ after.0.node c.taken-taken.result
+          c.deref.result.now _ _ _ made.2 made.1 place node is.counted (c.in_ok-known.ensures.known world was.replay was.known) after.2
+          (c.taken-taken.ensures world is.replay) (c.deref.ensures.value ∙ c.in_ok-did.ensures) head
           (c.in_ok-push_turn.ensures plan world.acts is.course) (c.in_ok-push_end.ensures.line plan next (turns + 1) after.0 now there),
     )

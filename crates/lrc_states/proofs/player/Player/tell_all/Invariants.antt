@@ -14,5 +14,5 @@ invariant-loop-event l = record {
   on : All IsOnWay l.self.course.ways.items;
   few : length l.parts.items ≤ most_turns + 1;
   told : (plan : Plan) (world end : World) (turns : ℕ) → IsPlayer plan world turns l.initial.self → played world l.events ≡ Some end
-      → IsTold plan world turns l.to l.events l.event-index l.initial.parts.items l.parts.items l.self;
+      → IsTold plan l.telling world turns l.to l.events l.event-index l.initial.parts.items l.parts.items l.self;
 }

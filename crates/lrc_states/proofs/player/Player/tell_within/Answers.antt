@@ -1,4 +1,4 @@
-use Rattle.std.proofs.Common.{◌≡◌, ◌∙◌, ◌∷◌, [], ℕ, Option, None, Some, Vec, Global, ap, arith, false, length, rules, subst, sym, true}
+use Rattle.std.proofs.Common.{◌≡◌, ◌∙◌, ◌∷◌, [], ℕ, Option, Vec, Global, ap, arith, false, length, rules, subst, sym, true}
 use Rattle.lrc_protocol.specs.Run.{World}
 use Rattle.lrc_replay.proofs.Coursing.{on_ok}
 use Rattle.lrc_replay.specs.Turns.{turn_by}
@@ -15,19 +15,19 @@ returns-in-Some-clause-player c plan world next turns is goes =
 
 pub returns-in-Some-clause-told : goal.returns-in-Some-clause-told
 returns-in-Some-clause-told c plan world next turns is goes =
-    let told = subst (λ (o : Option (Vec ℕ Global)). TellsTurn plan world turns (turn_by world c.args.event) o) c.in-Some.is
+    let told = subst (λ (o : Option (Vec ℕ Global)). TellsTurn plan c.args.telling world turns (turn_by world c.args.event) o) c.in-Some.is
     (c.in_ok-line.ensures.told plan world next turns is goes) in
     let within : is_within c.args.to c.args.self.now.course.acts ≡ true = search rules in
     let shown = ap (shown_now c.args.to turns) told.1
     ∙ shown_one c.args.to turns told.0 true
     (ap (λ (w : World). is_within c.args.to (length w.acts)) told.2 ∙ ap (is_within c.args.to) (sym is.course.counted) ∙ within) in
     on_ok c.keep.result c.keep.ensures.kept
-    (λ kept. lines_more plan (shown_now c.args.to turns (turn_by world c.args.event)) turns told.0 c.args.parts.now.items c.keep.new.parts.items
+    (λ kept. lines_more plan c.args.telling (shown_now c.args.to turns (turn_by world c.args.event)) turns told.0 c.args.parts.now.items c.keep.new.parts.items
     c.in-Some.line shown told.3 kept)
 
 pub returns-in-Some-clause-fault : goal.returns-in-Some-clause-fault
 returns-in-Some-clause-fault c plan world next turns is goes fails =
-    let told = subst (λ (o : Option (Vec ℕ Global)). TellsTurn plan world turns (turn_by world c.args.event) o) c.in-Some.is
+    let told = subst (λ (o : Option (Vec ℕ Global)). TellsTurn plan c.args.telling world turns (turn_by world c.args.event) o) c.in-Some.is
     (c.in_ok-line.ensures.told plan world next turns is goes) in
     let within : is_within c.args.to c.args.self.now.course.acts ≡ true = search rules in
     let shown = ap (shown_now c.args.to turns) told.1
@@ -37,9 +37,9 @@ returns-in-Some-clause-fault c plan world next turns is goes fails =
 
 pub returns-in-None-clause-told : goal.returns-in-None-clause-told
 returns-in-None-clause-told c plan world next turns is goes =
-    let none = subst (λ (o : Option (Vec ℕ Global)). TellsTurn plan world turns (turn_by world c.args.event) o) c.in-None.is
+    let none = subst (λ (o : Option (Vec ℕ Global)). TellsTurn plan c.args.telling world turns (turn_by world c.args.event) o) c.in-None.is
     (c.in_ok-line.ensures.told plan world next turns is goes) in
-    lines_same plan (shown_now c.args.to turns (turn_by world c.args.event)) c.args.parts.now.items (ap (shown_now c.args.to turns) none)
+    lines_same plan c.args.telling (shown_now c.args.to turns (turn_by world c.args.event)) c.args.parts.now.items (ap (shown_now c.args.to turns) none)
 
 pub returns-in-Some-clause-few : goal.returns-in-Some-clause-few
 returns-in-Some-clause-few c =
@@ -49,5 +49,5 @@ returns-in-Some-clause-few c =
 pub returns-then-not-is_within-clause-told : goal.returns-then-not-is_within-clause-told
 returns-then-not-is_within-clause-told c plan world next turns is goes =
     let late : is_within c.args.to c.args.self.now.course.acts ≡ false = search rules in
-    lines_same plan (shown_now c.args.to turns (turn_by world c.args.event)) c.args.parts.now.items
+    lines_same plan c.args.telling (shown_now c.args.to turns (turn_by world c.args.event)) c.args.parts.now.items
     (hidden c.args.to turns world c.args.event (ap (is_within c.args.to) (sym is.course.counted) ∙ late))
