@@ -1,10 +1,9 @@
-use Rattle.std.proofs.Common.{◌≡◌, ◌∙◌, List, ℕ, Some, ap, ap₂, subst}
+use Rattle.std.proofs.Common.{◌≡◌, ◌∙◌, List, ℕ, Some, ap, ap₂}
 use Rattle.std.proofs.lemmas.Result.{IfOk-weaker}
 use Rattle.lrc_program.specs.declared.Program.{Program}
 use Rattle.lrc_explain_waits.specs.Circles.{waits_of}
 use Rattle.lrc_explain_waits.specs.Followed.{AreFollowed}
 use Rattle.lrc_explain_waits.specs.Stand.{stands_of}
-use Rattle.lrc_explain_waits.specs.declared.stand.Stand.{Stand}
 use Rattle.lrc_cli_runs.specs.Charted.{AreWaitsIn}
 use Rattle.lrc_cli_runs.proofs.charted.waits_behind.Goals as goal
 

@@ -1,4 +1,4 @@
-use Rattle.std.proofs.Common.{◌≡◌, IfErr, IfOk, List, subst}
+use Rattle.std.proofs.Common.{IfErr, IfOk, List, subst}
 use Rattle.std.proofs.lemmas.Result.{IfErr-weaker}
 use Rattle.lrc_protocol.specs.declared.event.Event.{Event}
 use Rattle.lrc_world.specs.declared.lead.Lead.{Lead}

@@ -1,4 +1,4 @@
-use Rattle.std.proofs.Common.{◌≡◌, IfErr, IfOk, ℕ, List, None, ap, sym, subst, inl, inr}
+use Rattle.std.proofs.Common.{◌≡◌, IfErr, IfOk, None, ap, sym, subst, inl, inr}
 use Rattle.lrc_program.specs.declared.Program.{Program}
 use Rattle.lrc_source.specs.Sources.{SourceRecord}
 use Rattle.lrc_source.specs.Telling.{ReadText}

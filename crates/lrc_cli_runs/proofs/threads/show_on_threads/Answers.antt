@@ -1,4 +1,4 @@
-use Rattle.std.proofs.Common.{IfErr, IfOk, ℕ, List, None, inl, subst}
+use Rattle.std.proofs.Common.{IfErr, IfOk, None, inl, subst}
 use Rattle.lrc_source.specs.Telling.{ReadText}
 use Rattle.lrc_text.specs.Parts.{whole_text}
 use Rattle.lrc_cli_answer.proofs.FaultLemmas.{fault_up, text_fault}
