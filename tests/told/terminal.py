@@ -3,6 +3,7 @@ writes the line of the fault alone where it is a pipe. The argument is the progr
 import os
 import pty
 import resource
+import select
 import signal
 import socket
 import subprocess
@@ -16,18 +17,21 @@ NAMED = "shared flag, turn;\nlock mutex;\n"
 faults, tried = [], 0
 
 
-def read_all(end):
-    found = b""
-    while True:
-        try:
-            part = os.read(end, 65536)
-        except OSError:  # a pseudo-terminal that nobody holds any more
-            break
-        if not part:
-            break
-        found += part
-    os.close(end)
-    return found
+# No line has this byte. It is written behind what a program has said, since a pseudo-terminal that nobody holds any more may lose what was said last.
+END = b"\0"
+
+
+def read_all(process, ours, theirs):
+    said = b""
+    while process.poll() is None:
+        if select.select([ours], [], [], 0.002)[0]:
+            said += os.read(ours, 65536)
+    os.write(theirs, END)
+    while not said.endswith(END):
+        said += os.read(ours, 65536)
+    os.close(ours)
+    os.close(theirs)
+    return said.removesuffix(END)
 
 
 def run(words, terminal, stdin=b"", out=None, before=None):
@@ -35,14 +39,13 @@ def run(words, terminal, stdin=b"", out=None, before=None):
     ours, theirs = pty.openpty() if terminal else os.pipe()
     process = subprocess.Popen([PROGRAM, *words], stdin=subprocess.PIPE if isinstance(stdin, bytes) else stdin, preexec_fn=before,
                                stdout=out or subprocess.DEVNULL, stderr=theirs)
-    os.close(theirs)
     if isinstance(stdin, bytes):
         try:
             process.stdin.write(stdin)
             process.stdin.close()
         except BrokenPipeError:
             pass
-    said = read_all(ours).replace(b"\r\n", b"\n")
+    said = read_all(process, ours, theirs).replace(b"\r\n", b"\n")
     return process.wait(), said.decode("utf-8", "replace")
 
 
