@@ -468,10 +468,10 @@ def large(pages, document):
 
 
 def long(pages, document):
-    """A document of some 300 turns is small."""
+    """A document of some 400 turns is small."""
     turns = len(moments_of(documents.lines_of(document))) - 1
     print(f"long: {turns} turns, {len(document):,} bytes")
-    pages.same("a small document", turns >= 300 and len(document) < 500_000, True)
+    pages.same("a small document", turns >= 400 and len(document) < 600_000, True)
 
 
 def luminance(colour):
