@@ -1,7 +1,7 @@
 -- Lists of values that are shared.
 use Rattle.std.proofs.Common.{◌≡◌, ℕ, ◌⊎◌, List, [], inl, inr, refl, sym, subst, ◌∙◌, ap}
 use Rattle.std.specs.Prelude.{◌↔◌, ◌==◌, if◌then◌else◌, Contains}
-use Rattle.std.proofs.lemmas.Bool.{eq-eqb, ne_eqb}
+use Rattle.std.proofs.lemmas.Bool.{eq-eqb}
 use Rattle.lrc_lazy_known.specs.declared.known.Known.{Known}
 use Rattle.lrc_lazy_known.specs.Word.{values_of}
 use Rattle.lrc_lazy_known.specs.Made.{values_taught}
@@ -34,7 +34,3 @@ made_of_both own more all found other kept taught is v =
 -- the learner learns of the teacher's values
 pub learner_taught : (word : List Known) (learner teacher k : ℕ) → k ≡ learner → values_taught word learner teacher k ≡ values_of word teacher
 learner_taught word learner teacher k same = ap (λ b. if b then values_of word teacher else []) (eq-eqb k learner same)
-
--- and the others of none
-pub others_taught : (word : List Known) (learner teacher k : ℕ) → (k ≡ learner → ⊥) → values_taught word learner teacher k ≡ []
-others_taught word learner teacher k other = ap (λ b. if b then values_of word teacher else []) (ne_eqb k learner other)

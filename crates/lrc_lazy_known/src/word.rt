@@ -53,11 +53,7 @@ pub fn values_of(word: &[Known], knower: usize) -> &[u64]
 }
 
 // The same, in a list that is shared where something is known. It fails if memory runs out.
-fn values_shared(
-    alloc: Global,
-    word: &[Known],
-    knower: usize,
-) -> Result<Rc<Vec<u64>>, AllocError>
+fn values_shared(alloc: Global, word: &[Known], knower: usize) -> Result<Rc<Vec<u64>>, AllocError>
     ensures { IfOk result (λ all. all.value.items ≡ values_of word.now knower) }
 {
     match word.get(knower) {

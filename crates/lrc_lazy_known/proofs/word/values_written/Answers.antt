@@ -1,7 +1,6 @@
 use Rattle.std.proofs.Common.{◌⊎◌, ◌≡◌, subst, sym}
 use Rattle.std.specs.Prelude.{◌↔◌, Contains}
 use Rattle.lrc_lazy_known.specs.Word.{values_of}
-use Rattle.lrc_lazy_known.specs.Tidy.{IsRising}
 use Rattle.lrc_lazy_known.proofs.Made.{written_values}
 use Rattle.lrc_lazy_known.proofs.word.values_written.Goals as goal
 
