@@ -1,7 +1,8 @@
 -- States whose lists of values are shared.
-use Rattle.std.proofs.Common.{◌≡◌, ℕ, List, [], length, Bool, true, refl, sym, subst, ◌∙◌, ap, arith}
-use Rattle.std.specs.Prelude.{Some, slice_get, slice_index, nat_eq}
-use Rattle.std.proofs.lemmas.Bool.{and_parts, and_true, eqb-true}
+use Rattle.std.proofs.Common.{◌≡◌, ℕ, List, [], length, Bool, true, false, refl, sym, subst, ◌∙◌, ap, arith}
+use Rattle.std.specs.Prelude.{◌&&◌, Some, slice_get, slice_index, nat_eq}
+use Rattle.std.proofs.lemmas.Bool.{and_parts, eqb-true}
+use Rattle.std.proofs.lemmas.List.{nil_from_length}
 use lib.Pointwise.{pointwise}
 use Rattle.lrc_program.specs.declared.Program.{Program}
 use Rattle.lrc_trace.specs.contracts.act.ActPartialEq.TheImpl.{eq-value as act_eq}
@@ -28,6 +29,10 @@ use Rattle.lrc_lazy_search.specs.declared.state.LazyState.{LazyState}
 use Rattle.lrc_lazy_search.specs.contracts.state.LazyStatePartialEq.TheImpl.{eq-value}
 use Rattle.lrc_lazy_search.specs.Searching.{CountsNoneGone, HasKey, IsReached}
 use Rattle.lrc_lazy_search.proofs.Same.{knowledge_same, same_through, stands_as}
+
+and_true : (a b : Bool) → a ≡ true → b ≡ true → (a && b) ≡ true
+and_true true b e f = f
+and_true false b e f = e
 
 -- lists that compare equal are of the same values
 pub values_same : (xs ys : List ℕ) → pointwise nat_eq xs ys ≡ true → xs ≡ ys

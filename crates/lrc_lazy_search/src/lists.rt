@@ -20,7 +20,8 @@ fn kept_list(
     ensures { IfOk result (λ kept. kept.value.items ≡ list.now.value.items) }
 {
     let (place, _) = lists.insert_full(list.clone()?)?;
-    lists.as_slice()[place].clone()
+    let kept = lists.as_slice()[place].clone()?;
+    Ok(kept)
 }
 
 // The same of a word, its lists being those that are kept.
