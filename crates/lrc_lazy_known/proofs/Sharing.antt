@@ -1,6 +1,6 @@
 -- Lists of values that are shared.
-use Rattle.std.proofs.Common.{◌≡◌, ℕ, ◌⊎◌, List, [], inl, inr, refl, sym, subst, ◌∙◌, ap}
-use Rattle.std.specs.Prelude.{◌↔◌, ◌==◌, if◌then◌else◌, Contains}
+use Rattle.std.proofs.Common.{◌≡◌, ℕ, ◌⊎◌, List, [], inl, inr, sym, subst, ◌∙◌, ap}
+use Rattle.std.specs.Prelude.{◌↔◌, if◌then◌else◌, Contains}
 use Rattle.std.proofs.lemmas.Bool.{eq-eqb}
 use Rattle.lrc_lazy_known.specs.declared.known.Known.{Known}
 use Rattle.lrc_lazy_known.specs.Word.{values_of}

@@ -1,6 +1,6 @@
 -- States whose lists of values are shared.
-use Rattle.std.proofs.Common.{◌≡◌, ℕ, List, [], length, Bool, true, false, refl, sym, subst, ◌∙◌, ap, arith}
-use Rattle.std.specs.Prelude.{◌&&◌, Some, slice_get, slice_index, nat_eq}
+use Rattle.std.proofs.Common.{◌≡◌, ℕ, List, [], length, Bool, true, false, sym, subst, ◌∙◌, ap, arith}
+use Rattle.std.specs.Prelude.{◌&&◌, slice_index, nat_eq}
 use Rattle.std.proofs.lemmas.Bool.{and_parts, eqb-true}
 use Rattle.std.proofs.lemmas.List.{nil_from_length}
 use lib.Pointwise.{pointwise}
@@ -8,7 +8,6 @@ use Rattle.lrc_program.specs.declared.Program.{Program}
 use Rattle.lrc_trace.specs.contracts.act.ActPartialEq.TheImpl.{eq-value as act_eq}
 use Rattle.lrc_exec.specs.declared.spot.Flat.{Flat}
 use Rattle.lrc_exec.specs.declared.state.State.{State}
-use Rattle.lrc_exec.specs.Plain.{Plain}
 use Rattle.lrc_exec.specs.contracts.state.StatePartialEq.TheImpl.{eq-value as state_eq}
 use Rattle.lrc_exec.specs.States.{plain_at, IsStateOf}
 use Rattle.lrc_orders.proofs.Same.{pointwise_same}
@@ -27,7 +26,7 @@ use Rattle.lrc_lazy_known.proofs.Tidy.{knowledge_one}
 use Rattle.lrc_lazy.specs.Standing.{with_memory, departures_of}
 use Rattle.lrc_lazy_search.specs.declared.state.LazyState.{LazyState}
 use Rattle.lrc_lazy_search.specs.contracts.state.LazyStatePartialEq.TheImpl.{eq-value}
-use Rattle.lrc_lazy_search.specs.Searching.{CountsNoneGone, HasKey, IsReached}
+use Rattle.lrc_lazy_search.specs.Searching.{IsReached}
 use Rattle.lrc_lazy_search.proofs.Same.{knowledge_same, same_through, stands_as}
 
 and_true : (a b : Bool) → a ≡ true → b ≡ true → (a && b) ≡ true

@@ -7,7 +7,7 @@ ghost use Rattle.lrc_lazy_known.specs.Word.{IsSame};
 
 use crate::state::LazyState;
 use indexmap::IndexSet;
-use lrc_lazy_known::known::{Known, KnownWord, Knowledge};
+use lrc_lazy_known::known::{Knowledge, Known, KnownWord};
 use lrc_lazy_known::word::copied;
 use std::alloc::{AllocError, Global};
 use std::rc::Rc;
