@@ -11,3 +11,4 @@ pub mod Dropping
 pub mod Cutting
 pub mod Tidy
 pub mod Keeping
+pub mod Sharing

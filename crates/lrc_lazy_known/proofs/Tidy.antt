@@ -164,11 +164,11 @@ last_itself Nothing = refl
 last_itself (Value v) = eq-eqb v v refl
 last_itself Unordered = refl
 
-known_equal : (a b : Known) → a.last ≡ b.last → a.values.items ≡ b.values.items → a.above.items ≡ b.above.items → known_eq.it a b ≡ true
+known_equal : (a b : Known) → a.last ≡ b.last → a.values.value.items ≡ b.values.value.items → a.above.items ≡ b.above.items → known_eq.it a b ≡ true
 known_equal a b last values above =
     and_true (last_eq.it a.last b.last) _ (subst (λ x. last_eq.it a.last x ≡ true) last (last_itself a.last))
-    (and_true (pointwise nat_eq a.values.items b.values.items) (pointwise beq a.above.items b.above.items)
-    (subst (λ x. pointwise nat_eq a.values.items x ≡ true) values (pointwise_itself nat_eq (λ v. eq-eqb v v refl) a.values.items))
+    (and_true (pointwise nat_eq a.values.value.items b.values.value.items) (pointwise beq a.above.items b.above.items)
+    (subst (λ x. pointwise nat_eq a.values.value.items x ≡ true) values (pointwise_itself nat_eq (λ v. eq-eqb v v refl) a.values.value.items))
     (subst (λ x. pointwise beq a.above.items x ≡ true) above (pointwise_itself beq beq_itself a.above.items)))
 
 -- ---- a word
@@ -187,10 +187,10 @@ module _ (xs ys : List Known) (same : IsSame xs ys) (k : ℕ) (x : Known) (tidy 
   last_there : x.last ≡ last_of ys k
   last_there = sym (ap last_in found) ∙ sym (same.lasts k)
 
-  values_there : (v : ℕ) → Contains x.values.items v → Contains (values_of ys k) v
+  values_there : (v : ℕ) → Contains x.values.value.items v → Contains (values_of ys k) v
   values_there v c = (same.values k v).1 (subst (λ o. Contains (values_in o) v) (sym found) c)
 
-  values_here : (v : ℕ) → Contains (values_of ys k) v → Contains x.values.items v
+  values_here : (v : ℕ) → Contains (values_of ys k) v → Contains x.values.value.items v
   values_here v c = subst (λ o. Contains (values_in o) v) found ((same.values k v).0 c)
 
   row_there : (z : ℕ) → slice_index_or x.above.items z false ≡ slice_index_or (row_of ys k) z false
@@ -199,7 +199,7 @@ module _ (xs ys : List Known) (same : IsSame xs ys) (k : ℕ) (x : Known) (tidy 
   nothing_there : slice_get ys k ≡ None → IsNothing x
   nothing_there none = record {
     last = last_there ∙ ap last_in none;
-    values = rising_one 0 0 x.values.items [] tidy.values tt
+    values = rising_one 0 0 x.values.value.items [] tidy.values tt
         (λ v c. subst (λ o. Contains (values_in o) v) none (values_there v c)) (λ v c. absurd (none_in v c));
     above = row_one x.above.items [] tidy.above nothing_ends (λ z. row_there z ∙ ap (λ o. slice_index_or (row_in o) z false) none);
   }
@@ -207,7 +207,7 @@ module _ (xs ys : List Known) (same : IsSame xs ys) (k : ℕ) (x : Known) (tidy 
   known_there : (y : Known) → IsTidyKnown y → slice_get ys k ≡ Some y → known_eq.it x y ≡ true
   known_there y other at =
       known_equal x y (last_there ∙ ap last_in at)
-      (rising_one 0 0 x.values.items y.values.items tidy.values other.values
+      (rising_one 0 0 x.values.value.items y.values.value.items tidy.values other.values
       (λ v c. subst (λ o. Contains (values_in o) v) at (values_there v c))
       (λ v c. values_here v (subst (λ o. Contains (values_in o) v) (sym at) c)))
       (row_one x.above.items y.above.items tidy.above other.above (λ z. row_there z ∙ ap (λ o. slice_index_or (row_in o) z false) at))

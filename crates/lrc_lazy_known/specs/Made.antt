@@ -20,7 +20,7 @@ values_taught word learner teacher k = if k == learner then values_of word teach
 
 pub record IsLearnedBy (word : List Known) (learner teacher k : ℕ) (known : Known) : Type 0 where
   pub last : known.last ≡ last_learned word learner teacher k
-  pub values : (v : ℕ) → Contains known.values.items v ↔ (Contains (values_of word k) v ⊎ Contains (values_taught word learner teacher k) v)
+  pub values : (v : ℕ) → Contains known.values.value.items v ↔ (Contains (values_of word k) v ⊎ Contains (values_taught word learner teacher k) v)
   pub above : (z : ℕ) → slice_index_or known.above.items z false ≡ above_learned word learner teacher k z
 
 -- what the writer writes, and the others do not
@@ -29,19 +29,19 @@ last_written word writer value k = if k == writer then last_then (last_of word w
 
 pub record IsWrittenBy (word : List Known) (writer value k : ℕ) (known : Known) : Type 0 where
   pub last : known.last ≡ last_written word writer value k
-  pub values : (v : ℕ) → Contains known.values.items v ↔ (Contains (values_of word k) v ⊎ ((k ≡ writer) × (v ≡ value)))
+  pub values : (v : ℕ) → Contains known.values.value.items v ↔ (Contains (values_of word k) v ⊎ ((k ≡ writer) × (v ≡ value)))
   pub above : (z : ℕ) → slice_index_or known.above.items z false ≡ above_written word writer k z
 
 -- the same of the one at a place
 pub record IsCopyOf (word : List Known) (k : ℕ) (known : Known) : Type 0 where
   pub last : known.last ≡ last_of word k
-  pub values : (v : ℕ) → Contains known.values.items v ↔ Contains (values_of word k) v
+  pub values : (v : ℕ) → Contains known.values.value.items v ↔ Contains (values_of word k) v
   pub above : (z : ℕ) → slice_index_or known.above.items z false ≡ slice_index_or (row_of word k) z false
 
 -- one knows nothing
 pub record IsNothing (known : Known) : Type 0 where
   pub last : known.last ≡ Nothing
-  pub values : known.values.items ≡ []
+  pub values : known.values.value.items ≡ []
   pub above : known.above.items ≡ []
 
 -- so does the one at a place
@@ -53,6 +53,6 @@ pub record KnowsNothing (word : List Known) (k : ℕ) : Type 0 where
 -- what is left of the one at a place, where some are dropped
 pub record IsKnownWithout (word : List Known) (first count k : ℕ) (known : Known) : Type 0 where
   pub last : known.last ≡ last_of word (number_before first count k)
-  pub values : (v : ℕ) → Contains known.values.items v ↔ Contains (values_of word (number_before first count k)) v
+  pub values : (v : ℕ) → Contains known.values.value.items v ↔ Contains (values_of word (number_before first count k)) v
   pub above : (z : ℕ) → slice_index_or known.above.items z false
       ≡ slice_index_or (row_of word (number_before first count k)) (number_before first count z) false

@@ -30,7 +30,7 @@ IsWordOfSome word = word.knowers.items ≡ [] → ⊥
 
 -- the values rise, and the row does not end in one whose last write is not known
 pub record IsTidyKnown (known : Known) : Type 0 where
-  pub values : IsRising known.values.items
+  pub values : IsRising known.values.value.items
   pub above : EndsIn (λ b. b ≡ true) known.above.items
 
 -- each is tidy, and the last one knows something
@@ -48,7 +48,7 @@ pub record IsTidy (knowledge : Knowledge) : Type 0 where
 -- it is written as the one at a place
 pub record IsWrittenAs (word : List Known) (k : ℕ) (known : Known) : Type 0 where
   pub last : known.last ≡ last_of word k
-  pub values : known.values.items ≡ values_of word k
+  pub values : known.values.value.items ≡ values_of word k
   pub above : known.above.items ≡ row_of word k
 
 -- the last ones are cut off, those who know nothing

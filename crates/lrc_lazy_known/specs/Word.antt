@@ -14,7 +14,7 @@ last_in (Some known) = known.last
 
 abbrev pub values_in : Option Known → List ℕ
 values_in None = []
-values_in (Some known) = known.values.items
+values_in (Some known) = known.values.value.items
 
 abbrev pub row_in : Option Known → List Bool
 row_in None = []

@@ -9,6 +9,7 @@ use crate::word::{
     Effect, copied, last_of, past, values_of, values_with, word_after, word_without,
 };
 use std::alloc::{AllocError, Global};
+use std::rc::Rc;
 
 /// The last of the known writes.
 #[derive(Clone, Copy, Debug, PartialEq, Eq, Hash)]
@@ -25,8 +26,8 @@ pub enum Last {
 #[derive(PartialEq, Eq, Hash, Drop)]
 pub struct Known {
     pub last: Last,
-    /// The values of the known writes.
-    pub values: Vec<u64>,
+    /// The values of the known writes. All who know the same may share one list.
+    pub values: Rc<Vec<u64>>,
     /// For each knower, whether the last of the writes that it knows is among those that this one knows; false if it
     /// knows none, or they are not ordered.
     pub above: Vec<bool>,

@@ -1,6 +1,7 @@
 // What is kept of the writes of one word that are known, and how an act changes it.
 
 ghost use Rattle.std.specs.Prelude.{◌≡◌, ◌≢◌, ◌≤◌, ◌<◌, ◌⊎◌, ◌↔◌, ◌^◌, ◌+◌, ◌-◌, ℕ, IfOk, OnOk, Contains, Some, [], length, max, slice_get, slice_index_or, false, true};
+ghost use Rattle.std.specs.Bool.{OnTrue};
 ghost use Rattle.lrc_lazy_known.specs.Word.{above_by, above_learned, above_then, above_written, is_above, is_ordered, last_by, last_of, last_then, number_before, row_of, source_by, source_of, values_of, IsLearned, IsSame, IsWithout, IsWritten};
 ghost use Rattle.lrc_lazy_known.specs.Made.{last_learned, last_written, values_taught, IsCopyOf, IsKnownWithout, IsLearnedBy, IsNothing, IsWrittenBy, KnowsNothing};
 ghost use Rattle.lrc_lazy_known.specs.declared.known.Known.{Known as KnownType};
@@ -10,6 +11,7 @@ ghost use Rattle.lrc_lazy_known.specs.Tidy.{EndsIn, IsCut, IsRising, IsSomething
 
 use crate::known::{Known, Last};
 use std::alloc::{AllocError, Global};
+use std::rc::Rc;
 
 /// Whose last write becomes the learner's when it learns what a teacher knows: its own, the teacher's, or neither's.
 #[derive(Clone, Copy)]
@@ -45,8 +47,18 @@ pub fn values_of(word: &[Known], knower: usize) -> &[u64]
     ensures { result.now ≡ values_of word.now knower }
 {
     match word.get(knower) {
-        Some(known) => &known.values,
+        Some(known) => known.values.as_ref().as_slice(),
         None => &[],
+    }
+}
+
+// The same, in a list that is shared where something is known. It fails if memory runs out.
+fn values_shared(alloc: Global, word: &[Known], knower: usize) -> Result<Rc<Vec<u64>>, AllocError>
+    ensures { IfOk result (λ all. all.value.items ≡ values_of word.now knower) }
+{
+    match word.get(knower) {
+        Some(known) => known.values.clone(),
+        None => Ok(Rc::new(alloc, Vec::new(alloc))?),
     }
 }
 
@@ -125,14 +137,59 @@ fn last_learned(word: &[Known], learner: usize, teacher: usize, knower: usize) -
     }
 }
 
-// The values of which one learns.
-fn values_taught(word: &[Known], learner: usize, teacher: usize, knower: usize) -> &[u64]
-    ensures { result.now ≡ values_taught word.now learner teacher knower }
+// Whether all values stand in the list, in this order. Where both rise, that is so if the list has them all.
+fn has_all(list: &[u64], values: &[u64]) -> bool
+    ensures { OnTrue result ((v : ℕ) → Contains values.now v → Contains list.now v) }
+{
+    let mut found = 0;
+    for value in list {
+        if found < values.len() && values[found] == *value {
+            found += 1;
+        }
+    }
+    found == values.len()
+}
+
+// The values of the writes that one or the other knows. The list is shared with one who knows them all, if there is one.
+fn values_of_both(
+    alloc: Global,
+    word: &[Known],
+    one: usize,
+    other: usize,
+) -> Result<Rc<Vec<u64>>, AllocError>
+    ensures values { IfOk result (λ all. (v : ℕ) → (Contains all.value.items v
+        ↔ (Contains (values_of word.now one) v ⊎ Contains (values_of word.now other) v))) }
+    ensures rising { IfOk result (λ all. IsTidyWord word.now → IsRising all.value.items) }
+{
+    let own = values_of(word, one);
+    let more = values_of(word, other);
+    if has_all(own, more) {
+        return values_shared(alloc, word, one);
+    }
+    if has_all(more, own) {
+        return values_shared(alloc, word, other);
+    }
+    let both = joined(alloc, own, more)?;
+    Ok(Rc::new(alloc, both)?)
+}
+
+// The values of the writes that one then knows.
+fn values_learned(
+    alloc: Global,
+    word: &[Known],
+    learner: usize,
+    teacher: usize,
+    knower: usize,
+) -> Result<Rc<Vec<u64>>, AllocError>
+    ensures values { IfOk result (λ all. (v : ℕ)
+        → (Contains all.value.items v ↔ (Contains (values_of word.now knower) v
+        ⊎ Contains (values_taught word.now learner teacher knower) v))) }
+    ensures rising { IfOk result (λ all. IsTidyWord word.now → IsRising all.value.items) }
 {
     if knower == learner {
-        values_of(word, teacher)
+        values_of_both(alloc, word, knower, teacher)
     } else {
-        &[]
+        values_shared(alloc, word, knower)
     }
 }
 
@@ -207,9 +264,7 @@ fn learned_by(
     ensures tidy { IfOk result (λ known. IsTidyWord word.now → IsTidyKnown known) }
 {
     let last = last_learned(word, learner, teacher, knower);
-    let own = values_of(word, knower);
-    let taught = values_taught(word, learner, teacher, knower);
-    let values = joined(alloc, own, taught)?;
+    let values = values_learned(alloc, word, learner, teacher, knower)?;
     let above = row_learned(alloc, word, learner, teacher, knower)?;
     Ok(Known {
         last,
@@ -266,17 +321,18 @@ fn values_written(
     writer: usize,
     value: u64,
     knower: usize,
-) -> Result<Vec<u64>, AllocError>
+) -> Result<Rc<Vec<u64>>, AllocError>
     ensures values { IfOk result (λ all. (v : ℕ)
-        → (Contains all.items v ↔
+        → (Contains all.value.items v ↔
         (Contains (values_of word.now knower) v ⊎ ((knower ≡ writer) × (v ≡ value))))) }
     ensures rising { IfOk result (λ all. IsRising (values_of word.now knower)
-        → IsRising all.items) }
+        → IsRising all.value.items) }
 {
     if knower == writer {
-        values_with(alloc, values_of(word, knower), value)
+        let all = values_with(alloc, values_of(word, knower), value)?;
+        Ok(Rc::new(alloc, all)?)
     } else {
-        copied(alloc, values_of(word, knower))
+        values_shared(alloc, word, knower)
     }
 }
 
@@ -372,7 +428,7 @@ fn copy_of(alloc: Global, word: &[Known], knower: usize) -> Result<Known, AllocE
 {
     Ok(Known {
         last: last_of(word, knower),
-        values: copied(alloc, values_of(word, knower))?,
+        values: values_shared(alloc, word, knower)?,
         above: copied(alloc, row_of(word, knower))?,
     })
 }
@@ -477,7 +533,7 @@ fn knows_nothing(known: &Known) -> bool
     ensures something { IsNothing known.now → result ≡ true }
 {
     match known.last {
-        Last::Nothing => known.values.is_empty() && known.above.is_empty(),
+        Last::Nothing => known.values.as_ref().is_empty() && known.above.is_empty(),
         _ => false,
     }
 }
@@ -542,7 +598,7 @@ fn known_without(
     let before = number_before(first, dropped, knower);
     Ok(Known {
         last: last_of(word, before),
-        values: copied(alloc, values_of(word, before))?,
+        values: values_shared(alloc, word, before)?,
         above: row_without(alloc, row_of(word, before), first, dropped)?,
     })
 }
@@ -587,7 +643,8 @@ pub fn values_with(alloc: Global, values: &[u64], value: u64) -> Result<Vec<u64>
         → (Contains all.items v ↔ (Contains values.now v ⊎ (v ≡ value)))) }
     ensures rising { IfOk result (λ all. IsRising values.now → IsRising all.items) }
 {
-    let mut all = copied(alloc, values)?;
+    let mut all = Vec::with_capacity(alloc, values.len().saturating_add(1))?;
+    all.extend_from_slice(values)?;
     with_value(&mut all, value)?;
     Ok(all)
 }

@@ -6,3 +6,4 @@ pub mod Ahead
 pub mod Fresh
 pub mod Neat
 pub mod Learned
+pub mod Sharing

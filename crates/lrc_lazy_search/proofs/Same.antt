@@ -62,16 +62,16 @@ last_same _ _ e = absurd (true≢false (sym e))
 
 record Alike (a b : Known) : Type 0 where
   last : a.last ≡ b.last
-  values : a.values.items ≡ b.values.items
+  values : a.values.value.items ≡ b.values.value.items
   above : a.above.items ≡ b.above.items
 
 known_same : (a b : Known) → known_eq.it a b ≡ true → Alike a b
 known_same a b e =
     let p = and_parts (last_eq.it a.last b.last) _ e in
-    let q = and_parts (pointwise nat_eq a.values.items b.values.items) (pointwise beq a.above.items b.above.items) p.1 in
+    let q = and_parts (pointwise nat_eq a.values.value.items b.values.value.items) (pointwise beq a.above.items b.above.items) p.1 in
     record {
       last = last_same a.last b.last p.0;
-      values = pointwise_same nat_eq (λ x y h. eqb-true x y h) a.values.items b.values.items q.0;
+      values = pointwise_same nat_eq (λ x y h. eqb-true x y h) a.values.value.items b.values.value.items q.0;
       above = pointwise_same beq beq_same a.above.items b.above.items q.1;
     }
 

@@ -7,9 +7,11 @@
 //!   node's read.
 //! - It skips storing states for at most 64 such acts in a row, so that a node that computes alone for ever does
 //!   not keep the search from ending.
+//! - States share their lists of values: each list is kept once.
 //! - A state counts arrivals from the first barrier that some node has not left. So a loop of barriers has
 //!   finitely many states, if its numbers do not grow without end.
 #![tactic(auto)]
 
+mod lists;
 pub mod search;
 pub mod state;

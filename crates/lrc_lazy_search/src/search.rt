@@ -8,6 +8,7 @@ ghost use Rattle.lrc_lazy.specs.Lazy.{IsLazyOutcome};
 ghost use Rattle.lrc_lazy_search.specs.Searching.{FitsLazily, MeetsMore};
 ghost use Rattle.lrc_lazy_search.specs.Task.{IsTask};
 
+use crate::lists::shared_state;
 use crate::state::{LONG_WAYS, LazyState};
 use indexmap::IndexSet;
 use lrc_exec::code::Code;
@@ -17,6 +18,7 @@ use lrc_orders::outcomes::Outcome;
 use lrc_orders::search::ExploreFault;
 use lrc_program::Program;
 use std::alloc::{AllocError, Global};
+use std::rc::Rc;
 
 /// Returns every outcome of the lazy runs of a program on this many nodes, after which no node can make an act. It
 /// fails with `BadNodes` exactly if the number of nodes is not 1 to 16. It gives up with `TooMany` only if lazy runs
@@ -103,11 +105,13 @@ pub(crate) struct Task<'c> {
     most: usize,
 }
 
-// States, each once, in the order in which they were found, and the outcomes of those at which no node can make an act.
+// States, each once, in the order in which they were found, and the outcomes of those at which no node can make an act;
+// and the lists of values of the states, each once.
 #[derive(Drop)]
 pub(crate) struct Searched {
     states: IndexSet<LazyState>,
     outcomes: IndexSet<Outcome>,
+    lists: IndexSet<Rc<Vec<u64>>>,
 }
 
 impl Searched {
@@ -129,6 +133,7 @@ impl Searched {
         Searched {
             states: IndexSet::new(alloc),
             outcomes: IndexSet::new(alloc),
+            lists: IndexSet::new(alloc),
         }
     }
 
@@ -227,7 +232,7 @@ impl Searched {
     {
         if self.can_act_at(alloc, task, place)? {
             let nexts = self.nexts_at(alloc, task, place, spare)?;
-            self.add_all(task, nexts)
+            self.add_all(alloc, task, nexts)
         } else {
             self.take_outcome(alloc, task, place)
         }
@@ -297,7 +302,12 @@ impl Searched {
     }
 
     // Adds those of the states that are new.
-    fn add_all(&mut self, task: &Task<'_>, states: Vec<LazyState>) -> Result<(), AllocError>
+    fn add_all(
+        &mut self,
+        alloc: Global,
+        task: &Task<'_>,
+        states: Vec<LazyState>,
+    ) -> Result<(), AllocError>
         requires order { IsInOrder task.now self.old.states.keys }
         requires reached { (k : ℕ) (after : StateType) → slice_get states.items k ≡ Some after
             → IsReached task.now.program.now task.now.flat after (length self.old.states.keys) }
@@ -309,7 +319,8 @@ impl Searched {
         let _task = task;
         let mut states = states;
         while let Some(state) = states.pop() {
-            self.states.insert_full(state)?;
+            let shared = shared_state(alloc, &mut self.lists, state)?;
+            self.states.insert_full(shared)?;
         }
         Ok(())
     }
