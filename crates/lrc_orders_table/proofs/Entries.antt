@@ -12,10 +12,6 @@ use Rattle.lrc_orders_table.specs.declared.table.Change.{Change}
 use Rattle.lrc_orders_table.specs.contracts.table.AskedPartialEq.TheImpl.{eq-value as asked_eq}
 use Rattle.lrc_orders_table.specs.contracts.table.ChangePartialEq.TheImpl.{eq-value as change_eq}
 
-pub nil_of : {A : Type 0} (xs : List A) → nat_eq (length xs) 0 ≡ true → xs ≡ []
-nil_of [] e = refl
-nil_of (x ∷ xs) e = absurd (omega (arith, eqb-true (length (x ∷ xs)) 0 e))
-
 pub asked_is : (a b : Asked) → asked_eq.it a b ≡ true → a ≡ b
 asked_is a b e =
     let p = and_parts (nat_eq a.thread b.thread) (nat_eq a.value b.value) e in

@@ -3,6 +3,7 @@ pub mod RowLaws
 pub mod RowsApart
 pub mod Stepping
 pub mod SeenNext
+pub mod ByNode
 pub mod Contended
 pub mod Acting
 pub mod Alone
@@ -10,7 +11,9 @@ pub mod Departed
 pub mod Entries
 pub mod Forgotten
 pub mod Gone
+pub mod Itself
 pub mod Keeping
+pub mod Linking
 pub mod NextActs
 pub mod Noting
 pub mod RowNodes

@@ -1,0 +1,15 @@
+-- The acts so far are noted, stand node by node, and are of no node above the highest.
+use Rattle.std.proofs.Common.{◌≡◌, take}
+use Rattle.lrc_orders.specs.Notes.{notes_of}
+use Rattle.lrc_orders_table.specs.Links.{AreNotesSound, GrowNotes, HasLasts}
+use Rattle.lrc_orders_table.proofs.ByNode.{AreUpTo}
+use Rattle.lrc_orders_table.proofs.notes.Notes.add.Given as goal
+
+abbrev pub invariant-loop-act : goal.invariant-loop-act
+invariant-loop-act l = record {
+  sound : AreNotesSound l.self;
+  grows : GrowNotes l.initial.self l.self;
+  has : HasLasts l.self.links.keys l.lasts (take l.act-index l.acts);
+  are : notes_of 16 (take l.act-index l.acts) ≡ take l.act-index l.acts;
+  low : AreUpTo l.highest (take l.act-index l.acts);
+}
