@@ -9,6 +9,7 @@ pub mod Acting
 pub mod Alone
 pub mod Departed
 pub mod Entries
+pub mod Fitting
 pub mod Forgotten
 pub mod Gone
 pub mod Itself

@@ -1,13 +1,16 @@
 use Rattle.std.proofs.Common.{◌≡◌, ◌∙◌, ◌<◌, length, sym, ap, subst, arith}
 use Rattle.std.specs.Prelude.{slice_get, slice_index}
 use Rattle.std.proofs.lemmas.Option.{same_Some, slice_get_within}
+use Rattle.lrc_orders.specs.declared.noted.Noted.{Noted}
+use Rattle.lrc_orders.proofs.Faults.{fault_up}
 use Rattle.lrc_orders.proofs.Keeping.{stands_on}
 use Rattle.lrc_orders_table.specs.Links.{AreNotesAt, AreNotesSound}
 use Rattle.lrc_orders_table.specs.Nexts.{next_in}
 use Rattle.lrc_orders_table.specs.declared.table.After.{After}
 use Rattle.lrc_orders_table.specs.declared.table.Table.{Table}
+use Rattle.lrc_orders_table.specs.Going.{IsLongAct}
 use Rattle.lrc_orders_table.specs.Shared.{Fits}
-use Rattle.lrc_orders_table.specs.Tables.{IsTable, KeepsRows}
+use Rattle.lrc_orders_table.specs.Tables.{IsRowOf, IsTable, KeepsRows}
 use Rattle.lrc_orders_table.proofs.Acting.{fits_here, has_gone, me_at}
 use Rattle.lrc_orders_table.proofs.Entries.{value_at}
 use Rattle.lrc_orders_table.proofs.Linking.{notes_grown}
@@ -150,3 +153,15 @@ returns-clause-gone c = λ key of.
     (subst (λ all. AreNotesAt all row.notes key.notes.items) (sym (ap (λ (t : Table). t.rows.notes) s.others))
     (notes_grown old.rows.notes one.rows.notes row.notes key.notes.items e.keeps.widens.notes of.stands.notes)) (entries_two ∙ e.there.1))
     n.bare c.index-after.result.now.traps (ap (λ (a : After). a.traps) comes)
+
+pub returns-in_err-place-clause-faults : goal.returns-in_err-place-clause-faults
+returns-in_err-place-clause-faults c =
+    let means = c.args.means.now in
+    let old = c.args.self.now in
+    let row = c.args.row.now in
+    let node = c.args.node in
+    fault_up c.from_residual.result c.in_err-place.field-0.0
+    (λ f. (key : Noted) → IsRowOf means old row key → IsLongAct means key node c.args.value f) c.from_residual.ensures.1
+    (λ key of.
+    let long = c.in_err-place.ensures.faults in
+    record { nodes = long.nodes; many = λ e spot here. long.many e spot (node_there old row key node spot of.stands here) })
