@@ -199,6 +199,18 @@ notes_its (suc count) first node acts le lt =
           ∙ notes_its count (suc first) node acts (omega (arith, le, apart)) (omega (arith, lt))
     ]
 
+pub notes_higher : (count first node : ℕ) (acts : List Act) → first + count ≤ node → filter (is_note_of node) (notes_from first count acts) ≡ []
+notes_higher zero first node acts le = refl
+notes_higher (suc count) first node acts le =
+    filter-append (is_note_of node) (filter (is_note_of first) acts) (notes_from (suc first) count acts)
+    ∙ ap (λ l. l ++ filter (is_note_of node) (notes_from (suc first) count acts)) (filter_none node first (λ e. omega (arith, le, e)) acts)
+    ∙ notes_higher count (suc first) node acts (omega (arith, le))
+
+-- notes are their own notes
+pub notes_fixed : (count : ℕ) (acts : List Act) → notes_of count (notes_of count acts) ≡ notes_of count acts
+notes_fixed count acts =
+    notes_same count 0 (notes_of count acts) acts (λ node lt. notes_its count 0 node acts (omega arith) (omega (arith, lt)))
+
 -- ---- the last ones of all nodes
 
 pub lasts_grown : (old new : List Link) (lasts : Lasts) (made : List Act) → Grows old new → HasLasts old lasts made → HasLasts new lasts made

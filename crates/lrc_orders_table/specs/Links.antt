@@ -10,6 +10,10 @@ use Rattle.lrc_orders_table.specs.declared.notes.Notes.{Notes}
 use Rattle.lrc_orders_table.specs.contracts.notes.LinkPartialEq.TheImpl.{eq-value as link_eq}
 use Rattle.lrc_orders_table.specs.contracts.notes.LastsPartialEq.TheImpl.{eq-value as lasts_eq}
 
+-- notes stand node by node, and are of the first so many nodes
+abbrev pub StandByNode : (nodes : ℕ) → List Act → Type 0
+StandByNode nodes notes = notes_of nodes notes ≡ notes
+
 abbrev pub link_of : (before : ℕ) → Act → Link
 link_of before act = record { before = before; act = act }
 

@@ -36,7 +36,7 @@ impl Notes {
     ghost use Rattle.lrc_orders.specs.Notes.{notes_of};
     ghost use Rattle.lrc_orders_settling.specs.Gone.{acts_by};
     ghost use Rattle.lrc_trace.specs.declared.act.Act.{Act as ActType};
-    ghost use Rattle.lrc_orders_table.specs.Links.{AreNotesAt, AreNotesSound, GrowNotes, HasLasts, HaveChain, HaveLasts, HaveNotes, IsChain};
+    ghost use Rattle.lrc_orders_table.specs.Links.{AreNotesAt, AreNotesSound, GrowNotes, HasLasts, HaveChain, HaveLasts, HaveNotes, IsChain, StandByNode};
     ghost use Rattle.lrc_orders_table.specs.Nexts.{notes_on};
 
     /// No notes.
@@ -51,21 +51,17 @@ impl Notes {
         }
     }
 
-    /// The number of notes: their own, where they came before, and else the next. For notes that do not stand node by
-    /// node, and for those of nodes past the first 16, there is no memory.
+    /// The number of notes that stand node by node: their own, where they came before, and else the next. It fails if
+    /// memory runs out.
     pub fn add(&mut self, acts: &[Act]) -> Result<u32, AllocError>
-        requires { AreNotesSound self.old }
+        requires sound { AreNotesSound self.old }
+        requires stand { StandByNode 16 acts.now }
         ensures sound { OnOk result (AreNotesSound self.new) }
         ensures grows { OnOk result (GrowNotes self.old self.new) }
         ensures there { IfOk result (λ number. AreNotesAt self.new number acts.now) }
     {
         let mut lasts = Lasts { numbers: [0; 16] };
-        let mut highest = 0;
         for act in acts {
-            if act.node < highest || act.node >= 16 || !is_noted_deed(act.deed) {
-                return Err(AllocError);
-            }
-            highest = act.node;
             self.note(&mut lasts, *act)?;
         }
         let number = self.number(lasts)?;

@@ -72,6 +72,7 @@ impl Rows {
     ghost use Rattle.lrc_orders.specs.declared.noted.Noted.{Noted as Key};
     ghost use Rattle.lrc_orders.specs.Kept.{IsAddedAt};
     ghost use Rattle.lrc_orders_settling.specs.Taking.{IsCounted};
+    ghost use Rattle.lrc_orders_table.specs.Links.{StandByNode};
     ghost use Rattle.lrc_orders_table.specs.Rows.{AddsThreads, AreRowsDistinct, IsRowAt, IsRowPlace, StandsFor, WidensRows, row_count};
 
     /// No rows.
@@ -128,11 +129,12 @@ impl Rows {
         })
     }
 
-    /// Adds the row of a state with its notes, if it is new: its place, and whether it is new.
+    /// Adds the row of a state with its notes, which stand node by node, if it is new: its place, and whether it is new.
     pub fn add(&mut self, noted: Noted) -> Result<(usize, bool), AllocError>
         requires distinct { AreRowsDistinct self.old }
         requires nodes { length noted.state.spots.items ≡ self.old.nodes }
         requires counted { IsCounted noted.state }
+        requires notes { StandByNode self.old.nodes noted.notes.items }
         ensures widens { OnOk result (WidensRows self.old self.new) }
         ensures distinct { OnOk result (AreRowsDistinct self.new) }
         ensures there { IfOk result (λ added. IsRowAt self.new added.0 noted) }

@@ -1,8 +1,6 @@
--- The acts so far are noted, stand node by node, and are of no node above the highest.
-use Rattle.std.proofs.Common.{◌≡◌, take}
-use Rattle.lrc_orders.specs.Notes.{notes_of}
+-- The acts so far are noted.
+use Rattle.std.proofs.Common.{take}
 use Rattle.lrc_orders_table.specs.Links.{AreNotesSound, GrowNotes, HasLasts}
-use Rattle.lrc_orders_table.proofs.ByNode.{AreUpTo}
 use Rattle.lrc_orders_table.proofs.notes.Notes.add.Given as goal
 
 abbrev pub invariant-loop-act : goal.invariant-loop-act
@@ -10,6 +8,4 @@ invariant-loop-act l = record {
   sound : AreNotesSound l.self;
   grows : GrowNotes l.initial.self l.self;
   has : HasLasts l.self.links.keys l.lasts (take l.act-index l.acts);
-  are : notes_of 16 (take l.act-index l.acts) ≡ take l.act-index l.acts;
-  low : AreUpTo l.highest (take l.act-index l.acts);
 }

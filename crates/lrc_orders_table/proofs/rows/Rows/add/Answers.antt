@@ -2,10 +2,16 @@ use Rattle.std.proofs.Common.{◌≡◌, ◌∙◌, ◌≤◌, length, refl, sym
 use Rattle.std.specs.Prelude.{slice_get}
 use Rattle.lrc_orders.proofs.Keeping.{grows_not}
 use Rattle.lrc_orders_table.specs.declared.rows.Rows.{Rows}
-use Rattle.lrc_orders_table.specs.Links.{AreNotesAt}
+use Rattle.lrc_orders_table.specs.Links.{AreNotesAt, StandByNode}
 use Rattle.lrc_orders_table.specs.Rows.{AddsThreads, AreThreadsAt, WidensRows}
+use Rattle.lrc_orders_table.proofs.ByNode.{stand_further}
 use Rattle.lrc_orders_table.proofs.RowLaws.{rows_again}
 use Rattle.lrc_orders_table.proofs.rows.Rows.add.Goals as goal
+
+pub add-requires-clause-stand : goal.add-requires-clause-stand
+add-requires-clause-stand c =
+    let few = subst (λ n. n ≤ 16) c.requires.nodes (subst (λ l. length l ≤ 16) c.deref.ensures.value c.in_ok-threads.ensures.few) in
+    subst (StandByNode 16) (sym c.deref-2.ensures.value) (stand_further c.args.self.now.nodes 16 c.args.noted.notes.items few c.requires.notes)
 
 pub put-requires : goal.put-requires
 put-requires c = record {
