@@ -3,17 +3,17 @@ use Rattle.std.proofs.Common.{◌≡◌, ℕ, zero, suc, ◌+◌, ◌*◌, ◌<�
 use Rattle.std.proofs.Common.{Global, Vec, append_assoc}
 use Rattle.std.specs.Prelude.{◌&&◌, ◌-◌, ◌^◌, Some, cond, filter, nat_eq, reverse, slice_get, slice_index, slice_set}
 use Rattle.std.specs.List.{IsDistinct}
-use Rattle.std.proofs.lemmas.Bool.{and_parts, cases_eq, eq-eqb, eqb-true, ne_eqb, true≢false}
+use Rattle.std.proofs.lemmas.Bool.{and_parts, cases_eq, eq-eqb, eqb-true, ne_eqb}
 use Rattle.std.proofs.lemmas.List.{ext_get_or, get_or-set_other, get_or-set_same, length-append, length-reverse, length-set, map-append, reverse-append, reverse-reverse, take_more}
 use Rattle.std.proofs.lemmas.List.Elements.{filter-append}
 use Rattle.std.proofs.lemmas.Option.{get_or_from_slice_get, same_Some, slice_get-get_or, slice_get_within}
-use lib.Pointwise.{pointwise, bytes_decides}
+use lib.Pointwise.{bytes_decides}
 use Rattle.lrc_trace.specs.declared.act.Act.{Act}
 use Rattle.lrc_trace.specs.declared.act.Deed.{Deed}
 use Rattle.lrc_trace.specs.contracts.act.ActPartialEq.TheImpl.{eq-value as act_eq}
 use Rattle.lrc_trace.specs.Run.{act_of}
 use Rattle.lrc_orders.specs.Kept.{Grows}
-use Rattle.lrc_orders.specs.Notes.{is_noted_deed, is_note_of, notes_from, notes_of, notes_with}
+use Rattle.lrc_orders.specs.Notes.{is_noted_deed, is_note_of, notes_from, notes_of}
 use Rattle.lrc_orders.proofs.Alike.{acts_same}
 use Rattle.lrc_orders.proofs.Keeping.{grows_again, grows_not, stands_on}
 use Rattle.lrc_orders.proofs.KeptAlike.{both_true, equal_items, nat_itself, one_place}
@@ -24,7 +24,7 @@ use Rattle.lrc_orders_table.specs.declared.notes.Lasts.{Lasts}
 use Rattle.lrc_orders_table.specs.declared.notes.Notes.{Notes}
 use Rattle.lrc_orders_table.specs.contracts.notes.LinkPartialEq.TheImpl.{eq-value as link_eq}
 use Rattle.lrc_orders_table.specs.contracts.notes.LastsPartialEq.TheImpl.{eq-value as lasts_eq}
-use Rattle.lrc_orders_table.specs.Links.{AreNotesAt, AreNotesSound, GrowNotes, HasLasts, IsChain, IsLinked, link_of}
+use Rattle.lrc_orders_table.specs.Links.{AreNotesAt, AreNotesSound, GrowNotes, HasLasts, IsChain, link_of}
 use Rattle.lrc_orders_table.specs.Nexts.{notes_on}
 use Rattle.lrc_orders_table.proofs.Itself.{act_itself}
 

@@ -1,4 +1,4 @@
-use Rattle.std.proofs.Common.{◌≡◌, ◌++◌, ◌∙◌, sym, ap, subst}
+use Rattle.std.proofs.Common.{◌++◌, ◌∙◌, sym, ap, subst}
 use Rattle.lrc_orders_settling.specs.Gone.{acts_by}
 use Rattle.lrc_orders_table.specs.Links.{HasLasts}
 use Rattle.lrc_orders_table.specs.Nexts.{notes_on}

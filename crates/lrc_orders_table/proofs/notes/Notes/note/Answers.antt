@@ -1,4 +1,4 @@
-use Rattle.std.proofs.Common.{◌≡◌, ◌≤◌, ◌∙◌, true, length, refl, sym, subst}
+use Rattle.std.proofs.Common.{◌≡◌, ◌≤◌, ◌∙◌, true, refl, sym, subst}
 use Rattle.std.specs.Prelude.{Some, slice_get, slice_index}
 use Rattle.lrc_orders.proofs.Gathering.{put_all}
 use Rattle.lrc_orders.proofs.Keeping.{grows_not, put_grows}

@@ -1,4 +1,4 @@
-use Rattle.std.proofs.Common.{◌≡◌, ◌<◌, ◌∙◌, sym, ap, arith}
+use Rattle.std.proofs.Common.{◌≡◌, ◌∙◌, sym, ap, arith}
 use Rattle.std.specs.Prelude.{None, is_none, slice_index_or}
 use Rattle.std.proofs.lemmas.Option.{same_Some}
 use Rattle.lrc_orders_table.specs.declared.parts.Shared.{Shared}
