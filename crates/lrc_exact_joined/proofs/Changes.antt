@@ -1,8 +1,10 @@
 -- The last change of a word in a row.
-use Rattle.std.proofs.Common.{◌≡◌, ℕ, zero, suc, ◌<◌, ◌≤◌, refl, ap, ◌∙◌, arith}
-use Rattle.std.specs.Prelude.{Option, Some, None, if◌then◌else◌, nat_le}
+use Rattle.std.proofs.Common.{◌≡◌, ℕ, zero, suc, ◌<◌, ◌≤◌, List, refl, sym, ap, ◌∙◌, arith}
+use Rattle.std.specs.Prelude.{Option, Some, None, if◌then◌else◌, nat_le, slice_get}
 use Rattle.std.proofs.lemmas.Bool.{cond-true, cond-false, le-leb, lt-leb}
 use Rattle.lrc_exact.specs.Memory.{Interval}
+use Rattle.lrc_exact_copies.specs.declared.made.Made.{Made}
+use Rattle.lrc_exact_copies.specs.Made.{change_in, in_row, interval_or}
 use Rattle.lrc_exact_states.specs.Levels.{Change, last_change, newest}
 
 module _ (f : ℕ → Interval) (word first : ℕ) where
@@ -24,3 +26,13 @@ module _ (f : ℕ → Interval) (word first : ℕ) where
       ap (λ (k : Interval). if nat_le first last then newest (k.changed word) k.weight (last_change f word first last) else None) (same last (omega arith))
       ∙ ap (λ (o : Option Change). if nat_le first last then newest ((g (suc last)).changed word) (g (suc last)).weight o else None)
       (last-agree g last (λ i lt. same i (omega (arith, lt))))
+
+-- one interval of a row more
+pub last-row : (row : List Made) (word first i : ℕ) (made : Made) (found : Option Change) (value : Option ℕ) → first ≤ i → slice_get row i ≡ Some made
+    → value ≡ change_in made.changes.items word → found ≡ last_change (in_row row) word first i
+    → newest value made.weight found ≡ last_change (in_row row) word first (suc i)
+last-row row word first i made found value low stands is so_far =
+    ap (λ (o : Option ℕ). newest o made.weight found) is
+    ∙ ap (λ (o : Option Change). newest (change_in made.changes.items word) made.weight o) so_far
+    ∙ ap (λ (k : Interval). newest (k.changed word) k.weight (last_change (in_row row) word first i)) (sym (ap interval_or stands))
+    ∙ sym (last-one (in_row row) word first i low)
