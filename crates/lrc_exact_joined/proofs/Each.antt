@@ -13,14 +13,17 @@ pub map-next : {A B : Type 0} (g : A → B) (xs : List A) (x : A) → map g (xs 
 map-next g [] x = refl
 map-next {A} {B} g (y ∷ xs) x = ap (λ (ys : List B). g y ∷ ys) (map-next g xs x)
 
+pub grown-next : {A : Type 0} (f : ℕ → A) (xs : List A) (x : A) (count : ℕ) → xs ≡ each_from 0 count f → x ≡ f count
+    → xs ++ x ∷ [] ≡ each_from 0 (count + 1) f
+grown-next {A} f xs x count so_far one =
+    let e : suc count ≡ count + 1 = omega arith in
+    let none : 0 + count ≡ count = omega arith in
+    ap (λ (ys : List A). ys ++ x ∷ []) so_far
+    ∙ ap (λ (y : A). each_from 0 count f ++ y ∷ []) one
+    ∙ sym (each-next f 0 count ∙ ap (λ (n : ℕ). each_from 0 count f ++ f n ∷ []) none)
+    ∙ ap (λ (n : ℕ). each_from 0 n f) e
+
 -- what was listed so far, and one more
 pub listed-next : {A B : Type 0} (g : A → B) (f : ℕ → B) (xs : List A) (x : A) (count : ℕ) → map g xs ≡ each_from 0 count f → g x ≡ f count
     → map g (xs ++ x ∷ []) ≡ each_from 0 (count + 1) f
-listed-next {A} {B} g f xs x count so_far one =
-    let e : suc count ≡ count + 1 = omega arith in
-    let none : 0 + count ≡ count = omega arith in
-    map-next g xs x
-    ∙ ap (λ (ys : List B). ys ++ g x ∷ []) so_far
-    ∙ ap (λ (y : B). each_from 0 count f ++ y ∷ []) one
-    ∙ sym (each-next f 0 count ∙ ap (λ (n : ℕ). each_from 0 count f ++ f n ∷ []) none)
-    ∙ ap (λ (n : ℕ). each_from 0 n f) e
+listed-next g f xs x count so_far one = map-next g xs x ∙ grown-next f (map g xs) (g x) count so_far one

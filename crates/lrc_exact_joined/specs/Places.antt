@@ -1,5 +1,5 @@
 -- What is known at places, where the nodes' intervals did this.
-use Rattle.std.specs.Prelude.{◌≡◌, ℕ, ◌≤◌, List, Vec, Option, Some, length, option_map}
+use Rattle.std.specs.Prelude.{◌≡◌, ℕ, ◌≤◌, List, Vec, Option, Some, length, option_map, slice_get}
 use Rattle.std.specs.declared.alloc.Global.{Global}
 use Rattle.lrc_time.specs.Time.{entry}
 use Rattle.lrc_exact.specs.Rule.{Knowledge}
@@ -19,3 +19,7 @@ IsPlaceOf nodes made place = (time : List ℕ) → place ≡ Some time → IsTim
 -- what is known at a place
 abbrev pub known_there : List (Vec Made Global) → Option (List ℕ) → Option Knowledge
 known_there made place = option_map (known_of made) place
+
+-- so are several
+abbrev pub ArePlacesOf : ℕ → List (Vec Made Global) → List (Option (List ℕ)) → Type 0
+ArePlacesOf nodes made places = (index : ℕ) (place : Option (List ℕ)) → slice_get places index ≡ Some place → IsPlaceOf nodes made place

@@ -27,6 +27,9 @@ change_seen change = record { weight = change.weight; value = change.value }
 abbrev pub gap_seen : KeptGap → Gap
 gap_seen gap = record { under = gap.under; changes = map (option_map change_seen) gap.changes.items }
 
+abbrev pub gaps_seen : Vec KeptGap Global → List Gap
+gaps_seen gaps = map gap_seen gaps.items
+
 abbrev pub heights_seen : Option (Vec ℕ Global) → Option (List ℕ)
 heights_seen = option_map (λ (heights : Vec ℕ Global). heights.items)
 
@@ -49,5 +52,5 @@ key_seen flat nodes locks key =
       before = map (λ (row : Vec KeptWord Global). map (λ (word : KeptWord). word.before) row.items) key.words.items;
       heights = map heights_seen key.heights.items;
       gaps = map (λ (row : Vec (Vec KeptGap Global) Global).
-          map (λ (gaps : Vec KeptGap Global). map gap_seen gaps.items) row.items) key.gaps.items;
+          map gaps_seen row.items) key.gaps.items;
     }

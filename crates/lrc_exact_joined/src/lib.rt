@@ -12,3 +12,4 @@
 
 pub mod gaps;
 pub mod key;
+pub mod places;
