@@ -1,5 +1,6 @@
 -- Lists of what there is of each number, one more at the end.
-use Rattle.std.proofs.Common.{◌≡◌, ℕ, zero, suc, ◌+◌, List, [], ◌∷◌, ◌++◌, refl, sym, ap, ◌∙◌, arith, map}
+use Rattle.std.proofs.Common.{◌≡◌, ℕ, zero, suc, ◌+◌, ◌<◌, List, [], ◌∷◌, ◌++◌, length, take, get_or, refl, sym, ap, ◌∙◌, arith, map}
+use Rattle.std.proofs.Math.Seq.{take-suc}
 use Rattle.lrc_exact_states.specs.Key.{each_from}
 
 pub each-next : {A : Type 0} (f : ℕ → A) (first count : ℕ) → each_from first (suc count) f ≡ each_from first count f ++ f (first + count) ∷ []
@@ -27,3 +28,15 @@ grown-next {A} f xs x count so_far one =
 pub listed-next : {A B : Type 0} (g : A → B) (f : ℕ → B) (xs : List A) (x : A) (count : ℕ) → map g xs ≡ each_from 0 count f → g x ≡ f count
     → map g (xs ++ x ∷ []) ≡ each_from 0 (count + 1) f
 listed-next g f xs x count so_far one = map-next g xs x ∙ grown-next f (map g xs) (g x) count so_far one
+
+-- the images of what was gone over so far, and of one more
+pub taken-next : {A B C : Type 0} (g : A → B) (h : C → B) (xs : List A) (x : A) (ys : List C) (y : C) (i : ℕ) → i < length ys → y ≡ get_or ys i y
+    → map g xs ≡ map h (take i ys) → g x ≡ h y → map g (xs ++ x ∷ []) ≡ map h (take (i + 1) ys)
+taken-next {B} g h xs x ys y i lt is so_far one =
+    let e : suc i ≡ i + 1 = omega arith in
+    map-next g xs x
+    ∙ ap (λ (zs : List B). zs ++ g x ∷ []) so_far
+    ∙ ap (λ (z : B). map h (take i ys) ++ z ∷ []) (one ∙ ap h is)
+    ∙ sym (map-next h (take i ys) (get_or ys i y))
+    ∙ sym (ap (map h) (take-suc ys i y lt))
+    ∙ ap (λ (n : ℕ). map h (take n ys)) e
