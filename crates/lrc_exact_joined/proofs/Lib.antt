@@ -1,2 +1,3 @@
 mod Changes
 mod Each
+mod Same

@@ -49,3 +49,17 @@ pub struct RunKey {
     pub heights: Vec<Option<Vec<u64>>>,
     pub gaps: Vec<Vec<Vec<KeptGap>>>,
 }
+
+impl RunKey {
+    ghost use Rattle.std.specs.Prelude.{◌≡◌, ℕ, true};
+    ghost use Rattle.lrc_exec.specs.declared.spot.Flat.{Flat as FlatType};
+    ghost use Rattle.lrc_exact_joined.specs.View.{key_seen};
+
+    /// Whether two keys are equal: then they stand for one.
+    pub fn is(&self, other: &RunKey) -> bool
+        ensures { result ≡ true → (flat : FlatType) (nodes locks : ℕ)
+            → key_seen flat nodes locks self.now ≡ key_seen flat nodes locks other.now }
+    {
+        self == other
+    }
+}
