@@ -1,3 +1,4 @@
 mod Changes
 mod Each
 mod Same
+mod Rows

@@ -2,7 +2,8 @@
 use Rattle.std.specs.Prelude.{◌≡◌, ℕ, ◌≤◌, List, Vec, Option, Some, length, option_map, slice_get}
 use Rattle.std.specs.declared.alloc.Global.{Global}
 use Rattle.lrc_time.specs.Time.{entry}
-use Rattle.lrc_exact.specs.Rule.{Knowledge}
+use Rattle.lrc_exact.specs.Memory.{Interval, Word}
+use Rattle.lrc_exact.specs.Rule.{Knowledge, with_change}
 use Rattle.lrc_exact_copies.specs.declared.made.Made.{Made}
 use Rattle.lrc_exact_copies.specs.Made.{row_of}
 use Rattle.lrc_exact_judge.specs.Keepers.{known_of}
@@ -23,3 +24,7 @@ known_there made place = option_map (known_of made) place
 -- so are several
 abbrev pub ArePlacesOf : ℕ → List (Vec Made Global) → List (Option (List ℕ)) → Type 0
 ArePlacesOf nodes made places = (index : ℕ) (place : Option (List ℕ)) → slice_get places index ≡ Some place → IsPlaceOf nodes made place
+
+-- what one has of a word, once it has learned an interval of a node
+abbrev pub with_one : ℕ → Interval → ℕ → Word → Word
+with_one node interval word had = with_change (record { weight = interval.weight; node = node }) (interval.changed word) had

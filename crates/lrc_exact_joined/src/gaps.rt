@@ -28,7 +28,7 @@ pub fn capped_above(cap: u64, bound: u64, number: u64) -> u64
 }
 
 // The value to which changes set a word, if they do.
-fn value_in(changes: &[Change], word: u32) -> Option<u64>
+pub(crate) fn value_in(changes: &[Change], word: u32) -> Option<u64>
     ensures { result ≡ change_in changes.now word }
 {
     for change in changes {

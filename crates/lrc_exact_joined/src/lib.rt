@@ -10,6 +10,7 @@
 //! 3. To do: the search (`specs/Searching.antt` says what it promises), and the caps, one after another.
 #![tactic(auto)]
 
+pub mod decided;
 pub mod gaps;
 pub mod key;
 pub mod places;
