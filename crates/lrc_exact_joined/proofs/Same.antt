@@ -143,15 +143,15 @@ keys_same a b e flat nodes locks =
     let arrived : a.arrived.items ≡ b.arrived.items = numbers_same a.arrived.items b.arrived.items p3.0 in
     let notes : a.notes.items ≡ b.notes.items = acts_same a.notes.items b.notes.items p4.0 in
     let words : map row_words a.words.items ≡ map row_words b.words.items =
-        mapped_same row_eq row_words (λ x y h. ap (map word_seen) (pointwise_same word_eq.it word_same x.items y.items h)) a.words.items b.words.items p5.0 in
+    mapped_same row_eq row_words (λ x y h. ap (map word_seen) (pointwise_same word_eq.it word_same x.items y.items h)) a.words.items b.words.items p5.0 in
     let before : map row_before a.words.items ≡ map row_before b.words.items =
-        mapped_same row_eq row_before (λ x y h. ap (map (λ (word : KeptWord). word.before)) (pointwise_same word_eq.it word_same x.items y.items h))
-        a.words.items b.words.items p5.0 in
+    mapped_same row_eq row_before (λ x y h. ap (map (λ (word : KeptWord). word.before)) (pointwise_same word_eq.it word_same x.items y.items h))
+    a.words.items b.words.items p5.0 in
     let heights : map heights_seen a.heights.items ≡ map heights_seen b.heights.items =
-        mapped_same (option_eq numbers_eq) heights_seen
-        (options_same numbers_eq (λ (x : Vec ℕ Global). x.items) (λ x y h. numbers_same x.items y.items h)) a.heights.items b.heights.items p6.0 in
+    mapped_same (option_eq numbers_eq) heights_seen
+    (options_same numbers_eq (λ (x : Vec ℕ Global). x.items) (λ x y h. numbers_same x.items y.items h)) a.heights.items b.heights.items p6.0 in
     let gaps : map row_gaps a.gaps.items ≡ map row_gaps b.gaps.items =
-        mapped_same row_gaps_eq row_gaps (λ x y h. mapped_same gaps_eq gaps_seen gaps_same x.items y.items h) a.gaps.items b.gaps.items p6.1 in
+    mapped_same row_gaps_eq row_gaps (λ x y h. mapped_same gaps_eq gaps_seen gaps_same x.items y.items h) a.gaps.items b.gaps.items p6.1 in
     ap (λ xs. of_parts flat nodes locks xs a.holders.items a.arrived.items a.notes.items (map row_words a.words.items) (map row_before a.words.items)
     (map heights_seen a.heights.items) (map row_gaps a.gaps.items)) spots
     ∙ ap (λ xs. of_parts flat nodes locks b.spots.items xs a.arrived.items a.notes.items (map row_words a.words.items) (map row_before a.words.items)

@@ -49,14 +49,7 @@ fn with_interval(made: &Made, node: u8, word: u32, held: KeptWord) -> KeptWord
 }
 
 // What a node has of a word once it has learned the intervals of a row above the first index, up to the last.
-fn with_row(
-    row: &[Made],
-    node: u8,
-    word: u32,
-    first: u32,
-    last: u32,
-    had: KeptWord,
-) -> KeptWord
+fn with_row(row: &[Made], node: u8, word: u32, first: u32, last: u32, had: KeptWord) -> KeptWord
     requires { last ≤ length row.now }
     ensures { word_seen result
         ≡ with_changes_of node (in_row row.now) word first last (word_seen had) }

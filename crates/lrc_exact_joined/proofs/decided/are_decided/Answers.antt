@@ -30,30 +30,30 @@ loop-node-preserved c =
     let held = word_seen c.loop-node.held in
     let so_far = c.loop-node.invariant.0 in
     let is : c.as_slice-row.result.now ≡ row_of made node =
-        c.as_slice-row.ensures.value ∙ row-there made node c.from.result c.index-made-from.result c.loop-node-test.true c.from.ensures c.index-made-from.is in
+    c.as_slice-row.ensures.value ∙ row-there made node c.from.result c.index-made-from.result c.loop-node-test.true c.from.ensures c.index-made-from.is in
     let learned : word_seen c.with_row-held.result ≡ with_news (suc node) had known word now =
-        c.with_row-held.ensures
-        ∙ ap (λ (xs : List Made). with_changes_of node (in_row xs) word first last held) is
-        ∙ ap (λ (a : ℕ). with_changes_of node (in_row (row_of made node)) word a last held) c.at-first.ensures
-        ∙ ap (λ (b : ℕ). with_changes_of node (in_row (row_of made node)) word (entry had node) b held) c.at-last.ensures
-        ∙ ap (λ (w : Word). with_changes_of node (in_row (row_of made node)) word (entry had node) (entry news node) w) so_far in
+    c.with_row-held.ensures
+    ∙ ap (λ (xs : List Made). with_changes_of node (in_row xs) word first last held) is
+    ∙ ap (λ (a : ℕ). with_changes_of node (in_row (row_of made node)) word a last held) c.at-first.ensures
+    ∙ ap (λ (b : ℕ). with_changes_of node (in_row (row_of made node)) word (entry had node) b held) c.at-last.ensures
+    ∙ ap (λ (w : Word). with_changes_of node (in_row (row_of made node)) word (entry had node) (entry news node) w) so_far in
     let change : option_map change_seen c.last_change-change.result ≡ last_change (in_row (row_of made node)) word (entry had node) (entry news node) =
-        c.last_change-change.ensures
-        ∙ ap (λ (xs : List Made). last_change (in_row xs) word first last) is
-        ∙ ap (λ (a : ℕ). last_change (in_row (row_of made node)) word a last) c.at-first.ensures
-        ∙ ap (λ (b : ℕ). last_change (in_row (row_of made node)) word (entry had node) b) c.at-last.ensures in
+    c.last_change-change.ensures
+    ∙ ap (λ (xs : List Made). last_change (in_row xs) word first last) is
+    ∙ ap (λ (a : ℕ). last_change (in_row (row_of made node)) word a last) c.at-first.ensures
+    ∙ ap (λ (b : ℕ). last_change (in_row (row_of made node)) word (entry had node) b) c.at-last.ensures in
     let decided : c.if-decided.decided ≡ true → (floor : List ℕ) → weight_of floor ≡ c.args.measure.bound
-        → AreDecided cap floor (suc node) had known word now =
-        elim c.if-decided.branch [
-          | then-decided w ↦ λ yes floor weighs. (
-              c.loop-node.invariant.1 w.if-decided.true floor weighs,
-              subst (λ (o : Option Rank). IsDecided cap floor node o (last_change (in_row (row_of made node)) word (entry had node) (entry news node)))
-              (ap (λ (x : Word). x.mark) so_far)
-              (subst (λ (o : Option Change). IsDecided cap floor node (option_map rank_seen c.loop-node.held.mark) o) change
-              (w.is_decided-decided.ensures (sym w.decided-is ∙ yes) floor weighs)),
-            )
-          | else-decided w ↦ λ yes floor weighs. absurd (both_ways c.if-decided.decided (w.decided-is ∙ w.if-decided.false) yes)
-        ]
+    → AreDecided cap floor (suc node) had known word now =
+    elim c.if-decided.branch [
+      | then-decided w ↦ λ yes floor weighs. (
+        c.loop-node.invariant.1 w.if-decided.true floor weighs,
+        subst (λ (o : Option Rank). IsDecided cap floor node o (last_change (in_row (row_of made node)) word (entry had node) (entry news node)))
+            (ap (λ (x : Word). x.mark) so_far)
+            (subst (λ (o : Option Change). IsDecided cap floor node (option_map rank_seen c.loop-node.held.mark) o) change
+            (w.is_decided-decided.ensures (sym w.decided-is ∙ yes) floor weighs)),
+      )
+      | else-decided w ↦ λ yes floor weighs. absurd (both_ways c.if-decided.decided (w.decided-is ∙ w.if-decided.false) yes)
+    ]
     in (
       subst (λ n. word_seen c.with_row-held.result ≡ with_news n had known word now) (sym (add-one node)) learned,
       λ yes floor weighs. subst (λ n. AreDecided cap floor n had known word now) (sym (add-one node)) (decided yes floor weighs),

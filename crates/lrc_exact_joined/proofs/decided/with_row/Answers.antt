@@ -23,7 +23,7 @@ loop-index-preserved c =
     let test = c.loop-index-test.true in
     let stands : slice_get row i ≡ Some made = slice_get-get_or row i made (omega arith) ∙ ap Some (sym c.index-row-index.is) in (
       c.with_interval-held.ensures
-      ∙ row-next c.args.node row c.args.word c.args.first i (word_seen c.args.had) (word_seen c.loop-index.held) made low stands c.loop-index.invariant.0,
+          ∙ row-next c.args.node row c.args.word c.args.first i (word_seen c.args.had) (word_seen c.loop-index.held) made low stands c.loop-index.invariant.0,
       λ le. omega arith,
     )
 

@@ -18,13 +18,13 @@ returns c =
     let last = c.at-last.result in
     let words = c.args.measure.words in
     let stands : slice_get made node ≡ Some row =
-        slice_get_read made (length made) node row refl c.requires.node
-        (subst (λ n. row ≡ slice_index_or made n row) c.from.ensures c.index-made-from.is) in
+    slice_get_read made (length made) node row refl c.requires.node
+    (subst (λ n. row ≡ slice_index_or made n row) c.from.ensures c.index-made-from.is) in
     let is : c.as_slice-row.result.now ≡ row_of made node = c.as_slice-row.ensures.value ∙ sym (ap row_or stands) in
     let gap : Bool → List (Option Change) → Gap = λ under changes. record { under = under; changes = changes } in
     let between : List Made → ℕ → ℕ → Gap =
-        λ xs a b. gap (nat_le a b)
-        (each_from 0 words (λ (word : ℕ). change_kept c.args.measure.cap c.args.measure.bound (last_change (in_row xs) word a b))) in
+    λ xs a b. gap (nat_le a b)
+    (each_from 0 words (λ (word : ℕ). change_kept c.args.measure.cap c.args.measure.bound (last_change (in_row xs) word a b))) in
     ap (gap (nat_le first last)) c.in_ok-changes.ensures
     ∙ ap (λ (xs : List Made). between xs first last) is
     ∙ ap (λ (a : ℕ). between (row_of made node) a last) c.at-first.ensures

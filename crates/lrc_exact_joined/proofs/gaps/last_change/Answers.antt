@@ -25,17 +25,17 @@ loop-index-preserved c =
     let test = c.loop-index-test.true in
     let stands : slice_get row i ≡ Some made = slice_get-get_or row i made (omega arith) ∙ ap Some (sym c.index-row-index.is) in
     let found : c.value_in.result ≡ change_in made.changes.items word =
-        c.value_in.ensures ∙ ap (λ changes. change_in changes word) c.as_slice.ensures.value in
+    c.value_in.ensures ∙ ap (λ changes. change_in changes word) c.as_slice.ensures.value in
     let so_far = c.loop-index.invariant.0 in
     let next : option_map change_seen c.match-value_in.found ≡ last_change (in_row row) word first (suc i) =
-        elim c.match-value_in.branch [
-          | in-Some w ↦
-              ap (option_map change_seen) w.found-is
-              ∙ last-row row word first i made (option_map change_seen c.loop-index.found) (Some w.in-Some.value) low stands (sym w.in-Some.is ∙ found) so_far
-          | in_default w ↦
-              ap (option_map change_seen) w.found-is
-              ∙ last-row row word first i made (option_map change_seen c.loop-index.found) None low stands (sym w.in_default.is ∙ found) so_far
-        ]
+    elim c.match-value_in.branch [
+      | in-Some w ↦
+          ap (option_map change_seen) w.found-is
+          ∙ last-row row word first i made (option_map change_seen c.loop-index.found) (Some w.in-Some.value) low stands (sym w.in-Some.is ∙ found) so_far
+      | in_default w ↦
+          ap (option_map change_seen) w.found-is
+          ∙ last-row row word first i made (option_map change_seen c.loop-index.found) None low stands (sym w.in_default.is ∙ found) so_far
+    ]
     in (
       subst (λ n. option_map change_seen c.match-value_in.found ≡ last_change (in_row row) word first n) (sym (add-one i)) next,
       λ le. omega arith,

@@ -16,8 +16,8 @@ loop-place-preserved c =
     let places = c.args.places.now in
     let seen : Vec (Vec KeptGap Global) Global → List (List Gap) = λ row. map gaps_seen row.items in
     let stands : Option (List ℕ) → List (List Gap) =
-        λ place. map (λ (other : Option (List ℕ)).
-        gaps_of measure.cap measure.bound measure.words (length made) (known_there made place) (known_there made other)) places in
+    λ place. map (λ (other : Option (List ℕ)).
+    gaps_of measure.cap measure.bound measure.words (length made) (known_there made place) (known_there made other)) places in
     ap (map seen) c.in_ok-push.ensures.items
     ∙ taken-next seen stands c.loop-place.rows.items c.in_ok-gaps_to_all.field-0 places c.place-item.result c.loop-place.place-index
     c.loop-place-test.true c.place-item.is c.loop-place.invariant c.in_ok-gaps_to_all.ensures
