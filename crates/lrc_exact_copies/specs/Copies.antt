@@ -1,5 +1,5 @@
 -- A node's copy of the memory, as the judge keeps it.
-use Rattle.std.specs.Prelude.{◌≡◌, ℕ, ◌+◌, ◌-◌, ◌≤◌, ◌==◌, ◌||◌, ◌&&◌, true, false, List, Option, Some, None, unwrap_or, nat_le, nat_lt, slice_index, if◌then◌else◌}
+use Rattle.std.specs.Prelude.{◌≡◌, ℕ, ◌+◌, ◌-◌, ◌≤◌, ◌==◌, ◌||◌, ◌&&◌, true, false, List, Option, Some, None, unwrap_or, option_map, nat_le, nat_lt, slice_index, if◌then◌else◌}
 use Rattle.std.specs.Ordering.{nat_cmp}
 use Rattle.std.specs.BTreeMap.{BTreeMap, get}
 use Rattle.lrc_time.specs.Time.{entry}
@@ -7,6 +7,8 @@ use Rattle.lrc_exact.specs.Memory as memory
 use Rattle.lrc_exact.specs.Rule.{Shape, State, page_of, with_change}
 use Rattle.lrc_exact_copies.specs.declared.copy.Word.{Word}
 use Rattle.lrc_exact_copies.specs.declared.copy.Look.{Look}
+use Rattle.lrc_exact_copies.specs.declared.copy.Held.{Held}
+use Rattle.lrc_exact_copies.specs.declared.copy.Mark.{Mark}
 use Rattle.lrc_exact_copies.specs.declared.copy.NodeCopy.{NodeCopy}
 use Rattle.lrc_exact_copies.specs.declared.made.Change.{Change}
 use Rattle.lrc_exact_copies.specs.Made.{change_in, has}
@@ -36,6 +38,13 @@ word_of look word =
 -- the value before the first write in the interval, if that wrote the word
 abbrev pub before_of : ℕ → Word → Option ℕ
 before_of index word = if word.written == index then Some word.before else None
+
+-- the rank, and the word, that are told
+abbrev pub mark_held : Mark → memory.Rank
+mark_held mark = record { weight = mark.weight; node = mark.from }
+
+abbrev pub word_held : Held → memory.Word
+word_held held = record { value = held.value; mark = option_map mark_held held.mark }
 
 -- The parts of a copy are those of a node's state. Pages were accessed up to a time, and words learned up to another.
 pub record IsCopyOf (shape : Shape) (node accessed learned : ℕ) (words : ℕ → Word) (looks : ℕ → Look)

@@ -1,8 +1,8 @@
 // A node's copy of the shared memory, and what the node knows.
 
-ghost use Rattle.std.specs.Prelude.{◌≡◌, OnOk};
+ghost use Rattle.std.specs.Prelude.{◌≡◌, OnOk, option_map};
 ghost use Rattle.lrc_exact.specs.Memory.{is_lower};
-ghost use Rattle.lrc_exact_copies.specs.Copies.{Puts, look_in, word_in};
+ghost use Rattle.lrc_exact_copies.specs.Copies.{Puts, look_in, mark_held, word_in, word_of};
 
 use crate::changes::changes_of;
 use crate::made::{Change, Made};
@@ -23,6 +23,22 @@ pub struct Word {
     pub learned: usize,
     pub weight: u64,
     pub from: u8,
+}
+
+/// The rank of the interval that a word was learned from.
+#[derive(Clone, Copy)]
+pub struct Mark {
+    pub weight: u64,
+    pub from: u8,
+}
+
+/// What a node has of a word now: its value, its mark, if the node has not accessed the page since, and the value before
+/// the open interval wrote it, if it did.
+#[derive(Clone, Copy)]
+pub struct Held {
+    pub value: u64,
+    pub mark: Option<Mark>,
+    pub before: Option<u64>,
 }
 
 /// What a node has of a page.
@@ -96,6 +112,20 @@ fn put_look(looks: &mut BTreeMap<u32, Look>, page: u32, look: Look) -> Result<()
     Ok(())
 }
 
+// The mark of a word, if it is on.
+fn mark_of(had: Word, look: Look) -> Option<Mark>
+    ensures { option_map mark_held result ≡ (word_of look had).mark }
+{
+    if look.accessed < had.learned {
+        Some(Mark {
+            weight: had.weight,
+            from: had.from,
+        })
+    } else {
+        None
+    }
+}
+
 // Whether a rank, of a weight and a node, is lower than another.
 fn is_below(weight: u64, from: u8, than: u64, of: u8) -> bool
     ensures { result ≡ is_lower (record { weight = weight; node = from })
@@ -108,7 +138,7 @@ impl NodeCopy {
     ghost use Rattle.std.specs.Prelude.{◌≡◌, ◌+◌, ◌-◌, ◌*◌, ◌<◌, ◌≤◌, ℕ, false, true, OnOk, IfOk, length, slice_index};
     ghost use Rattle.lrc_time.specs.Time.{entry};
     ghost use Rattle.lrc_exact.specs.Rule.{Shape, State, accessed, closed, open_interval, page_of, state_at_start, with_write};
-    ghost use Rattle.lrc_exact_copies.specs.Copies.{CopyOf, look_in, with_fixed_page, with_fixed_word, with_fixed_words, with_fresh_page, with_one_change, with_one_interval, with_one_page, with_all_changes, with_all_pages, with_page, with_value, word_in};
+    ghost use Rattle.lrc_exact_copies.specs.Copies.{CopyOf, before_of, look_in, word_held, word_of, with_fixed_page, with_fixed_word, with_fixed_words, with_fresh_page, with_one_change, with_one_interval, with_one_page, with_all_changes, with_all_pages, with_page, with_value, word_in};
     ghost use Rattle.lrc_exact_copies.specs.Made.{has, interval_of};
 
     /// Returns the copy of a node that has not acted.
@@ -133,6 +163,27 @@ impl NodeCopy {
         ensures { result ≡ (word_in self.now.words word).value }
     {
         word_at(&self.words, word).value
+    }
+
+    /// Returns what the node has of a word of a page now.
+    pub fn held(&self, node: u8, page: u32, word: u32) -> Held
+        requires { node < length self.now.time }
+        ensures word { word_held result
+            ≡ word_of (look_in self.now.looks page) (word_in self.now.words word) }
+        ensures before { result.before
+            ≡ before_of (entry self.now.time node + 1) (word_in self.now.words word) }
+    {
+        let had = word_at(&self.words, u64::from(word));
+        let open = u64::from(self.time.at(node)) + 1;
+        Held {
+            value: had.value,
+            mark: mark_of(had, look_at(&self.looks, page)),
+            before: if u64::from(had.written) == open {
+                Some(had.before)
+            } else {
+                None
+            },
+        }
     }
 
     /// The node looks at a page.
