@@ -5,7 +5,7 @@ ghost use Rattle.lrc_judge.specs.declared.TheConstants.{NODES};
 
 use crate::keepers::keepers_of;
 use crate::layout::Layout;
-use lrc_exact_copies::copy::NodeCopy;
+use lrc_exact_copies::copy::{Held, NodeCopy};
 use lrc_exact_copies::learning::learn_all;
 use lrc_exact_copies::made::Made;
 use lrc_judge::NODES;
@@ -51,10 +51,12 @@ impl Memory {
     ghost use Rattle.std.specs.Prelude.{List};
     ghost use Rattle.lrc_trace.specs.Run.{arrives_before, departs_before, is_depart};
     ghost use Rattle.lrc_trace.specs.Synchronization.{MayGoOn, WaitsAtBarriers};
-    ghost use Rattle.lrc_exact.specs.Rule.{Knowledge, State, KeepsExact, accessed, acquired, closed, collected, collects, departed, exact_value, known_by_all, page_of, with_learned, with_write};
+    ghost use Rattle.lrc_exact.specs.Rule.{Knowledge, State, KeepsExact, accessed, acquired, closed, collected, collects, departed, exact_rule, exact_value, known_by_all, page_of, with_learned, with_write};
     ghost use Rattle.lrc_exact_judge.specs.Collecting.{with_taken, with_values};
     ghost use Rattle.lrc_exact_judge.specs.Current.{IsMemoryAt, IsMemoryOf};
     ghost use Rattle.lrc_exact_judge.specs.Keepers.{AreKeptValues, AreNodes, AreValues, value_at};
+    ghost use Rattle.lrc_exact.specs.LocalRule.{state_before};
+    ghost use Rattle.lrc_exact_copies.specs.Copies.{word_held};
     ghost use Rattle.lrc_exact_copies.specs.Made.{AreAmong, row_of};
     ghost use Rattle.lrc_time.specs.Time.{entry};
     ghost use Rattle.lrc_exact_judge.specs.Memory.{CountAlike, Having, IsKept, IsReady, IsReadyBy, all_of, with_all, with_have, with_release};
@@ -97,6 +99,54 @@ impl Memory {
     {
         let _acts = acts;
         self.copies[usize::from(node)].value(u64::from(word))
+    }
+
+    /// Whether the memory has of each node what it had after its own last act: no node is between a barrier that some node
+    /// left and its own depart from it.
+    pub fn is_settled(&self, acts: &[Act]) -> bool
+        requires { IsMemoryOf acts.now self.now }
+        ensures { result ≡ true → (node : ℕ) → node < self.now.layout.nodes
+            → departs_before acts.now node (length acts.now) ≡ self.now.settled }
+    {
+        let _acts = acts;
+        for node in 0..usize::from(self.layout.nodes) {
+            if self.departs[node] != self.settled {
+                return false;
+            }
+        }
+        true
+    }
+
+    /// Returns what the memory has of a word for a node that has departed from each barrier that some node left.
+    pub fn held(&self, acts: &[Act], node: u8, word: u32) -> Held
+        requires memory { IsMemoryOf acts.now self.now }
+        requires node { node < self.now.layout.nodes }
+        requires settled { departs_before acts.now node (length acts.now) ≡ self.now.settled }
+        ensures word { (states : List State)
+            → KeepsExact (shape_of self.now.layout) acts.now states → word_held result
+            ≡ (state_before (exact_rule (shape_of self.now.layout)) acts.now states node
+            (length acts.now)).words word }
+        ensures before { (states : List State)
+            → KeepsExact (shape_of self.now.layout) acts.now states → result.before
+            ≡ (state_before (exact_rule (shape_of self.now.layout)) acts.now states node
+            (length acts.now)).before word }
+    {
+        let _acts = acts;
+        let page = word / self.layout.page_words;
+        self.copies[usize::from(node)].held(node, page, word)
+    }
+
+    /// Returns what the node knows, as a time, where it has departed from each barrier that some node left.
+    pub fn known(&self, acts: &[Act], node: u8) -> &Time
+        requires memory { IsMemoryOf acts.now self.now }
+        requires node { node < self.now.layout.nodes }
+        requires settled { departs_before acts.now node (length acts.now) ≡ self.now.settled }
+        ensures { (states : List State) → KeepsExact (shape_of self.now.layout) acts.now states
+            → result.now ≡ (state_before (exact_rule (shape_of self.now.layout)) acts.now states
+            node (length acts.now)).knows.time }
+    {
+        let _acts = acts;
+        &self.copies[usize::from(node)].time
     }
 
     /// Takes in the next act after these. It fails if memory runs out; what is then kept is unspecified.
