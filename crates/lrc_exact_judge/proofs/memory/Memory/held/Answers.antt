@@ -18,10 +18,10 @@ held-requires c =
     let long = whole.kept.all_copies in
     let within = c.requires.node in
     let had : c.index.result.now ≡ get_or self.copies.items node c.index.result.now =
-        c.index.ensures ∙ ap (λ p. get_or self.copies.items p c.index.result.now) c.from.ensures in
+    c.index.ensures ∙ ap (λ p. get_or self.copies.items p c.index.result.now) c.from.ensures in
     let same : c.index.result.now ≡ kept.copy = element-at self.copies.items node c.index.result.now kept.copy (omega arith) had kept.stands in
     let wide : length c.index.result.now.time ≡ self.layout.nodes =
-        ap (λ (k : NodeCopy). length k.time) same ∙ sym (ap (λ (t : List ℕ). length t) kept.is.time_is) ∙ kept.wide in
+    ap (λ (k : NodeCopy). length k.time) same ∙ sym (ap (λ (t : List ℕ). length t) kept.is.time_is) ∙ kept.wide in
     omega arith
 
 pub returns-clause-word : goal.returns-clause-word
@@ -36,7 +36,7 @@ returns-clause-word c = λ states keeps.
     let long = whole.kept.all_copies in
     let within = c.requires.node in
     let had : c.index.result.now ≡ get_or self.copies.items node c.index.result.now =
-        c.index.ensures ∙ ap (λ p. get_or self.copies.items p c.index.result.now) c.from.ensures in
+    c.index.ensures ∙ ap (λ p. get_or self.copies.items p c.index.result.now) c.from.ensures in
     let same : c.index.result.now ≡ kept.copy = element-at self.copies.items node c.index.result.now kept.copy (omega arith) had kept.stands in
     let now = whole.current.here node c.requires.node c.requires.settled in
     let one : whole.states ≡ states = one_list (exact_rule shape) shape.nodes run whole.states states whole.keeps keeps in
@@ -58,7 +58,7 @@ returns-clause-before c = λ states keeps.
     let long = whole.kept.all_copies in
     let within = c.requires.node in
     let had : c.index.result.now ≡ get_or self.copies.items node c.index.result.now =
-        c.index.ensures ∙ ap (λ p. get_or self.copies.items p c.index.result.now) c.from.ensures in
+    c.index.ensures ∙ ap (λ p. get_or self.copies.items p c.index.result.now) c.from.ensures in
     let same : c.index.result.now ≡ kept.copy = element-at self.copies.items node c.index.result.now kept.copy (omega arith) had kept.stands in
     let now = whole.current.here node c.requires.node c.requires.settled in
     let one : whole.states ≡ states = one_list (exact_rule shape) shape.nodes run whole.states states whole.keeps keeps in

@@ -18,7 +18,7 @@ returns c = λ states keeps.
     let long = whole.kept.all_copies in
     let within = c.requires.node in
     let had : c.index.result.now ≡ get_or self.copies.items node c.index.result.now =
-        c.index.ensures ∙ ap (λ p. get_or self.copies.items p c.index.result.now) c.from.ensures in
+    c.index.ensures ∙ ap (λ p. get_or self.copies.items p c.index.result.now) c.from.ensures in
     let same : c.index.result.now ≡ kept.copy = element-at self.copies.items node c.index.result.now kept.copy (omega arith) had kept.stands in
     let now = whole.current.here node c.requires.node c.requires.settled in
     let one : whole.states ≡ states = one_list (exact_rule shape) shape.nodes run whole.states states whole.keeps keeps in
