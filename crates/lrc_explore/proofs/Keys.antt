@@ -12,6 +12,7 @@ use Rattle.lrc_orders.specs.declared.noted.Noted.{Noted}
 use Rattle.lrc_orders_table.specs.declared.rows.Rows.{Rows}
 use Rattle.lrc_exec.specs.declared.state.State.{State}
 use Rattle.lrc_orders.specs.Kept.{Grows, IsAddedAt}
+use Rattle.lrc_orders_table.specs.Links.{StandByNode}
 use Rattle.lrc_orders_table.specs.Rows.{IsRowAt, IsRowPlace, WidensRows, row_count}
 use Rattle.lrc_orders.specs.Notes.{notes_of}
 use Rattle.lrc_exec.specs.States.{plain_at, IsCopy, IsStateOf}
@@ -20,6 +21,7 @@ use Rattle.lrc_orders.proofs.Searching.{copy_same, copy_state}
 use Rattle.lrc_orders.proofs.Standing.{step_within}
 use Rattle.lrc_orders.proofs.Stores.{added_all, before, full_more}
 use Rattle.lrc_orders.proofs.Ways.{IsNotedCopy}
+use Rattle.lrc_orders_table.proofs.ByNode.{stand_none, stand_notes}
 use Rattle.lrc_orders_table.proofs.RowLaws.{row_copy, row_grown, row_store, row_within, rows_again}
 use Rattle.lrc_orders_laws.specs.Steps.{beginning}
 use Rattle.lrc_orders_laws.proofs.Rounds.{one_settling}
@@ -57,6 +59,14 @@ reached_copy task copy key c r = record {
   noted = λ e. r.noted e ∙ sym c.notes;
   bare = λ e. c.notes ∙ r.bare e;
 }
+
+-- the notes of what was reached stand node by node
+stand_if : (task : Task) (key : Noted) → IsReached task key → (b : Bool) → task.noting ≡ b → StandByNode task.flat.nodes key.notes.items
+stand_if task key r true e = subst (StandByNode task.flat.nodes) (r.noted e) (stand_notes task.flat.nodes r.acts)
+stand_if task key r false e = subst (StandByNode task.flat.nodes) (sym (r.bare e)) (stand_none task.flat.nodes)
+
+pub reached_stand : (task : Task) (key : Noted) → IsReached task key → StandByNode task.flat.nodes key.notes.items
+reached_stand task key r = stand_if task key r task.noting refl
 
 takes_copy : (task : Task) (from : Plain) (step : Step) (acts : List Act) (copy key : Noted) → IsNotedCopy copy key
     → TakesLike from step acts (plain_at task.flat key.state) → TakesLike from step acts (plain_at task.flat copy.state)

@@ -20,7 +20,8 @@ use Rattle.lrc_orders.proofs.Keeping.{grows_again, stands_on}
 use Rattle.lrc_orders_settling.specs.Gone.{acts_by, freed}
 use Rattle.lrc_orders_live.specs.Live.{forgot}
 use Rattle.lrc_orders_table.specs.declared.rows.Row.{Row}
-use Rattle.lrc_orders_table.specs.Rows.{AreNotesAt, IsSharedAt}
+use Rattle.lrc_orders_table.specs.Links.{AreNotesAt}
+use Rattle.lrc_orders_table.specs.Rows.{IsSharedAt}
 use Rattle.lrc_orders_table.specs.declared.next.Next.{Next}
 use Rattle.lrc_orders_table.specs.declared.next.Next.TheVariants.{Stopped, Waits}
 use Rattle.lrc_orders_table.specs.Nexts.{SettlesSo, next_by, next_in, notes_on}
@@ -75,12 +76,12 @@ module _ (flat : Flat) (state : State) (valid : IsStateOf flat state) (spot : Sp
 -- the notes that it has then
 record NotesThen (means : Means) (table : Table) (notes : ℕ) (before then_noted : List Act) : Type 0 where
   acts : List Act
-  are : AreNotesAt table.rows.notes.keys notes acts
+  are : AreNotesAt table.rows.notes notes acts
   noted : means.noting ≡ true → acts ≡ then_noted
   bare : means.noting ≡ false → acts ≡ before
 
 notes_cases : (means : Means) (table : Table) (notes : ℕ) (before then_noted : List Act) (b : Bool) → means.noting ≡ b
-    → (means.noting ≡ true → AreNotesAt table.rows.notes.keys notes then_noted) → (means.noting ≡ false → AreNotesAt table.rows.notes.keys notes before)
+    → (means.noting ≡ true → AreNotesAt table.rows.notes notes then_noted) → (means.noting ≡ false → AreNotesAt table.rows.notes notes before)
     → NotesThen means table notes before then_noted
 notes_cases means table notes before then_noted true e noted bare = record {
   acts = then_noted;
@@ -102,7 +103,7 @@ module _ (means : Means) (old one two last : Table) (row : Row) (key : Noted) (n
     (thread_is : thread ≡ after.thread) (next_is : next ≡ next_in means.flat spot)
     (becomes : IsSharedAt two.rows.shared.keys shared (words_then next of.stands.shared.shared.memory.items)
     (freed after.deeds.items (holders_then node next of.stands.shared.shared.holders.items)))
-    (noted : means.noting ≡ true → AreNotesAt last.rows.notes.keys notes (notes_on key.notes.items (acts_by node after.deeds.items)))
+    (noted : means.noting ≡ true → AreNotesAt last.rows.notes notes (notes_on key.notes.items (acts_by node after.deeds.items)))
     (bare : means.noting ≡ false → notes ≡ row.notes) (traps : Bool) (traps_are : traps ≡ after.traps) where
   the : IsAfter means one.rows.threads.keys (record { thread = slice_index row.threads node; value = value }) after
   the = known.afters place (record { thread = slice_index row.threads node; value = value }) after comes
@@ -141,8 +142,8 @@ module _ (means : Means) (old one two last : Table) (row : Row) (key : Noted) (n
   n : NotesThen means last notes key.notes.items (notes_on key.notes.items (acts_by node the.settled.deeds.items))
   n =
       notes_cases means last notes key.notes.items (notes_on key.notes.items (acts_by node the.settled.deeds.items)) means.noting refl
-      (λ e. subst (λ ds. AreNotesAt last.rows.notes.keys notes (notes_on key.notes.items (acts_by node ds))) the.deeds (noted e))
-      (λ e. subst (λ k. AreNotesAt last.rows.notes.keys k key.notes.items) (sym (bare e)) of_last.stands.notes)
+      (λ e. subst (λ ds. AreNotesAt last.rows.notes notes (notes_on key.notes.items (acts_by node ds))) the.deeds (noted e))
+      (λ e. subst (λ k. AreNotesAt last.rows.notes k key.notes.items) (sym (bare e)) of_last.stands.notes)
 
   pub has_gone : HasGone means key node value last
       (record { row = record { threads = slice_set row.threads node thread; shared = shared; notes = notes }; traps = traps })
@@ -157,6 +158,6 @@ module _ (means : Means) (old one two last : Table) (row : Row) (key : Noted) (n
     memory = s.words_are;
     holders = s.holders_are;
     spots = refl;
-    noted = λ e. n.are.acts_are ∙ n.noted e;
-    bare = λ e. n.are.acts_are ∙ n.bare e;
+    noted = n.noted;
+    bare = n.bare;
   }

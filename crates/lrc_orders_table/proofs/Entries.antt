@@ -1,5 +1,5 @@
 -- Entries of the maps of a table.
-use Rattle.std.proofs.Common.{◌≡◌, ℕ, ◌<◌, List, [], ◌∷◌, Bool, true, length, get_or, map, refl, sym, ◌∙◌, ap, subst, arith}
+use Rattle.std.proofs.Common.{◌≡◌, ℕ, ◌<◌, List, [], ◌∷◌, Bool, true, length, get_or, map, sym, ◌∙◌, ap, subst, arith}
 use Rattle.std.specs.Prelude.{All, None, Some, nat_eq, option_map, position, slice_get}
 use Rattle.std.proofs.lemmas.Bool.{and_parts, eqb-true}
 use Rattle.std.proofs.lemmas.List.{get_or-map, length-map}
@@ -11,10 +11,6 @@ use Rattle.lrc_orders_table.specs.declared.table.Asked.{Asked}
 use Rattle.lrc_orders_table.specs.declared.table.Change.{Change}
 use Rattle.lrc_orders_table.specs.contracts.table.AskedPartialEq.TheImpl.{eq-value as asked_eq}
 use Rattle.lrc_orders_table.specs.contracts.table.ChangePartialEq.TheImpl.{eq-value as change_eq}
-
-pub nil_of : {A : Type 0} (xs : List A) → nat_eq (length xs) 0 ≡ true → xs ≡ []
-nil_of [] e = refl
-nil_of (x ∷ xs) e = absurd (omega (arith, eqb-true (length (x ∷ xs)) 0 e))
 
 pub asked_is : (a b : Asked) → asked_eq.it a b ≡ true → a ≡ b
 asked_is a b e =

@@ -23,7 +23,8 @@ use Rattle.lrc_orders_settling.proofs.Parts.{length-freed}
 use Rattle.lrc_orders_live.specs.Live.{forgot}
 use Rattle.lrc_orders_live.proofs.Dead.{blank_forgot}
 use Rattle.lrc_orders_table.specs.declared.rows.Row.{Row}
-use Rattle.lrc_orders_table.specs.Rows.{AreNotesAt, AreThreadsAt, IsSharedAt}
+use Rattle.lrc_orders_table.specs.Links.{AreNotesAt}
+use Rattle.lrc_orders_table.specs.Rows.{AreThreadsAt, IsSharedAt}
 use Rattle.lrc_orders_table.specs.declared.next.Next.{Next}
 use Rattle.lrc_orders_table.specs.declared.next.Next.TheVariants.{Writes, Acquires}
 use Rattle.lrc_orders_table.specs.declared.next.Settled.{Settled}
@@ -32,6 +33,7 @@ use Rattle.lrc_orders_table.specs.declared.known.Means.{Means}
 use Rattle.lrc_orders_table.specs.declared.table.Table.{Table}
 use Rattle.lrc_orders_table.specs.Shared.{holders_then, words_then}
 use Rattle.lrc_orders_table.specs.Tables.{IsRowOf}
+use Rattle.lrc_orders_table.proofs.Linking.{notes_short, with_acts}
 
 -- ---- lists of which one item changes
 
@@ -129,7 +131,7 @@ module _ (means : Means) (table : Table) (row : Row) (key : Noted) (node value n
     (there : slice_get table.rows.threads.keys number ≡ Some (forgot means.live.now settled.spot))
     (s : IsSharedAt table.rows.shared.keys shared (words_then (next_in means.flat spot) key.state.memory.items)
     (freed settled.deeds.items (holders_then node (next_in means.flat spot) key.state.holders.items)))
-    (acts : List Act) (n : AreNotesAt table.rows.notes.keys notes acts) where
+    (acts : List Act) (n : AreNotesAt table.rows.notes notes acts) where
   abbrev kept : Spot
   kept = forgot means.live.now settled.spot
 
@@ -141,7 +143,7 @@ module _ (means : Means) (table : Table) (row : Row) (key : Noted) (node value n
       arrivals = with_item key.state.arrivals node (count_of (forgot means.live.now settled.spot));
       spots = with_item key.state.spots node (forgot means.live.now settled.spot);
     };
-    notes = n.notes.acts;
+    notes = with_acts key.notes acts (notes_short table.rows.notes notes acts n);
   }
 
   node_less : node < table.rows.nodes
@@ -165,7 +167,7 @@ module _ (means : Means) (table : Table) (row : Row) (key : Noted) (node value n
           few = old.few;
           threads = threads_set table.rows.threads.keys table.rows.nodes row.threads key.state.spots.items node number kept node_less old.few old.threads there;
           shared = record { shared = s.shared; there = s.there; words_are = refl; holders_are = refl };
-          notes = record { notes = n.notes; there = n.there; acts_are = refl };
+          notes = n;
           counted =
               ap (λ l. slice_set l node (count_of kept)) old.counted ∙ sym (map-set count_of key.state.spots.items node kept);
         };

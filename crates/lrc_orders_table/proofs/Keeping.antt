@@ -15,8 +15,10 @@ use Rattle.lrc_orders_settling.specs.Gone.{freed}
 use Rattle.lrc_orders_live.specs.Live.{forgot}
 use Rattle.lrc_orders_table.specs.declared.parts.Shared.{Shared}
 use Rattle.lrc_orders_table.specs.declared.rows.Row.{Row}
-use Rattle.lrc_orders_table.specs.Rows.{AddsThreads, AreNotesDistinct, AreRowsDistinct, AreSharedDistinct, IsSharedAt, WidensRows}
+use Rattle.lrc_orders_table.specs.Links.{AreNotesSound, GrowNotes}
+use Rattle.lrc_orders_table.specs.Rows.{AddsThreads, AreRowsDistinct, AreSharedDistinct, IsSharedAt, WidensRows}
 use Rattle.lrc_orders_table.specs.contracts.rows.RowPartialEq.TheImpl.{eq-value as row_eq}
+use Rattle.lrc_orders_table.proofs.Linking.{notes_not}
 use Rattle.lrc_orders_table.proofs.RowLaws.{rows_again, rows_not, stands_grown}
 use Rattle.lrc_orders_table.specs.declared.next.Next.TheVariants.{Stopped}
 use Rattle.lrc_orders_table.specs.Nexts.{next_in}
@@ -175,7 +177,7 @@ module _ (means : Means) (old new : Table) (known : IsTable means old)
       (ap (λ (t : Table). t.rows.nodes) others) (record {
         threads = subst AreSpotsDistinct (sym (ap (λ (t : Table). t.rows.threads.keys) others)) known.distinct.threads;
         shared = distinct;
-        notes = subst AreNotesDistinct (sym (ap (λ (t : Table). t.rows.notes.keys) others)) known.distinct.notes;
+        notes = subst AreNotesSound (sym (ap (λ (t : Table). t.rows.notes) others)) known.distinct.notes;
         rows = subst (λ l. IsDistinct row_eq.it l) (sym (ap (λ (t : Table). t.rows.rows.keys) others)) known.distinct.rows;
       })
       (λ k asked after at. known.afters k asked after (ap (λ (t : Table). slice_get t.afters.entries k) (sym others) ∙ at)) changes
@@ -187,7 +189,7 @@ module _ (means : Means) (old new : Table) (known : IsTable means old)
       nodes = ap (λ (t : Table). t.rows.nodes) others;
       threads = grows_not old.rows.threads.keys new.rows.threads.keys (ap (λ (t : Table). t.rows.threads.keys) others);
       shared = grows;
-      notes = grows_not old.rows.notes.keys new.rows.notes.keys (ap (λ (t : Table). t.rows.notes.keys) others);
+      notes = subst (GrowNotes old.rows.notes) (sym (ap (λ (t : Table). t.rows.notes) others)) (notes_not old.rows.notes);
       rows = grows_not old.rows.rows.keys new.rows.rows.keys (ap (λ (t : Table). t.rows.rows.keys) others);
     };
   }
@@ -195,7 +197,7 @@ module _ (means : Means) (old new : Table) (known : IsTable means old)
 -- notes more
 module _ (means : Means) (old new : Table) (known : IsTable means old)
     (others : new ≡ record old { rows = record old.rows { notes = new.rows.notes } })
-    (distinct : AreNotesDistinct new.rows.notes.keys) (grows : Grows old.rows.notes.keys new.rows.notes.keys) where
+    (sound : AreNotesSound new.rows.notes) (grows : GrowNotes old.rows.notes new.rows.notes) where
   pub table_notes : IsTable means new
   table_notes =
       let threads : new.rows.threads.keys ≡ old.rows.threads.keys = ap (λ (t : Table). t.rows.threads.keys) others in
@@ -205,7 +207,7 @@ module _ (means : Means) (old new : Table) (known : IsTable means old)
       table_same means old new threads nexts known (ap (λ (t : Table). t.rows.nodes) others) (record {
         threads = subst AreSpotsDistinct (sym threads) known.distinct.threads;
         shared = subst AreSharedDistinct (sym shared) known.distinct.shared;
-        notes = distinct;
+        notes = sound;
         rows = subst (λ l. IsDistinct row_eq.it l) (sym (ap (λ (t : Table). t.rows.rows.keys) others)) known.distinct.rows;
       })
       (λ k asked after at. known.afters k asked after (ap (λ l. slice_get l k) (sym afters) ∙ at))

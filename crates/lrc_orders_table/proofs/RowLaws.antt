@@ -10,10 +10,11 @@ use Rattle.lrc_orders.proofs.Stores.{IsStore}
 use Rattle.lrc_orders.proofs.Ways.{IsNotedCopy}
 use Rattle.lrc_orders_settling.specs.Taking.{count_of}
 use Rattle.lrc_orders_table.specs.declared.parts.Shared.{Shared}
-use Rattle.lrc_orders_table.specs.declared.parts.Notes.{Notes}
 use Rattle.lrc_orders_table.specs.declared.rows.Row.{Row}
 use Rattle.lrc_orders_table.specs.declared.rows.Rows.{Rows}
+use Rattle.lrc_orders_table.specs.Links.{AreNotesAt}
 use Rattle.lrc_orders_table.specs.Rows.{AreThreadsAt, IsRowAt, IsRowPlace, StandsFor, WidensRows, row_count}
+use Rattle.lrc_orders_table.proofs.Linking.{notes_grown, notes_not, notes_one}
 
 -- ---- growth
 
@@ -38,7 +39,7 @@ stands_grown old new row key w s = record {
     words_are = s.shared.words_are;
     holders_are = s.shared.holders_are;
   };
-  notes = record { notes = s.notes.notes; there = stands_on row.notes s.notes.notes w.notes s.notes.there; acts_are = s.notes.acts_are };
+  notes = notes_grown old.notes new.notes row.notes key.notes.items w.notes s.notes;
   counted = s.counted;
 }
 
@@ -55,7 +56,7 @@ rows_again v w = record {
   nodes = w.nodes ∙ v.nodes;
   threads = grows_again v.threads w.threads;
   shared = grows_again v.shared w.shared;
-  notes = grows_again v.notes w.notes;
+  notes = record { links = grows_again v.notes.links w.notes.links; lasts = grows_again v.notes.lasts w.notes.lasts };
   rows = grows_again v.rows w.rows;
 }
 
@@ -64,7 +65,7 @@ rows_not all = record {
   nodes = refl;
   threads = grows_not all.threads.keys all.threads.keys refl;
   shared = grows_not all.shared.keys all.shared.keys refl;
-  notes = grows_not all.notes.keys all.notes.keys refl;
+  notes = notes_not all.notes;
   rows = grows_not all.rows.keys all.rows.keys refl;
 }
 
@@ -94,7 +95,6 @@ pub stands_copy : (all : Rows) (row : Row) (x y : Noted) → StandsFor all row x
 stands_copy all row x y s t =
     let spots = spots_same all.threads.keys all.nodes row.threads x.state.spots.items y.state.spots.items s.threads t.threads in
     let shared : s.shared.shared ≡ t.shared.shared = same_Some s.shared.shared t.shared.shared (sym s.shared.there ∙ t.shared.there) in
-    let notes : s.notes.notes ≡ t.notes.notes = same_Some s.notes.notes t.notes.notes (sym s.notes.there ∙ t.notes.there) in
     record {
       state = record {
         memory = sym s.shared.words_are ∙ ap (λ (p : Shared). p.memory.items) shared ∙ t.shared.words_are;
@@ -102,7 +102,7 @@ stands_copy all row x y s t =
         arrivals = s.counted ∙ ap (λ l. map count_of l) spots ∙ sym t.counted;
         spots = spots;
       };
-      notes = sym s.notes.acts_are ∙ ap (λ (n : Notes). n.acts.items) notes ∙ t.notes.acts_are;
+      notes = notes_one all.notes row.notes x.notes.items y.notes.items s.notes t.notes;
     }
 
 -- what the row at a place stands for
@@ -129,7 +129,7 @@ row_same all k x y at c =
           words_are = s.shared.words_are ∙ sym c.state.memory;
           holders_are = s.shared.holders_are ∙ sym c.state.holders;
         };
-        notes = record { notes = s.notes.notes; there = s.notes.there; acts_are = s.notes.acts_are ∙ sym c.notes };
+        notes = subst (AreNotesAt all.notes at.row.notes) (sym c.notes) s.notes;
         counted = c.state.arrivals ∙ s.counted ∙ ap (λ l. map count_of l) (sym c.state.spots);
       };
     }

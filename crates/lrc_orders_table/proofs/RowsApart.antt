@@ -6,13 +6,6 @@ use Rattle.std.proofs.lemmas.Bool.{and_parts, cases_lt, eqb-true}
 use Rattle.std.proofs.lemmas.List.{ext_get_or}
 use lib.Pointwise.{pointwise}
 use mathlib.Core.Bool.{beq}
-use Rattle.lrc_trace.specs.declared.act.Act.{Act}
-use Rattle.lrc_trace.specs.declared.act.Cause.{Cause}
-use Rattle.lrc_trace.specs.declared.act.Cause.TheVariants.{DivisionByZero, WordOutOfRange, LockOutOfRange, LockHeld, LockNotHeld}
-use Rattle.lrc_trace.specs.declared.act.Deed.{Deed}
-use Rattle.lrc_trace.specs.declared.act.Deed.TheVariants.{Quiet, Print, Read, Write, Acquire, Release, Arrive, Depart, Trap, End}
-use Rattle.lrc_trace.specs.contracts.act.CausePartialEq.TheImpl.{eq-value as cause_eq}
-use Rattle.lrc_trace.specs.contracts.act.DeedPartialEq.TheImpl.{eq-value as deed_eq}
 use Rattle.lrc_trace.specs.contracts.act.ActPartialEq.TheImpl.{eq-value as act_eq}
 use Rattle.lrc_exec.specs.declared.spot.Spot.{Spot}
 use Rattle.lrc_exec.specs.contracts.spot.SpotPartialEq.TheImpl.{eq-value as spot_eq}
@@ -25,13 +18,12 @@ use Rattle.lrc_orders.proofs.KeptAlike.{both_true, equal_items, nat_itself, one_
 use Rattle.lrc_orders.proofs.Same.{option_same, pointwise_same, spot_same}
 use Rattle.lrc_orders.proofs.Widening.{apart_in, not_true}
 use Rattle.lrc_orders_table.specs.declared.parts.Shared.{Shared}
-use Rattle.lrc_orders_table.specs.declared.parts.Notes.{Notes}
 use Rattle.lrc_orders_table.specs.declared.rows.Row.{Row}
 use Rattle.lrc_orders_table.specs.declared.rows.Rows.{Rows}
 use Rattle.lrc_orders_table.specs.contracts.parts.SharedPartialEq.TheImpl.{eq-value as shared_eq}
-use Rattle.lrc_orders_table.specs.contracts.parts.NotesPartialEq.TheImpl.{eq-value as notes_eq}
 use Rattle.lrc_orders_table.specs.contracts.rows.RowPartialEq.TheImpl.{eq-value as row_eq}
 use Rattle.lrc_orders_table.specs.Rows.{AreRowsDistinct, AreThreadsAt, IsRowAt, StandsFor}
+use Rattle.lrc_orders_table.proofs.Linking.{notes_place}
 
 -- ---- parts that compare equal have the same items
 
@@ -41,9 +33,6 @@ shared_same a b e =
       pointwise_same nat_eq (λ x y h. eqb-true x y h) a.memory.items b.memory.items p.0,
       pointwise_same (option_eq nat_eq) option_same a.holders.items b.holders.items p.1,
     )
-
-pub notes_same : (a b : Notes) → notes_eq.it a b ≡ true → a.acts.items ≡ b.acts.items
-notes_same a b e = acts_same a.acts.items b.acts.items e
 
 -- ---- and the other way round
 
@@ -70,31 +59,6 @@ row_alike a b t s n =
     both_true _ _ (equal_items nat_eq nat_itself a.threads b.threads t)
     (both_true _ _ (subst (λ k. nat_eq a.shared k ≡ true) s (nat_itself a.shared)) (subst (λ k. nat_eq a.notes k ≡ true) n (nat_itself a.notes)))
 
-cause_itself : (a : Cause) → cause_eq.it a a ≡ true
-cause_itself DivisionByZero = refl
-cause_itself WordOutOfRange = refl
-cause_itself LockOutOfRange = refl
-cause_itself LockHeld = refl
-cause_itself LockNotHeld = refl
-
-deed_itself : (d : Deed) → deed_eq.it d d ≡ true
-deed_itself Quiet = refl
-deed_itself (Print v) = nat_itself v
-deed_itself (Read w v) = both_true _ _ (nat_itself w) (nat_itself v)
-deed_itself (Write w v) = both_true _ _ (nat_itself w) (nat_itself v)
-deed_itself (Acquire l) = nat_itself l
-deed_itself (Release l) = nat_itself l
-deed_itself Arrive = refl
-deed_itself Depart = refl
-deed_itself (Trap c) = cause_itself c
-deed_itself End = refl
-
-act_itself : (a : Act) → act_eq.it a a ≡ true
-act_itself a = both_true _ _ (nat_itself a.node) (deed_itself a.deed)
-
-notes_alike : (a b : Notes) → a.acts.items ≡ b.acts.items → notes_eq.it a b ≡ true
-notes_alike a b e = equal_items act_eq.it act_itself a.acts.items b.acts.items e
-
 -- threads at distinct numbers have these alone
 threads_one : (keys : List Spot) (nodes : ℕ) (a b : List ℕ) (xs ys : List Spot) → ((i j : ℕ) (z : Spot) → slice_get keys i ≡ Some z → slice_get keys j ≡ Some z → i ≡ j)
     → AreThreadsAt keys nodes a xs → AreThreadsAt keys nodes b ys → xs ≡ ys → a ≡ b
@@ -120,13 +84,11 @@ module _ (all : Rows) (distinct : AreRowsDistinct all) where
       let acts : x.notes.items ≡ y.notes.items = acts_same x.notes.items y.notes.items p.1 in
       let m = s.shared.words_are ∙ memory ∙ sym t.shared.words_are in
       let h = s.shared.holders_are ∙ holders ∙ sym t.shared.holders_are in
-      let n : s.notes.notes.acts.items ≡ t.notes.notes.acts.items = s.notes.acts_are ∙ acts ∙ sym t.notes.acts_are in
       let shared : a.shared ≡ b.shared =
       one_place shared_eq.it all.shared.keys distinct.shared a.shared b.shared s.shared.shared t.shared.shared s.shared.there t.shared.there
       (shared_alike s.shared.shared t.shared.shared m h) (shared_alike t.shared.shared s.shared.shared (sym m) (sym h)) in
       let notes : a.notes ≡ b.notes =
-      one_place notes_eq.it all.notes.keys distinct.notes a.notes b.notes s.notes.notes t.notes.notes s.notes.there t.notes.there
-      (notes_alike s.notes.notes t.notes.notes n) (notes_alike t.notes.notes s.notes.notes (sym n)) in
+      notes_place all.notes distinct.notes a.notes b.notes x.notes.items y.notes.items s.notes t.notes acts in
       let threads : a.threads ≡ b.threads =
       threads_one all.threads.keys all.nodes a.threads b.threads x.state.spots.items y.state.spots.items
       (λ i j z at there. one_place spot_eq.it all.threads.keys distinct.threads i j z z at there (spot_itself z) (spot_itself z)) s.threads t.threads spots in

@@ -5,6 +5,7 @@ use Rattle.std.specs.List.{list_any}
 use Rattle.std.proofs.lemmas.Bool.{cases_eq, cases_lt, true≢false}
 use Rattle.std.proofs.lemmas.List.{get_or-set_other, get_or-set_same, get_or_past, length-map, length-set}
 use Rattle.std.proofs.lemmas.Option.{get_or_from_slice_get, same_Some, slice_get_within}
+use Rattle.lrc_trace.specs.declared.act.Act.{Act}
 use Rattle.lrc_trace.specs.declared.act.Deed.{Deed}
 use Rattle.lrc_exec.specs.declared.spot.Flat.{Flat}
 use Rattle.lrc_exec.specs.declared.spot.Spot.{Spot}
@@ -26,7 +27,7 @@ use Rattle.lrc_orders_laws.proofs.GoingOn.{same_thread}
 use Rattle.lrc_orders_settling.specs.Settling.{MakesFree}
 use Rattle.lrc_orders_settling.specs.declared.step.Step.TheVariants.{Together}
 use Rattle.lrc_orders_settling.specs.Gone.{acts_by, freed}
-use Rattle.lrc_orders_settling.specs.Taking.{ComputesLong, HaveDeparted, IsCounted, TakesTo}
+use Rattle.lrc_orders_settling.specs.Taking.{ComputesLong, HaveDeparted, IsCounted, Takes, TakesTo, together}
 use Rattle.lrc_orders_settling.proofs.Departing.{have_departed}
 use Rattle.lrc_orders_settling.proofs.Parts.{kept_thread}
 use Rattle.lrc_orders_settling.proofs.Taken.{long_together}
@@ -259,6 +260,10 @@ module _ (means : Means) (key : Noted) (node : ℕ) (old new : Table) (row : Row
   all_gone_on = subst (λ n. AllGone means key n new led.row (traps || led.traps)) (sym (add-one node)) all_gone_next
 
 -- ---- the step
+
+-- it is taken where all wait
+pub taken_waits : (machine after : Plain) (acts : List Act) → Takes machine Together acts after → AllWait machine
+taken_waits _ after acts (together machine mid _ departs more all led settles) = all
 
 -- a node that waits
 waiting_parts : (a b : Bool) → (not a && b) ≡ true → (a ≡ false) × (b ≡ true)

@@ -1,4 +1,5 @@
 pub mod RowHash
+pub mod Links
 pub mod Rows
 pub mod All
 pub mod Nexts

@@ -29,12 +29,13 @@ impl Table {
     ghost use Rattle.lrc_orders.specs.Kept.{IsAddedAt};
     ghost use Rattle.lrc_orders_settling.specs.Taking.{IsCounted};
     ghost use Rattle.lrc_orders_live.specs.Live.{forgot};
+    ghost use Rattle.lrc_orders_table.specs.Links.{StandByNode};
     ghost use Rattle.lrc_orders_table.specs.Rows.{AreRowsDistinct, IsRowAt, StandsFor, WidensRows, row_count};
     ghost use Rattle.lrc_orders_table.specs.declared.known.Means.{Means as TheMeans};
     ghost use Rattle.lrc_orders_table.specs.Tables.{AreMeans, IsTable, KeepsRows};
 
     /// Adds the row of a state with its notes, if it is new. Returns its place, and whether it is new. Its dead values
-    /// must be 0. It fails if memory runs out.
+    /// must be 0, and its notes stand node by node. It fails if memory runs out.
     pub fn add(&mut self, means: &Means<'_>, noted: Noted) -> Result<(usize, bool), AllocError>
         requires means { AreMeans means.now }
         requires table { IsTable means.now self.old }
@@ -42,6 +43,7 @@ impl Table {
         requires counted { IsCounted noted.state }
         requires bare { All (λ spot. forgot means.now.live.now spot ≡ spot)
             noted.state.spots.items }
+        requires notes { StandByNode means.now.flat.nodes noted.notes.items }
         ensures table { OnOk result (IsTable means.now self.new) }
         ensures widens { OnOk result (WidensRows self.old.rows self.new.rows) }
         ensures there { IfOk result (λ added. IsRowAt self.new.rows added.0 noted) }

@@ -5,7 +5,7 @@
 pub mod known;
 pub mod laws;
 pub mod next;
-mod noted;
+pub mod notes;
 pub mod parts;
 pub mod rows;
 pub mod seen;

@@ -3,11 +3,10 @@
 ghost use Rattle.std.specs.Prelude.{◌≡◌, ◌≤◌, [], ◌∷◌, IfOk, OnOk, Some, length, map, slice_get};
 ghost use Rattle.lrc_orders.specs.Kept.{AreSpotsDistinct, Grows};
 ghost use Rattle.lrc_orders_settling.specs.Taking.{count_of};
-ghost use Rattle.lrc_orders_table.specs.Rows.{AddsNotes, AddsShared, AddsThreads, AreNotesAt, AreNotesDistinct, AreSharedDistinct, AreThreadsAt, HaveThreads, IsSharedAt};
+ghost use Rattle.lrc_orders_table.specs.Rows.{AddsShared, AddsThreads, AreSharedDistinct, AreThreadsAt, HaveThreads, IsSharedAt};
 
 use indexmap::IndexSet;
 use lrc_exec::spot::Spot;
-use lrc_trace::act::Act;
 use std::alloc::{AllocError, Global};
 
 /// What the nodes of a state share: the words, and who holds each lock.
@@ -15,12 +14,6 @@ use std::alloc::{AllocError, Global};
 pub struct Shared {
     pub memory: Vec<u64>,
     pub holders: Vec<Option<usize>>,
-}
-
-/// What was noted on the way to a state.
-#[derive(PartialEq, Eq, Hash, Drop)]
-pub struct Notes {
-    pub acts: Vec<Act>,
 }
 
 /// A place as a number of 32 bits. For a place that does not fit there is no memory.
@@ -54,18 +47,6 @@ pub fn shared_number(all: &mut IndexSet<Shared>, shared: Shared) -> Result<u32, 
     ensures only { OnOk result (AddsShared all.old.keys all.new.keys shared) }
 {
     let (place, _new) = all.insert_full(shared)?;
-    let number = short(place)?;
-    Ok(number)
-}
-
-/// The number of notes: their own, where they came before, and else the next.
-pub fn notes_number(all: &mut IndexSet<Notes>, notes: Notes) -> Result<u32, AllocError>
-    ensures grows { OnOk result (Grows all.old.keys all.new.keys) }
-    ensures distinct { OnOk result (AreNotesDistinct all.new.keys) }
-    ensures there { IfOk result (λ number. AreNotesAt all.new.keys number notes.acts.items) }
-    ensures only { OnOk result (AddsNotes all.old.keys all.new.keys notes) }
-{
-    let (place, _new) = all.insert_full(notes)?;
     let number = short(place)?;
     Ok(number)
 }

@@ -6,7 +6,8 @@
 ghost use Rattle.std.specs.Prelude.{◌≡◌};
 ghost use Rattle.lrc_orders_table.specs.RowHash.{mix, mixed};
 
-use crate::parts::{Notes, Shared, counted, notes_number, shared_number, threads_at, threads_of};
+use crate::notes::Notes;
+use crate::parts::{Shared, counted, shared_number, threads_at, threads_of};
 use indexmap::IndexSet;
 use lrc_exec::spot::Spot;
 use lrc_exec::state::State;
@@ -62,7 +63,7 @@ pub struct Rows {
     pub nodes: usize,
     pub threads: IndexSet<Spot>,
     pub shared: IndexSet<Shared>,
-    pub notes: IndexSet<Notes>,
+    pub notes: Notes,
     pub rows: IndexSet<Row>,
 }
 
@@ -71,6 +72,7 @@ impl Rows {
     ghost use Rattle.lrc_orders.specs.declared.noted.Noted.{Noted as Key};
     ghost use Rattle.lrc_orders.specs.Kept.{IsAddedAt};
     ghost use Rattle.lrc_orders_settling.specs.Taking.{IsCounted};
+    ghost use Rattle.lrc_orders_table.specs.Links.{StandByNode};
     ghost use Rattle.lrc_orders_table.specs.Rows.{AddsThreads, AreRowsDistinct, IsRowAt, IsRowPlace, StandsFor, WidensRows, row_count};
 
     /// No rows.
@@ -79,14 +81,15 @@ impl Rows {
         ensures nodes { result.nodes ≡ nodes }
         ensures threads { result.threads.keys ≡ [] }
         ensures shared { result.shared.keys ≡ [] }
-        ensures notes { result.notes.keys ≡ [] }
+        ensures links { result.notes.links.keys ≡ [] }
+        ensures lasts { result.notes.lasts.keys ≡ [] }
         ensures distinct { AreRowsDistinct result }
     {
         Rows {
             nodes,
             threads: IndexSet::new(alloc),
             shared: IndexSet::new(alloc),
-            notes: IndexSet::new(alloc),
+            notes: Notes::new(alloc),
             rows: IndexSet::new(alloc),
         }
     }
@@ -114,7 +117,6 @@ impl Rows {
     {
         let row = self.row(place);
         let shared = &self.shared.as_slice()[row.shared as usize];
-        let notes = &self.notes.as_slice()[row.notes as usize];
         let spots = threads_at(alloc, &self.threads, &row.threads, self.nodes)?;
         Ok(Noted {
             state: State {
@@ -123,15 +125,16 @@ impl Rows {
                 arrivals: counted(alloc, &spots)?,
                 spots,
             },
-            notes: Vec::from_slice(alloc, &notes.acts)?,
+            notes: self.notes.acts(alloc, row.notes)?,
         })
     }
 
-    /// Adds the row of a state with its notes, if it is new: its place, and whether it is new.
+    /// Adds the row of a state with its notes, which stand node by node, if it is new: its place, and whether it is new.
     pub fn add(&mut self, noted: Noted) -> Result<(usize, bool), AllocError>
         requires distinct { AreRowsDistinct self.old }
         requires nodes { length noted.state.spots.items ≡ self.old.nodes }
         requires counted { IsCounted noted.state }
+        requires notes { StandByNode self.old.nodes noted.notes.items }
         ensures widens { OnOk result (WidensRows self.old self.new) }
         ensures distinct { OnOk result (AreRowsDistinct self.new) }
         ensures there { IfOk result (λ added. IsRowAt self.new added.0 noted) }
@@ -141,7 +144,6 @@ impl Rows {
             noted.state.spots.items) }
     {
         let state = noted.state;
-        let acts = noted.notes;
         let threads = threads_of(&mut self.threads, &state.spots)?;
         let shared = shared_number(
             &mut self.shared,
@@ -150,7 +152,7 @@ impl Rows {
                 holders: state.holders,
             },
         )?;
-        let notes = notes_number(&mut self.notes, Notes { acts })?;
+        let notes = self.notes.add(&noted.notes)?;
         let (place, added) = self.put(Row {
             threads,
             shared,

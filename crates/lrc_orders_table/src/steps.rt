@@ -4,7 +4,6 @@ ghost use Rattle.std.specs.Prelude.{◌≡◌, ◌||◌};
 
 use crate::known::Means;
 use crate::next::{Next, Settled, has_trap_deed, settled_after};
-use crate::noted::notes_after;
 use crate::rows::Row;
 use crate::table::{After, Asked, Led, Table};
 use lrc_orders::search::ExploreFault;
@@ -21,11 +20,10 @@ fn either(before: bool, here: bool) -> bool
 impl Table {
     ghost use Rattle.std.specs.Prelude.{◌≡◌, ◌<◌, IfErr, IfOk, List, MatchOption, None, OnOk, Some, false, length, slice_get, true};
     ghost use Rattle.lrc_orders.specs.declared.noted.Noted.{Noted as Key};
-    ghost use Rattle.lrc_orders.specs.Kept.{Grows};
     ghost use Rattle.lrc_orders_settling.specs.declared.step.Step.TheVariants.{Alone, Together};
     ghost use Rattle.lrc_orders_settling.specs.Gone.{acts_by};
     ghost use Rattle.lrc_orders_table.specs.declared.parts.Shared.{Shared as TheShared};
-    ghost use Rattle.lrc_orders_table.specs.Rows.{AreNotesAt, AreNotesDistinct};
+    ghost use Rattle.lrc_orders_table.specs.Links.{AreNotesAt, AreNotesSound, GrowNotes, HaveNotes};
     ghost use Rattle.lrc_trace.specs.declared.act.Act.{Act as ActType};
     ghost use Rattle.lrc_orders_table.specs.Nexts.{notes_on};
     ghost use Rattle.lrc_orders_table.specs.declared.table.After.{After as TheAfter};
@@ -143,7 +141,7 @@ impl Table {
         };
         let place = self.after(alloc, means, asked)?;
         let shared = self.shared_after(alloc, row.shared, node, next, place)?;
-        let notes = self.notes(alloc, means.noting, row.notes, node, place)?;
+        let notes = self.notes(means.noting, row.notes, node, place)?;
         let mut threads = row.threads;
         let after = &self.afters[place];
         threads[node] = after.thread;
@@ -161,22 +159,21 @@ impl Table {
     // The number of the notes after what comes of a thread of a node, if notes are kept.
     fn notes(
         &mut self,
-        alloc: Global,
         noting: bool,
         notes: u32,
         node: usize,
         place: usize,
     ) -> Result<u32, AllocError>
-        requires distinct { AreNotesDistinct self.old.rows.notes.keys }
-        requires within { notes < length self.old.rows.notes.keys }
+        requires sound { AreNotesSound self.old.rows.notes }
+        requires there { HaveNotes self.old.rows.notes notes }
         requires node { node < 16 }
         requires place { place < length self.old.afters.entries }
-        ensures distinct { OnOk result (AreNotesDistinct self.new.rows.notes.keys) }
-        ensures grows { OnOk result (Grows self.old.rows.notes.keys self.new.rows.notes.keys) }
+        ensures sound { OnOk result (AreNotesSound self.new.rows.notes) }
+        ensures grows { OnOk result (GrowNotes self.old.rows.notes self.new.rows.notes) }
         ensures noted { IfOk result (λ number. noting ≡ true → (acts : List ActType)
-            (asked : TheAsked) (after : TheAfter) → AreNotesAt self.old.rows.notes.keys notes acts
+            (asked : TheAsked) (after : TheAfter) → AreNotesAt self.old.rows.notes notes acts
             → slice_get self.old.afters.entries place ≡ Some (asked, after)
-            → AreNotesAt self.new.rows.notes.keys number
+            → AreNotesAt self.new.rows.notes number
             (notes_on acts (acts_by node after.deeds.items))) }
         ensures bare { IfOk result (λ number. noting ≡ false → number ≡ notes) }
         ensures others { self.new ≡ record self.old {
@@ -188,7 +185,8 @@ impl Table {
             return Ok(notes);
         }
         let deeds = &self.afters[place].deeds;
-        notes_after(alloc, &mut self.rows.notes, notes, node as u8, deeds)
+        let number = self.rows.notes.after(notes, node as u8, deeds)?;
+        Ok(number)
     }
 
     // The place of what comes of a thread.

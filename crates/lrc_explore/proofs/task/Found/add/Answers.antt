@@ -1,14 +1,16 @@
 use Rattle.std.proofs.Common.{◌≡◌, ◌∙◌, ◌++◌, [], ◌∷◌, sym, ap, subst, arith}
 use Rattle.std.specs.Prelude.{All, if◌then◌else◌}
+use Rattle.lrc_exec.specs.declared.spot.Flat.{Flat}
 use Rattle.lrc_exec.specs.declared.spot.Spot.{Spot}
 use Rattle.lrc_orders.specs.Kept.{IsAddedAt}
 use Rattle.lrc_orders_live.specs.Live.{forgot}
 use Rattle.lrc_orders_settling.specs.declared.step.Step.TheVariants.{Together}
+use Rattle.lrc_orders_table.specs.Links.{StandByNode}
 use Rattle.lrc_orders_table.specs.Rows.{row_count}
 use Rattle.lrc_orders_table.proofs.RowLaws.{row_within}
 use Rattle.lrc_explore.specs.declared.task.Found.{Found}
 use Rattle.lrc_explore.specs.declared.task.Origin.{Origin}
-use Rattle.lrc_explore.proofs.Keys.{found_put}
+use Rattle.lrc_explore.proofs.Keys.{found_put, reached_stand}
 use Rattle.lrc_explore.proofs.MeansOf.{table_of}
 use Rattle.lrc_explore.proofs.task.Found.add.Goals as goal
 
@@ -18,6 +20,11 @@ add-requires-clause-table c = c.requires.found.table c.means.result c.means.ensu
 pub add-requires-clause-bare : goal.add-requires-clause-bare
 add-requires-clause-bare c =
     subst (λ l. All (λ (spot : Spot). forgot l spot ≡ spot) c.args.key.state.spots.items) (sym c.means.ensures.live) c.requires.bare
+
+pub add-requires-clause-notes : goal.add-requires-clause-notes
+add-requires-clause-notes c =
+    let key = c.args.key in
+    subst (λ (flat : Flat). StandByNode flat.nodes key.notes.items) (sym c.means.ensures.flat) (reached_stand c.args.task.now key c.requires.reached)
 
 pub returns-in_ok-push-clause-found : goal.returns-in_ok-push-clause-found
 returns-in_ok-push-clause-found c =

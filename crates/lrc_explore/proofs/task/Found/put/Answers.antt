@@ -49,3 +49,9 @@ returns-in_ok-push-clause-only c =
 pub returns-else-added-clause-only : goal.returns-else-added-clause-only
 returns-else-added-clause-only c =
     added_only (row_count c.args.self.now.table.rows) (row_count c.put.new.self.rows) c.in_ok-place.place c.in_ok-place.added c.in_ok-place.ensures.added
+
+pub returns-in_ok-push-clause-has : goal.returns-in_ok-push-clause-has
+returns-in_ok-push-clause-has c = λ key stands. (c.in_ok-place.place, c.in_ok-place.ensures.there key stands)
+
+pub returns-else-added-clause-has : goal.returns-else-added-clause-has
+returns-else-added-clause-has c = λ key stands. (c.in_ok-place.place, c.in_ok-place.ensures.there key stands)

@@ -2,15 +2,22 @@ use Rattle.std.proofs.Common.{◌≡◌, ◌∙◌, ◌≤◌, length, refl, sym
 use Rattle.std.specs.Prelude.{slice_get}
 use Rattle.lrc_orders.proofs.Keeping.{grows_not}
 use Rattle.lrc_orders_table.specs.declared.rows.Rows.{Rows}
+use Rattle.lrc_orders_table.specs.Links.{AreNotesAt, StandByNode}
 use Rattle.lrc_orders_table.specs.Rows.{AddsThreads, AreThreadsAt, WidensRows}
+use Rattle.lrc_orders_table.proofs.ByNode.{stand_further}
 use Rattle.lrc_orders_table.proofs.RowLaws.{rows_again}
 use Rattle.lrc_orders_table.proofs.rows.Rows.add.Goals as goal
+
+pub add-requires-clause-stand : goal.add-requires-clause-stand
+add-requires-clause-stand c =
+    let few = subst (λ n. n ≤ 16) c.requires.nodes (subst (λ l. length l ≤ 16) c.deref.ensures.value c.in_ok-threads.ensures.few) in
+    subst (StandByNode 16) (sym c.deref-2.ensures.value) (stand_further c.args.self.now.nodes 16 c.args.noted.notes.items few c.requires.notes)
 
 pub put-requires : goal.put-requires
 put-requires c = record {
   threads = c.in_ok-threads.ensures.distinct;
   shared = c.in_ok-shared.ensures.distinct;
-  notes = c.in_ok-notes.ensures.distinct;
+  notes = c.in_ok-notes.ensures.sound;
   rows = c.requires.distinct.rows;
 }
 
@@ -21,7 +28,7 @@ returns-clause-widens c =
       nodes = old.nodes;
       threads = c.threads_of.new.threads;
       shared = c.shared_number.new.all;
-      notes = c.notes_number.new.all;
+      notes = c.add.new.self;
       rows = old.rows;
     } in
     let first : WidensRows old mid = record {
@@ -43,7 +50,7 @@ returns-clause-there c =
       threads = subst (λ n. AreThreadsAt keys n c.in_ok-threads.threads key.state.spots.items) c.requires.nodes
           (subst (λ l. AreThreadsAt keys (length l) c.in_ok-threads.threads l) c.deref.ensures.value c.in_ok-threads.ensures.there);
       shared = c.in_ok-shared.ensures.there;
-      notes = c.in_ok-notes.ensures.there;
+      notes = subst (AreNotesAt c.add.new.self c.in_ok-notes.notes) c.deref-2.ensures.value c.in_ok-notes.ensures.there;
       counted = c.requires.counted;
     })
 

@@ -15,12 +15,10 @@ bounds-as_slice-row c =
     subst (λ keys. c.row-row.result.shared < length keys) (sym c.as_slice.ensures.keys)
     (slice_get_within all.shared.keys c.row-row.result.shared s.shared.shared s.shared.there)
 
-pub bounds-as_slice-row-2 : goal.bounds-as_slice-row-2
-bounds-as_slice-row-2 c =
-    let all = c.args.self.now in
-    let s = stands_at all c.args.place c.row-row.result c.row-row.ensures c.requires in
-    subst (λ keys. c.row-row.result.notes < length keys) (sym c.as_slice-2.ensures.keys)
-    (slice_get_within all.notes.keys c.row-row.result.notes s.notes.notes s.notes.there)
+pub acts-requires : goal.acts-requires
+acts-requires c =
+    let s = stands_at c.args.self.now c.args.place c.row-row.result c.row-row.ensures c.requires in
+    (c.requires.0.notes.items, s.notes)
 
 pub threads_at-requires-clause-there : goal.threads_at-requires-clause-there
 threads_at-requires-clause-there c =
@@ -36,7 +34,6 @@ returns c =
     let row = c.row-row.result in
     let s = stands_at all c.args.place row c.row-row.ensures c.requires in
     let shared = c.index-as_slice-row.result in
-    let notes = c.index-as_slice-row-2.result in
     record {
       row = row;
       there = c.row-row.ensures;
@@ -50,12 +47,7 @@ returns c =
           words_are = sym (c.in_ok-from_slice.ensures.items ∙ c.deref.ensures.value);
           holders_are = sym (c.in_ok-from_slice-2.ensures.items ∙ c.deref-2.ensures.value);
         };
-        notes = record {
-          notes = notes;
-          there = item_in all.notes.keys c.as_slice-2.result.now row.notes notes c.as_slice-2.ensures.keys
-              (slice_get_within all.notes.keys row.notes s.notes.notes s.notes.there) c.index-as_slice-row-2.is;
-          acts_are = sym (c.in_ok-from_slice-3.ensures.items ∙ c.deref-4.ensures.value);
-        };
+        notes = c.in_ok-acts.ensures;
         counted = c.in_ok-counted.ensures ∙ ap (λ l. map count_of l) c.deref-3.ensures.value;
       };
     }

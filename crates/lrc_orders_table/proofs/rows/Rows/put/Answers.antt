@@ -6,6 +6,7 @@ use Rattle.lrc_orders_table.specs.declared.rows.Rows.{Rows}
 use Rattle.lrc_orders_table.specs.contracts.rows.RowPartialEq.TheImpl.{eq-value as row_eq}
 use Rattle.lrc_orders_table.specs.RowHash.{row_is}
 use Rattle.lrc_orders_table.specs.Rows.{WidensRows}
+use Rattle.lrc_orders_table.proofs.Linking.{notes_not}
 use Rattle.lrc_orders_table.proofs.RowLaws.{stands_grown}
 use Rattle.lrc_orders_table.proofs.rows.Rows.put.Goals as goal
 
@@ -16,7 +17,7 @@ returns-clause-widens c =
       nodes = refl;
       threads = grows_not old.threads.keys old.threads.keys refl;
       shared = grows_not old.shared.keys old.shared.keys refl;
-      notes = grows_not old.notes.keys old.notes.keys refl;
+      notes = notes_not old.notes;
       rows = put_grows _ old.rows.keys c.insert_full.new.self.keys _ c.in_ok-place.ensures.keys;
     }
 
@@ -41,7 +42,7 @@ returns-clause-there c key stands =
       nodes = refl;
       threads = grows_not old.threads.keys old.threads.keys refl;
       shared = grows_not old.shared.keys old.shared.keys refl;
-      notes = grows_not old.notes.keys old.notes.keys refl;
+      notes = notes_not old.notes;
       rows = put_grows _ old.rows.keys c.insert_full.new.self.keys _ c.in_ok-place.ensures.keys;
     } in
     let s = c.in_ok-place.ensures.stored in

@@ -2,10 +2,14 @@ use Rattle.std.proofs.Common.{◌≡◌, ◌≤◌, ◌∙◌, List, length, map
 use Rattle.std.specs.Prelude.{All}
 use Rattle.lrc_exec.specs.declared.spot.Spot.{Spot}
 use Rattle.lrc_orders_live.specs.Live.{forgot}
+use Rattle.lrc_orders_table.specs.Links.{StandByNode}
 use Rattle.lrc_orders_table.specs.Nexts.{next_in}
 use Rattle.lrc_orders_table.specs.declared.table.Table.{Table}
 use Rattle.lrc_orders_table.proofs.Keeping.{IsPlaced, table_on, threads_more}
 use Rattle.lrc_orders_table.proofs.table.Table.add.Goals as goal
+
+pub add-requires-clause-notes : goal.add-requires-clause-notes
+add-requires-clause-notes c = subst (λ n. StandByNode n c.args.noted.notes.items) (sym c.requires.table.nodes) c.requires.notes
 
 pub complete-requires-clause-placed : goal.complete-requires-clause-placed
 complete-requires-clause-placed c =

@@ -1,15 +1,19 @@
 use Rattle.std.proofs.Common.{◌≡◌, ◌∙◌, ◌<◌, length, sym, ap, subst, arith}
 use Rattle.std.specs.Prelude.{slice_get, slice_index}
 use Rattle.std.proofs.lemmas.Option.{same_Some, slice_get_within}
+use Rattle.lrc_orders.specs.declared.noted.Noted.{Noted}
+use Rattle.lrc_orders.proofs.Faults.{fault_up}
 use Rattle.lrc_orders.proofs.Keeping.{stands_on}
-use Rattle.lrc_orders_table.specs.Rows.{AreNotesAt}
+use Rattle.lrc_orders_table.specs.Links.{AreNotesAt, AreNotesSound}
 use Rattle.lrc_orders_table.specs.Nexts.{next_in}
 use Rattle.lrc_orders_table.specs.declared.table.After.{After}
 use Rattle.lrc_orders_table.specs.declared.table.Table.{Table}
+use Rattle.lrc_orders_table.specs.Going.{IsLongAct}
 use Rattle.lrc_orders_table.specs.Shared.{Fits}
-use Rattle.lrc_orders_table.specs.Tables.{IsTable, KeepsRows}
+use Rattle.lrc_orders_table.specs.Tables.{IsRowOf, IsTable, KeepsRows}
 use Rattle.lrc_orders_table.proofs.Acting.{fits_here, has_gone, me_at}
 use Rattle.lrc_orders_table.proofs.Entries.{value_at}
+use Rattle.lrc_orders_table.proofs.Linking.{notes_grown}
 use Rattle.lrc_orders_table.proofs.Keeping.{keeps_notes, keeps_shared, table_notes, table_shared}
 use Rattle.lrc_orders_table.proofs.RowNodes.{next_here, next_there, node_at, node_there}
 use Rattle.lrc_orders_table.proofs.table.Table.gone.Goals as goal
@@ -50,15 +54,18 @@ shared_after-requires-clause-fits c =
           (subst (λ h. Fits (next_in means.flat r.spot) r.key.state.memory.items h) (sym s.holders_are) (fits_here means.flat r.key.state r.of.valid r.spot))),
     )
 
-pub notes-requires-clause-within : goal.notes-requires-clause-within
-notes-requires-clause-within c =
-    let one = c.after.new.self in
+pub notes-requires-clause-sound : goal.notes-requires-clause-sound
+notes-requires-clause-sound c =
+    subst AreNotesSound (sym (ap (λ (t : Table). t.rows.notes) c.in_ok-shared.ensures.others)) c.in_ok-place.ensures.table.distinct.notes
+
+pub notes-requires-clause-there : goal.notes-requires-clause-there
+notes-requires-clause-there c =
     let row = c.args.row.now in
-    let n = c.requires.row.of.stands.notes in
-    let there = stands_on row.notes n.notes c.in_ok-place.ensures.keeps.widens.notes n.there in
-    let same = ap (λ (t : Table). length t.rows.notes.keys) c.in_ok-shared.ensures.others in
-    let within = slice_get_within one.rows.notes.keys row.notes n.notes there in
-    omega (arith, within, same)
+    let r = c.requires.row in
+    let acts = r.key.notes.items in
+    let one = c.after.new.self.rows.notes in
+    let grown : AreNotesAt one row.notes acts = notes_grown c.args.self.now.rows.notes one row.notes acts c.in_ok-place.ensures.keeps.widens.notes r.of.stands.notes in
+    (acts, subst (λ all. AreNotesAt all row.notes acts) (sym (ap (λ (t : Table). t.rows.notes) c.in_ok-shared.ensures.others)) grown)
 
 pub notes-requires-clause-node : goal.notes-requires-clause-node
 notes-requires-clause-node c =
@@ -108,7 +115,7 @@ returns-clause-table c =
     let last = c.notes.new.self in
     let s = c.in_ok-shared.ensures in
     let n = c.in_ok-notes.ensures in
-    table_notes means two last (table_shared means one two c.in_ok-place.ensures.table s.others s.distinct s.grows s.changes) n.others n.distinct n.grows
+    table_notes means two last (table_shared means one two c.in_ok-place.ensures.table s.others s.distinct s.grows s.changes) n.others n.sound n.grows
 
 pub returns-clause-gone : goal.returns-clause-gone
 returns-clause-gone c = λ key of.
@@ -127,13 +134,12 @@ returns-clause-gone c = λ key of.
     let after : After = e.there.0 in
     let second : KeepsRows one two = keeps_shared means one two known s.others s.distinct s.grows in
     let known_two : IsTable means two = table_shared means one two known s.others s.distinct s.grows s.changes in
-    let third : KeepsRows two last = keeps_notes means two last known_two n.others n.distinct n.grows in
+    let third : KeepsRows two last = keeps_notes means two last known_two n.others n.sound n.grows in
     let at = node_at old row key node of.stands (let r = c.requires.row in
     let within = slice_get_within r.key.state.spots.items node r.spot r.here in
     let count = r.of.stands.threads.count in
     omega (arith, within, count)) in
     let shared = of.stands.shared in
-    let notes = of.stands.notes in
     let entries_two = ap (λ (t : Table). slice_get t.afters.entries place) s.others in
     let entries_last = ap (λ (t : Table). slice_get t.afters.entries place) n.others in
     let comes : c.index-after.result.now ≡ after =
@@ -144,9 +150,18 @@ returns-clause-gone c = λ key of.
     (c.next-next.ensures.at ∙ next_here means old row key node at.spot c.requires.table of at.here)
     (s.there shared.shared _ after (stands_on row.shared shared.shared e.keeps.widens.shared shared.there) e.there.1)
     (λ on. n.noted on key.notes.items _ after
-    (subst (λ keys. AreNotesAt keys row.notes key.notes.items) (sym (ap (λ (t : Table). t.rows.notes.keys) s.others)) (record {
-      notes = notes.notes;
-      there = stands_on row.notes notes.notes e.keeps.widens.notes notes.there;
-      acts_are = notes.acts_are;
-    })) (entries_two ∙ e.there.1))
+    (subst (λ all. AreNotesAt all row.notes key.notes.items) (sym (ap (λ (t : Table). t.rows.notes) s.others))
+    (notes_grown old.rows.notes one.rows.notes row.notes key.notes.items e.keeps.widens.notes of.stands.notes)) (entries_two ∙ e.there.1))
     n.bare c.index-after.result.now.traps (ap (λ (a : After). a.traps) comes)
+
+pub returns-in_err-place-clause-faults : goal.returns-in_err-place-clause-faults
+returns-in_err-place-clause-faults c =
+    let means = c.args.means.now in
+    let old = c.args.self.now in
+    let row = c.args.row.now in
+    let node = c.args.node in
+    fault_up c.from_residual.result c.in_err-place.field-0.0
+    (λ f. (key : Noted) → IsRowOf means old row key → IsLongAct means key node c.args.value f) c.from_residual.ensures.1
+    (λ key of.
+    let long = c.in_err-place.ensures.faults in
+    record { nodes = long.nodes; many = λ e spot here. long.many e spot (node_there old row key node spot of.stands here) })

@@ -7,6 +7,7 @@ use Rattle.lrc_orders_table.specs.Rows.{AreRowsDistinct, WidensRows}
 use Rattle.lrc_orders_table.specs.Nexts.{next_in}
 use Rattle.lrc_orders_table.specs.declared.table.Table.{Table}
 use Rattle.lrc_orders_table.proofs.Keeping.{IsPlaced, table_on, threads_more, threads_one}
+use Rattle.lrc_orders_table.proofs.Linking.{notes_not}
 use Rattle.lrc_orders_table.proofs.table.Table.number.Goals as goal
 
 pub complete-requires-clause-placed : goal.complete-requires-clause-placed
@@ -31,7 +32,7 @@ returns-clause-table c =
       nodes = refl;
       threads = c.in_ok-number.ensures.grows;
       shared = grows_not old.rows.shared.keys old.rows.shared.keys refl;
-      notes = grows_not old.rows.notes.keys old.rows.notes.keys refl;
+      notes = notes_not old.rows.notes;
       rows = grows_not old.rows.rows.keys old.rows.rows.keys refl;
     } in
     let distinct : AreRowsDistinct new.rows = record {

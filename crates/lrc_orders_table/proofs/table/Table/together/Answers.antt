@@ -1,11 +1,13 @@
 use Rattle.std.proofs.Common.{◌≡◌, ◌+◌, ◌∙◌, sym, subst, arith}
+use Rattle.std.proofs.lemmas.Bool.{true≢false}
+use Rattle.lrc_exec.specs.States.{plain_at}
 use Rattle.lrc_orders.specs.declared.noted.Noted.{Noted}
 use Rattle.lrc_orders.proofs.Faults.{fault_up}
 use Rattle.lrc_orders_table.specs.Tables.{IsLongFault, IsTakenFrom}
 use Rattle.lrc_orders_table.proofs.Keeping.{keeps_again, keeps_same}
 use Rattle.lrc_orders_table.proofs.RowNodes.{node_at}
 use Rattle.lrc_orders_table.proofs.Seeing.{spots_count}
-use Rattle.lrc_orders_table.proofs.Together.{AllGone, all_gone_first, all_gone_on, goes_here, leads_together, long_together_from, waiting_here}
+use Rattle.lrc_orders_table.proofs.Together.{AllGone, all_gone_first, all_gone_on, goes_here, leads_together, long_together_from, taken_waits, waiting_here}
 use Rattle.lrc_orders_table.proofs.table.Table.together.Goals as goal
 
 pub loop-node-init : goal.loop-node-init
@@ -84,3 +86,9 @@ returns-clause-taken c = λ key from.
     let a = subst (λ k. AllGone means key k c.loop-node.self c.loop-node.new c.loop-node.traps) (past ∙ sym (spots_count means old row key c.requires.table of))
     (c.loop-node.invariant.gone key of) in
     leads_together means key of.valid of.stands.counted all c.requires.means c.loop-node.self c.loop-node.new c.loop-node.traps a
+
+pub returns-then-not-all_wait-clause-taken : goal.returns-then-not-all_wait-clause-taken
+returns-then-not-all_wait-clause-taken c = λ key from acts after takes.
+    let means = c.args.means.now in
+    let all = taken_waits (plain_at means.flat key.state) after acts takes in
+    absurd (true≢false (sym ((c.all_wait.ensures means key c.requires.table from.of).1 all) ∙ c.if-not-all_wait.true))
