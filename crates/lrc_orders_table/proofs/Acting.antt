@@ -21,7 +21,8 @@ use Rattle.lrc_orders_settling.specs.Gone.{acts_by, freed}
 use Rattle.lrc_orders_live.specs.Live.{forgot}
 use Rattle.lrc_orders_table.specs.declared.rows.Row.{Row}
 use Rattle.lrc_orders_table.specs.Links.{AreNotesAt}
-use Rattle.lrc_orders_table.specs.Rows.{IsSharedAt}
+use Rattle.lrc_orders_memory.specs.Sharing.{IsSharedAt}
+use Rattle.lrc_orders_memory.proofs.Apart.{shared_kept}
 use Rattle.lrc_orders_table.specs.declared.next.Next.{Next}
 use Rattle.lrc_orders_table.specs.declared.next.Next.TheVariants.{Stopped, Waits}
 use Rattle.lrc_orders_table.specs.Nexts.{SettlesSo, next_by, next_in, notes_on}
@@ -101,8 +102,8 @@ module _ (means : Means) (old one two last : Table) (row : Row) (key : Noted) (n
     (of : IsRowOf means old row key) (here : slice_get key.state.spots.items node ≡ Some spot) (after : After)
     (comes : slice_get one.afters.entries place ≡ Some (record { thread = slice_index row.threads node; value = value }, after))
     (thread_is : thread ≡ after.thread) (next_is : next ≡ next_in means.flat spot)
-    (becomes : IsSharedAt two.rows.shared.keys shared (words_then next of.stands.shared.shared.memory.items)
-    (freed after.deeds.items (holders_then node next of.stands.shared.shared.holders.items)))
+    (becomes : IsSharedAt two.rows.shared shared (words_then next key.state.memory.items)
+    (freed after.deeds.items (holders_then node next key.state.holders.items)))
     (noted : means.noting ≡ true → AreNotesAt last.rows.notes notes (notes_on key.notes.items (acts_by node after.deeds.items)))
     (bare : means.noting ≡ false → notes ≡ row.notes) (traps : Bool) (traps_are : traps ≡ after.traps) where
   the : IsAfter means one.rows.threads.keys (record { thread = slice_index row.threads node; value = value }) after
@@ -124,20 +125,14 @@ module _ (means : Means) (old one two last : Table) (row : Row) (key : Noted) (n
       stands_on thread (forgot means.live.now the.settled.spot) (grows_again second.widens.threads third.widens.threads)
       (ap (slice_get one.rows.threads.keys) thread_is ∙ the.kept)
 
-  s : IsSharedAt last.rows.shared.keys shared (words_then (next_in means.flat spot) key.state.memory.items)
+  s : IsSharedAt last.rows.shared shared (words_then (next_in means.flat spot) key.state.memory.items)
       (freed the.settled.deeds.items (holders_then node (next_in means.flat spot) key.state.holders.items))
   s =
-      let before = of.stands.shared in
-      record {
-        shared = becomes.shared;
-        there = stands_on shared becomes.shared third.widens.shared becomes.there;
-        words_are =
-            becomes.words_are ∙ ap (λ m. words_then m before.shared.memory.items) next_is ∙ ap (words_then (next_in means.flat spot)) before.words_are;
-        holders_are =
-            becomes.holders_are ∙ ap (λ ds. freed ds (holders_then node next before.shared.holders.items)) the.deeds
-            ∙ ap (λ m. freed the.settled.deeds.items (holders_then node m before.shared.holders.items)) next_is
-            ∙ ap (λ h. freed the.settled.deeds.items (holders_then node (next_in means.flat spot) h)) before.holders_are;
-      }
+      let words = key.state.memory.items in
+      let holders = key.state.holders.items in
+      subst (λ m. IsSharedAt last.rows.shared shared (words_then m words) (freed the.settled.deeds.items (holders_then node m holders))) next_is
+      (subst (λ ds. IsSharedAt last.rows.shared shared (words_then next words) (freed ds (holders_then node next holders))) the.deeds
+      (shared_kept two.rows.shared last.rows.shared shared _ _ third.widens.shared becomes))
 
   n : NotesThen means last notes key.notes.items (notes_on key.notes.items (acts_by node the.settled.deeds.items))
   n =
@@ -155,8 +150,8 @@ module _ (means : Means) (old one two last : Table) (row : Row) (key : Noted) (n
     new = new_key means last row key node value thread shared notes spot the.settled of_last here so kept s n.acts n.are;
     of = new_of means last row key node value thread shared notes spot the.settled of_last here so kept s n.acts n.are;
     traps = traps_are ∙ the.traps;
-    memory = s.words_are;
-    holders = s.holders_are;
+    memory = refl;
+    holders = refl;
     spots = refl;
     noted = n.noted;
     bare = n.bare;

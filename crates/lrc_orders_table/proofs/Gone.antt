@@ -1,5 +1,5 @@
 -- What a state becomes once a node has made its next act and has settled.
-use Rattle.std.proofs.Common.{◌≡◌, ℕ, zero, suc, ◌<◌, ◌≤◌, Bool, true, false, List, [], ◌∷◌, inl, inr, length, get_or, refl, sym, ◌∙◌, ap, subst, arith}
+use Rattle.std.proofs.Common.{Global, Vec, ◌≡◌, ℕ, zero, suc, ◌<◌, ◌≤◌, Bool, true, false, List, [], ◌∷◌, inl, inr, length, get_or, refl, sym, ◌∙◌, ap, subst, arith}
 use Rattle.std.specs.Prelude.{Option, Some, None, if◌then◌else◌, slice_get, slice_index, slice_set}
 use Rattle.std.specs.Vec.{with_item}
 use Rattle.std.proofs.lemmas.Bool.{cases_eq}
@@ -24,7 +24,8 @@ use Rattle.lrc_orders_live.specs.Live.{forgot}
 use Rattle.lrc_orders_live.proofs.Dead.{blank_forgot}
 use Rattle.lrc_orders_table.specs.declared.rows.Row.{Row}
 use Rattle.lrc_orders_table.specs.Links.{AreNotesAt}
-use Rattle.lrc_orders_table.specs.Rows.{AreThreadsAt, IsSharedAt}
+use Rattle.lrc_orders_memory.specs.Sharing.{IsSharedAt}
+use Rattle.lrc_orders_table.specs.Rows.{AreThreadsAt}
 use Rattle.lrc_orders_table.specs.declared.next.Next.{Next}
 use Rattle.lrc_orders_table.specs.declared.next.Next.TheVariants.{Writes, Acquires}
 use Rattle.lrc_orders_table.specs.declared.next.Settled.{Settled}
@@ -126,20 +127,38 @@ threads_set keys nodes numbers spots node number spot lt few t there =
       past = λ k le. get_or-set_other numbers node k number 0 (λ e. omega (arith, lt, le, e)) ∙ t.past k le;
     }
 
+-- as many other items in place of those that there are
+abbrev pub with_all : {A : Type 0} (v : Vec A Global) (items : List A) → length items ≡ length v.items → Vec A Global
+with_all v items same = record {
+  ptr = v.ptr;
+  len = v.len;
+  cap = v.cap;
+  alloc = v.alloc;
+  items = items;
+  ok = (v.ok.0 ∙ sym same, v.ok.1);
+  small = v.small;
+}
+
 module _ (means : Means) (table : Table) (row : Row) (key : Noted) (node value number shared notes : ℕ) (spot : Spot) (settled : Settled)
     (of : IsRowOf means table row key) (here : slice_get key.state.spots.items node ≡ Some spot) (so : SettlesSo means.flat spot value settled)
     (there : slice_get table.rows.threads.keys number ≡ Some (forgot means.live.now settled.spot))
-    (s : IsSharedAt table.rows.shared.keys shared (words_then (next_in means.flat spot) key.state.memory.items)
+    (s : IsSharedAt table.rows.shared shared (words_then (next_in means.flat spot) key.state.memory.items)
     (freed settled.deeds.items (holders_then node (next_in means.flat spot) key.state.holders.items)))
     (acts : List Act) (n : AreNotesAt table.rows.notes notes acts) where
   abbrev kept : Spot
   kept = forgot means.live.now settled.spot
 
+  as_many : length (freed settled.deeds.items (holders_then node (next_in means.flat spot) key.state.holders.items)) ≡ length key.state.holders.items
+  as_many =
+      length-freed settled.deeds.items (holders_then node (next_in means.flat spot) key.state.holders.items)
+      ∙ length-holders node (next_in means.flat spot) key.state.holders.items
+
   abbrev pub new_key : Noted
   new_key = record {
     state = record {
-      memory = s.shared.memory;
-      holders = s.shared.holders;
+      memory = with_all key.state.memory (words_then (next_in means.flat spot) key.state.memory.items)
+          (length-words (next_in means.flat spot) key.state.memory.items);
+      holders = with_all key.state.holders (freed settled.deeds.items (holders_then node (next_in means.flat spot) key.state.holders.items)) as_many;
       arrivals = with_item key.state.arrivals node (count_of (forgot means.live.now settled.spot));
       spots = with_item key.state.spots node (forgot means.live.now settled.spot);
     };
@@ -160,21 +179,19 @@ module _ (means : Means) (table : Table) (row : Row) (key : Noted) (node value n
       let v = of.valid in
       let set = state_set means.flat key.state node spot kept spot_is v o.number o.within o.blank in
       let words : List ℕ = key.state.memory.items in
-      let holders : List (Option ℕ) = key.state.holders.items in
       let next : Next = next_in means.flat spot in
       record {
         stands = record {
           few = old.few;
           threads = threads_set table.rows.threads.keys table.rows.nodes row.threads key.state.spots.items node number kept node_less old.few old.threads there;
-          shared = record { shared = s.shared; there = s.there; words_are = refl; holders_are = refl };
+          shared = s;
           notes = n;
           counted =
               ap (λ l. slice_set l node (count_of kept)) old.counted ∙ sym (map-set count_of key.state.spots.items node kept);
         };
         valid = record {
-          memory = ap (λ l. length l) s.words_are ∙ length-words next words ∙ v.memory;
-          holders =
-              ap (λ l. length l) s.holders_are ∙ length-freed settled.deeds.items (holders_then node next holders) ∙ length-holders node next holders ∙ v.holders;
+          memory = length-words next words ∙ v.memory;
+          holders = as_many ∙ v.holders;
           arrivals = length-set key.state.arrivals.items node (count_of kept) ∙ v.arrivals;
           spots = set.spots;
           numbers = set.numbers;

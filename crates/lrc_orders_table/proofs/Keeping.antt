@@ -13,10 +13,11 @@ use Rattle.lrc_orders.specs.Kept.{AreSpotsDistinct, Grows}
 use Rattle.lrc_orders.proofs.Keeping.{grows_not, stands_on}
 use Rattle.lrc_orders_settling.specs.Gone.{freed}
 use Rattle.lrc_orders_live.specs.Live.{forgot}
-use Rattle.lrc_orders_table.specs.declared.parts.Shared.{Shared}
+use Rattle.lrc_orders_memory.specs.Sharing.{AreSharedDistinct, IsSharedAt, KeepsShared}
+use Rattle.lrc_orders_memory.proofs.Apart.{shared_kept, shared_stays}
 use Rattle.lrc_orders_table.specs.declared.rows.Row.{Row}
 use Rattle.lrc_orders_table.specs.Links.{AreNotesSound, GrowNotes}
-use Rattle.lrc_orders_table.specs.Rows.{AddsThreads, AreRowsDistinct, AreSharedDistinct, IsSharedAt, WidensRows}
+use Rattle.lrc_orders_table.specs.Rows.{AddsThreads, AreRowsDistinct, WidensRows}
 use Rattle.lrc_orders_table.specs.contracts.rows.RowPartialEq.TheImpl.{eq-value as row_eq}
 use Rattle.lrc_orders_table.proofs.Linking.{notes_not}
 use Rattle.lrc_orders_table.proofs.RowLaws.{rows_again, rows_not, stands_grown}
@@ -45,18 +46,9 @@ after_grown means old new asked after g a = record {
   traps = a.traps;
 }
 
-pub shared_grown : (old new : List Shared) (number : ℕ) (words : List ℕ) (holders : List (Option ℕ)) → Grows old new → IsSharedAt old number words holders
-    → IsSharedAt new number words holders
-shared_grown old new number words holders g s = record {
-  shared = s.shared;
-  there = stands_on number s.shared g s.there;
-  words_are = s.words_are;
-  holders_are = s.holders_are;
-}
-
 -- what is noted of a change, where what threads do next is the same
 pub change_grown : (old new : Table) (change : Change) (number : ℕ) → Grows old.rows.threads.keys new.rows.threads.keys
-    → Grows old.rows.shared.keys new.rows.shared.keys → Grows old.afters.entries new.afters.entries
+    → KeepsShared old.rows.shared new.rows.shared → Grows old.afters.entries new.afters.entries
     → ((k : ℕ) (spot : Spot) → slice_get old.rows.threads.keys k ≡ Some spot → next_of new k ≡ next_of old k) → IsChange old change number
     → IsChange new change number
 change_grown old new change number threads shared afters same c =
@@ -67,12 +59,12 @@ change_grown old new change number threads shared afters same c =
       comes = stands_on change.after _ afters c.comes;
       spot = c.spot;
       there = stands_on c.asked.thread c.spot threads c.there;
-      shared = c.shared;
-      before = stands_on change.shared c.shared shared c.before;
+      words = c.words;
+      holders = c.holders;
+      before = shared_kept old.rows.shared new.rows.shared change.shared c.words c.holders shared c.before;
       becomes = subst
-          (λ n. IsSharedAt new.rows.shared.keys number (words_then n c.shared.memory.items)
-          (freed c.after.deeds.items (holders_then c.spot.me n c.shared.holders.items))) (sym next)
-          (shared_grown old.rows.shared.keys new.rows.shared.keys number _ _ shared c.becomes);
+          (λ n. IsSharedAt new.rows.shared number (words_then n c.words) (freed c.after.deeds.items (holders_then c.spot.me n c.holders))) (sym next)
+          (shared_kept old.rows.shared new.rows.shared number _ _ shared c.becomes);
     }
 
 -- ---- threads more
@@ -123,7 +115,7 @@ module _ (means : Means) (old new : Table) (known : IsTable means old) (w : Wide
 
 -- a table of the same threads, of which the same is known
 module _ (means : Means) (old new : Table) (threads : new.rows.threads.keys ≡ old.rows.threads.keys) (nexts : new.nexts.items ≡ old.nexts.items) where
-  pub changes_same : Grows old.rows.shared.keys new.rows.shared.keys → Grows old.afters.entries new.afters.entries
+  pub changes_same : KeepsShared old.rows.shared new.rows.shared → Grows old.afters.entries new.afters.entries
       → new.changes.entries ≡ old.changes.entries → AreChanges old → AreChanges new
   changes_same shared afters changes are k change number at =
       change_grown old new change number (grows_not old.rows.threads.keys new.rows.threads.keys threads) shared afters
@@ -148,7 +140,7 @@ last_there old new asked after entries = ap (λ l. slice_get l (length old)) ent
 
 -- a change that is noted more
 pub changes_more : (old new : Table) (change : Change) (number : ℕ) → new.rows.threads.keys ≡ old.rows.threads.keys → new.nexts.items ≡ old.nexts.items
-    → Grows old.rows.shared.keys new.rows.shared.keys → Grows old.afters.entries new.afters.entries
+    → KeepsShared old.rows.shared new.rows.shared → Grows old.afters.entries new.afters.entries
     → new.changes.entries ≡ old.changes.entries ++ (change, number) ∷ [] → AreChanges old → IsChange new change number → AreChanges new
 changes_more old new change number threads nexts shared afters entries are is k c n at = elim (cases_lt k (length old.changes.entries)) [
   | inl lt ↦
@@ -169,8 +161,8 @@ changes_more old new change number threads nexts shared afters entries are is k 
 
 -- what is shared changes, and what is noted of that
 module _ (means : Means) (old new : Table) (known : IsTable means old)
-    (others : new ≡ record old { rows = record old.rows { shared = new.rows.shared }; changes = new.changes; scratch = new.scratch })
-    (distinct : AreSharedDistinct new.rows.shared.keys) (grows : Grows old.rows.shared.keys new.rows.shared.keys) where
+    (others : new ≡ record old { rows = record old.rows { shared = new.rows.shared }; changes = new.changes })
+    (distinct : AreSharedDistinct new.rows.shared) (keeps : KeepsShared old.rows.shared new.rows.shared) where
   pub table_shared : AreChanges new → IsTable means new
   table_shared changes =
       table_same means old new (ap (λ (t : Table). t.rows.threads.keys) others) (ap (λ (t : Table). t.nexts.items) others) known
@@ -188,7 +180,7 @@ module _ (means : Means) (old new : Table) (known : IsTable means old)
     widens = record {
       nodes = ap (λ (t : Table). t.rows.nodes) others;
       threads = grows_not old.rows.threads.keys new.rows.threads.keys (ap (λ (t : Table). t.rows.threads.keys) others);
-      shared = grows;
+      shared = keeps;
       notes = subst (GrowNotes old.rows.notes) (sym (ap (λ (t : Table). t.rows.notes) others)) (notes_not old.rows.notes);
       rows = grows_not old.rows.rows.keys new.rows.rows.keys (ap (λ (t : Table). t.rows.rows.keys) others);
     };
@@ -202,7 +194,7 @@ module _ (means : Means) (old new : Table) (known : IsTable means old)
   table_notes =
       let threads : new.rows.threads.keys ≡ old.rows.threads.keys = ap (λ (t : Table). t.rows.threads.keys) others in
       let nexts : new.nexts.items ≡ old.nexts.items = ap (λ (t : Table). t.nexts.items) others in
-      let shared : new.rows.shared.keys ≡ old.rows.shared.keys = ap (λ (t : Table). t.rows.shared.keys) others in
+      let shared : new.rows.shared ≡ old.rows.shared = ap (λ (t : Table). t.rows.shared) others in
       let afters : new.afters.entries ≡ old.afters.entries = ap (λ (t : Table). t.afters.entries) others in
       table_same means old new threads nexts known (ap (λ (t : Table). t.rows.nodes) others) (record {
         threads = subst AreSpotsDistinct (sym threads) known.distinct.threads;
@@ -211,7 +203,7 @@ module _ (means : Means) (old new : Table) (known : IsTable means old)
         rows = subst (λ l. IsDistinct row_eq.it l) (sym (ap (λ (t : Table). t.rows.rows.keys) others)) known.distinct.rows;
       })
       (λ k asked after at. known.afters k asked after (ap (λ l. slice_get l k) (sym afters) ∙ at))
-      (changes_same means old new threads nexts (grows_not old.rows.shared.keys new.rows.shared.keys shared)
+      (changes_same means old new threads nexts (shared_stays old.rows.shared new.rows.shared shared)
       (grows_not old.afters.entries new.afters.entries afters) (ap (λ (t : Table). t.changes.entries) others) known.changes)
 
   pub keeps_notes : KeepsRows old new
@@ -220,7 +212,7 @@ module _ (means : Means) (old new : Table) (known : IsTable means old)
     widens = record {
       nodes = ap (λ (t : Table). t.rows.nodes) others;
       threads = grows_not old.rows.threads.keys new.rows.threads.keys (ap (λ (t : Table). t.rows.threads.keys) others);
-      shared = grows_not old.rows.shared.keys new.rows.shared.keys (ap (λ (t : Table). t.rows.shared.keys) others);
+      shared = shared_stays old.rows.shared new.rows.shared (ap (λ (t : Table). t.rows.shared) others);
       notes = grows;
       rows = grows_not old.rows.rows.keys new.rows.rows.keys (ap (λ (t : Table). t.rows.rows.keys) others);
     };

@@ -9,7 +9,8 @@ use Rattle.lrc_orders.proofs.Keeping.{grows_again, grows_not, item_at, stands_on
 use Rattle.lrc_orders.proofs.Stores.{IsStore}
 use Rattle.lrc_orders.proofs.Ways.{IsNotedCopy}
 use Rattle.lrc_orders_settling.specs.Taking.{count_of}
-use Rattle.lrc_orders_table.specs.declared.parts.Shared.{Shared}
+use Rattle.lrc_orders_memory.specs.Sharing.{IsSharedAt}
+use Rattle.lrc_orders_memory.proofs.Apart.{shared_again, shared_kept, shared_not, shared_one}
 use Rattle.lrc_orders_table.specs.declared.rows.Row.{Row}
 use Rattle.lrc_orders_table.specs.declared.rows.Rows.{Rows}
 use Rattle.lrc_orders_table.specs.Links.{AreNotesAt}
@@ -33,12 +34,7 @@ pub stands_grown : (old new : Rows) (row : Row) (key : Noted) → WidensRows old
 stands_grown old new row key w s = record {
   few = subst (λ n. n ≤ 16) (sym w.nodes) s.few;
   threads = subst (λ n. AreThreadsAt new.threads.keys n row.threads key.state.spots.items) (sym w.nodes) (threads_grown w.threads s.threads);
-  shared = record {
-    shared = s.shared.shared;
-    there = stands_on row.shared s.shared.shared w.shared s.shared.there;
-    words_are = s.shared.words_are;
-    holders_are = s.shared.holders_are;
-  };
+  shared = shared_kept old.shared new.shared row.shared key.state.memory.items key.state.holders.items w.shared s.shared;
   notes = notes_grown old.notes new.notes row.notes key.notes.items w.notes s.notes;
   counted = s.counted;
 }
@@ -52,10 +48,10 @@ row_grown old new k key w at = record {
 }
 
 pub rows_again : {a b c : Rows} → WidensRows a b → WidensRows b c → WidensRows a c
-rows_again v w = record {
+rows_again {a = a} {b = b} {c = c} v w = record {
   nodes = w.nodes ∙ v.nodes;
   threads = grows_again v.threads w.threads;
-  shared = grows_again v.shared w.shared;
+  shared = shared_again a.shared b.shared c.shared v.shared w.shared;
   notes = record { links = grows_again v.notes.links w.notes.links; lasts = grows_again v.notes.lasts w.notes.lasts };
   rows = grows_again v.rows w.rows;
 }
@@ -64,7 +60,7 @@ pub rows_not : (all : Rows) → WidensRows all all
 rows_not all = record {
   nodes = refl;
   threads = grows_not all.threads.keys all.threads.keys refl;
-  shared = grows_not all.shared.keys all.shared.keys refl;
+  shared = shared_not all.shared;
   notes = notes_not all.notes;
   rows = grows_not all.rows.keys all.rows.keys refl;
 }
@@ -94,11 +90,12 @@ spots_same keys nodes numbers xs ys s t =
 pub stands_copy : (all : Rows) (row : Row) (x y : Noted) → StandsFor all row x → StandsFor all row y → IsNotedCopy x y
 stands_copy all row x y s t =
     let spots = spots_same all.threads.keys all.nodes row.threads x.state.spots.items y.state.spots.items s.threads t.threads in
-    let shared : s.shared.shared ≡ t.shared.shared = same_Some s.shared.shared t.shared.shared (sym s.shared.there ∙ t.shared.there) in
+    let shared =
+    shared_one all.shared row.shared x.state.memory.items y.state.memory.items x.state.holders.items y.state.holders.items s.shared t.shared in
     record {
       state = record {
-        memory = sym s.shared.words_are ∙ ap (λ (p : Shared). p.memory.items) shared ∙ t.shared.words_are;
-        holders = sym s.shared.holders_are ∙ ap (λ (p : Shared). p.holders.items) shared ∙ t.shared.holders_are;
+        memory = shared.0;
+        holders = shared.1;
         arrivals = s.counted ∙ ap (λ l. map count_of l) spots ∙ sym t.counted;
         spots = spots;
       };
@@ -123,12 +120,8 @@ row_same all k x y at c =
       stands = record {
         few = s.few;
         threads = subst (λ l. AreThreadsAt all.threads.keys all.nodes at.row.threads l) (sym c.state.spots) s.threads;
-        shared = record {
-          shared = s.shared.shared;
-          there = s.shared.there;
-          words_are = s.shared.words_are ∙ sym c.state.memory;
-          holders_are = s.shared.holders_are ∙ sym c.state.holders;
-        };
+        shared = subst (λ l. IsSharedAt all.shared at.row.shared l x.state.holders.items) (sym c.state.memory)
+            (subst (λ l. IsSharedAt all.shared at.row.shared y.state.memory.items l) (sym c.state.holders) s.shared);
         notes = subst (AreNotesAt all.notes at.row.notes) (sym c.notes) s.notes;
         counted = c.state.arrivals ∙ s.counted ∙ ap (λ l. map count_of l) (sym c.state.spots);
       };

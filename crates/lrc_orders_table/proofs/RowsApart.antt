@@ -17,28 +17,15 @@ use Rattle.lrc_orders.proofs.Keeping.{item_at}
 use Rattle.lrc_orders.proofs.KeptAlike.{both_true, equal_items, nat_itself, one_place}
 use Rattle.lrc_orders.proofs.Same.{option_same, pointwise_same, spot_same}
 use Rattle.lrc_orders.proofs.Widening.{apart_in, not_true}
-use Rattle.lrc_orders_table.specs.declared.parts.Shared.{Shared}
+use Rattle.lrc_orders_memory.specs.Sharing.{IsSharedAt}
+use Rattle.lrc_orders_memory.proofs.Apart.{shared_place}
 use Rattle.lrc_orders_table.specs.declared.rows.Row.{Row}
 use Rattle.lrc_orders_table.specs.declared.rows.Rows.{Rows}
-use Rattle.lrc_orders_table.specs.contracts.parts.SharedPartialEq.TheImpl.{eq-value as shared_eq}
 use Rattle.lrc_orders_table.specs.contracts.rows.RowPartialEq.TheImpl.{eq-value as row_eq}
 use Rattle.lrc_orders_table.specs.Rows.{AreRowsDistinct, AreThreadsAt, IsRowAt, StandsFor}
 use Rattle.lrc_orders_table.proofs.Linking.{notes_place}
 
--- ---- parts that compare equal have the same items
-
-pub shared_same : (a b : Shared) → shared_eq.it a b ≡ true → (a.memory.items ≡ b.memory.items) × (a.holders.items ≡ b.holders.items)
-shared_same a b e =
-    let p = and_parts (pointwise nat_eq a.memory.items b.memory.items) (pointwise (option_eq nat_eq) a.holders.items b.holders.items) e in (
-      pointwise_same nat_eq (λ x y h. eqb-true x y h) a.memory.items b.memory.items p.0,
-      pointwise_same (option_eq nat_eq) option_same a.holders.items b.holders.items p.1,
-    )
-
--- ---- and the other way round
-
-option_itself : (x : Option ℕ) → option_eq nat_eq x x ≡ true
-option_itself None = refl
-option_itself (Some n) = nat_itself n
+-- ---- equal parts compare equal
 
 beq_itself : (b : Bool) → beq b b ≡ true
 beq_itself true = refl
@@ -48,11 +35,6 @@ spot_itself : (s : Spot) → spot_eq.it s s ≡ true
 spot_itself s =
     both_true _ _ (nat_itself s.me) (both_true _ _ (nat_itself s.place) (both_true _ _ (equal_items nat_eq nat_itself s.privates s.privates refl)
     (both_true _ _ (equal_items beq beq_itself s.held s.held refl) (both_true _ _ (beq_itself s.arrived) (beq_itself s.stopped)))))
-
-shared_alike : (a b : Shared) → a.memory.items ≡ b.memory.items → a.holders.items ≡ b.holders.items → shared_eq.it a b ≡ true
-shared_alike a b m h =
-    both_true _ _ (equal_items nat_eq nat_itself a.memory.items b.memory.items m)
-    (equal_items (option_eq nat_eq) option_itself a.holders.items b.holders.items h)
 
 row_alike : (a b : Row) → a.threads ≡ b.threads → a.shared ≡ b.shared → a.notes ≡ b.notes → row_eq.it a b ≡ true
 row_alike a b t s n =
@@ -82,11 +64,11 @@ module _ (all : Rows) (distinct : AreRowsDistinct all) where
       let holders = pointwise_same (option_eq nat_eq) option_same x.state.holders.items y.state.holders.items r.0 in
       let spots = pointwise_same spot_eq.it spot_same x.state.spots.items y.state.spots.items u.1 in
       let acts : x.notes.items ≡ y.notes.items = acts_same x.notes.items y.notes.items p.1 in
-      let m = s.shared.words_are ∙ memory ∙ sym t.shared.words_are in
-      let h = s.shared.holders_are ∙ holders ∙ sym t.shared.holders_are in
+      let held : IsSharedAt all.shared b.shared x.state.memory.items x.state.holders.items =
+      subst (λ l. IsSharedAt all.shared b.shared l x.state.holders.items) (sym memory)
+      (subst (λ l. IsSharedAt all.shared b.shared y.state.memory.items l) (sym holders) t.shared) in
       let shared : a.shared ≡ b.shared =
-      one_place shared_eq.it all.shared.keys distinct.shared a.shared b.shared s.shared.shared t.shared.shared s.shared.there t.shared.there
-      (shared_alike s.shared.shared t.shared.shared m h) (shared_alike t.shared.shared s.shared.shared (sym m) (sym h)) in
+      shared_place all.shared distinct.shared a.shared b.shared x.state.memory.items x.state.holders.items s.shared held in
       let notes : a.notes ≡ b.notes =
       notes_place all.notes distinct.notes a.notes b.notes x.notes.items y.notes.items s.notes t.notes acts in
       let threads : a.threads ≡ b.threads =

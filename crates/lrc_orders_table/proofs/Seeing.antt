@@ -60,18 +60,14 @@ module _ (means : Means) (table : Table) (row : Row) (key : Noted) (known : IsTa
         (ap (λ (s : Spot). s.stopped) (get_or_from_slice_get spots node at.spot at.spot at.here) ∙ sym stopped_so ∙ e)
 
     pub act_known : (departs : Bool) → IsTrue departs ↔ AllWait (plain_at means.flat key.state)
-        → can_act (next_at table row node) of.stands.shared.shared.holders.items departs ≡ is_some (plain_step (plain_at means.flat key.state) node)
+        → can_act (next_at table row node) key.state.holders.items departs ≡ is_some (plain_step (plain_at means.flat key.state) node)
     act_known departs all =
-        ap (λ n. can_act n of.stands.shared.shared.holders.items departs) (next_here means table row key node at.spot known of at.here)
-        ∙ ap (λ hs. can_act (next_in means.flat at.spot) hs departs) of.stands.shared.holders_are
+        ap (λ n. can_act n key.state.holders.items departs) (next_here means table row key node at.spot known of at.here)
         ∙ act_is means.flat key.state node at.spot at.here of.valid of.stands.counted departs all
 
   -- the value that a node's next act gives
   pub given_there : (node : ℕ) (spot : Spot) → slice_get key.state.spots.items node ≡ Some spot
       → given (next_in means.flat spot) key.state.memory.items key.state.holders.items
-      ≡ given (next_at table row node) of.stands.shared.shared.memory.items of.stands.shared.shared.holders.items
+      ≡ given (next_at table row node) key.state.memory.items key.state.holders.items
   given_there node spot here =
-      let s = of.stands.shared in
-      sym (ap (λ n. given n s.shared.memory.items s.shared.holders.items) (next_here means table row key node spot known of here)
-      ∙ ap (λ w. given (next_in means.flat spot) w s.shared.holders.items) s.words_are
-      ∙ ap (λ h. given (next_in means.flat spot) key.state.memory.items h) s.holders_are)
+      sym (ap (λ n. given n key.state.memory.items key.state.holders.items) (next_here means table row key node spot known of here))

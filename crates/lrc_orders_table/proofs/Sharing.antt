@@ -8,8 +8,8 @@ use Rattle.lrc_trace.specs.declared.act.Deed.TheVariants.{Release}
 use Rattle.lrc_orders_settling.specs.Gone.{freed, freed_by}
 use Rattle.std.proofs.lemmas.Option.{same_Some}
 use Rattle.lrc_exec.specs.declared.spot.Spot.{Spot}
-use Rattle.lrc_orders_table.specs.declared.parts.Shared.{Shared}
-use Rattle.lrc_orders_table.specs.Rows.{IsSharedAt}
+use Rattle.lrc_orders_memory.specs.Sharing.{IsSharedAt}
+use Rattle.lrc_orders_memory.proofs.Apart.{shared_one}
 use Rattle.lrc_orders_table.specs.declared.next.Next.{Next}
 use Rattle.lrc_orders_table.specs.declared.next.Next.TheVariants.{Writes, Acquires}
 use Rattle.lrc_orders_table.specs.declared.table.After.{After}
@@ -59,10 +59,10 @@ module _ (node : ℕ) (next : Next) (deeds : List Deed) (none : (is_change next 
 
 -- what was noted of a change is so of what is shared before it
 pub change_gives : (table : Table) (shared place node number : ℕ) (next : Next) → IsChange table (record { shared = shared; after = place }) number
-    → IsNextOf table place node next → (before : Shared) (asked : Asked) (after : After) → slice_get table.rows.shared.keys shared ≡ Some before
-    → slice_get table.afters.entries place ≡ Some (asked, after)
-    → IsSharedAt table.rows.shared.keys number (words_then next before.memory.items) (freed after.deeds.items (holders_then node next before.holders.items))
-change_gives table shared place node number next ch n before asked after at entry =
+    → IsNextOf table place node next → (words : List ℕ) (holders : List (Option ℕ)) (asked : Asked) (after : After)
+    → IsSharedAt table.rows.shared shared words holders → slice_get table.afters.entries place ≡ Some (asked, after)
+    → IsSharedAt table.rows.shared number (words_then next words) (freed after.deeds.items (holders_then node next holders))
+change_gives table shared place node number next ch n words holders asked after at entry =
     let P : Asked × After = (asked, after) in
     let Q : Asked × After = (ch.asked, ch.after) in
     let R : Asked × After = (n.asked, n.after) in
@@ -71,19 +71,15 @@ change_gives table shared place node number next ch n before asked after at entr
     let asks : ch.asked ≡ n.asked = ap (λ (p : Asked × After). p.0) one ∙ sym (ap (λ (p : Asked × After). p.0) two) in
     let spots : ch.spot ≡ n.spot =
     same_Some ch.spot n.spot (sym ch.there ∙ ap (λ (a : Asked). slice_get table.rows.threads.keys a.thread) asks ∙ n.there) in
-    let words : ch.shared ≡ before = same_Some ch.shared before (sym ch.before ∙ at) in
+    let same = shared_one table.rows.shared shared ch.words words ch.holders holders ch.before at in
     let next_is : next_of table ch.asked.thread ≡ next = ap (λ (a : Asked). next_of table a.thread) asks ∙ sym n.next_is in
     let me : ch.spot.me ≡ node = ap (λ (s : Spot). s.me) spots ∙ sym n.node_is in
+    let all = table.rows.shared in
+    let is = next_of table ch.asked.thread in
     let b = ch.becomes in
-    record {
-      shared = b.shared;
-      there = b.there;
-      words_are =
-          b.words_are ∙ ap (λ m. words_then m ch.shared.memory.items) next_is ∙ ap (λ (s : Shared). words_then next s.memory.items) words;
-      holders_are =
-          b.holders_are
-          ∙ ap (λ (p : Asked × After). freed p.1.deeds.items (holders_then ch.spot.me (next_of table ch.asked.thread) ch.shared.holders.items)) one
-          ∙ ap (λ m. freed after.deeds.items (holders_then m (next_of table ch.asked.thread) ch.shared.holders.items)) me
-          ∙ ap (λ m. freed after.deeds.items (holders_then node m ch.shared.holders.items)) next_is
-          ∙ ap (λ (s : Shared). freed after.deeds.items (holders_then node next s.holders.items)) words;
-    }
+    let b1 = subst (λ w. IsSharedAt all number (words_then is w) (freed ch.after.deeds.items (holders_then ch.spot.me is ch.holders))) same.0 b in
+    let b2 = subst (λ h. IsSharedAt all number (words_then is words) (freed ch.after.deeds.items (holders_then ch.spot.me is h))) same.1 b1 in
+    let b3 =
+    subst (λ (p : Asked × After). IsSharedAt all number (words_then is words) (freed p.1.deeds.items (holders_then ch.spot.me is holders))) one b2 in
+    let b4 = subst (λ m. IsSharedAt all number (words_then is words) (freed after.deeds.items (holders_then m is holders))) me b3 in
+    subst (λ m. IsSharedAt all number (words_then m words) (freed after.deeds.items (holders_then node m holders))) next_is b4

@@ -1,23 +1,15 @@
 -- Rows of numbers, and the states with notes that they stand for.
-use Rattle.std.specs.Prelude.{◌≡◌, ℕ, ◌<◌, ◌≤◌, ◌⊎◌, List, Option, Some, length, slice_get, slice_index}
+use Rattle.std.specs.Prelude.{◌≡◌, ℕ, ◌<◌, ◌≤◌, ◌⊎◌, List, Some, length, slice_get, slice_index}
 use Rattle.std.specs.List.{IsDistinct}
 use Rattle.lrc_exec.specs.declared.spot.Spot.{Spot}
 use Rattle.lrc_orders.specs.declared.noted.Noted.{Noted}
 use Rattle.lrc_orders.specs.Kept.{AreSpotsDistinct, Grows}
 use Rattle.lrc_orders_settling.specs.Taking.{IsCounted}
-use Rattle.lrc_orders_table.specs.declared.parts.Shared.{Shared}
+use Rattle.lrc_orders_memory.specs.Sharing.{AreSharedDistinct, IsSharedAt, KeepsShared}
 use Rattle.lrc_orders_table.specs.Links.{AreNotesAt, AreNotesSound, GrowNotes}
 use Rattle.lrc_orders_table.specs.declared.rows.Row.{Row}
 use Rattle.lrc_orders_table.specs.declared.rows.Rows.{Rows}
-use Rattle.lrc_orders_table.specs.contracts.parts.SharedPartialEq.TheImpl.{eq-value as shared_eq}
 use Rattle.lrc_orders_table.specs.contracts.rows.RowPartialEq.TheImpl.{eq-value as row_eq}
-
--- the words and the holders of locks with this number
-pub record IsSharedAt (keys : List Shared) (number : ℕ) (words : List ℕ) (holders : List (Option ℕ)) : Type 0 where
-  pub shared : Shared
-  pub there : slice_get keys number ≡ Some shared
-  pub words_are : shared.memory.items ≡ words
-  pub holders_are : shared.holders.items ≡ holders
 
 -- the threads of so many nodes with these 16 numbers; past the nodes the numbers are 0
 pub record AreThreadsAt (keys : List Spot) (nodes : ℕ) (numbers : List ℕ) (spots : List Spot) : Type 0 where
@@ -34,16 +26,12 @@ HaveThreads keys nodes numbers = (spots : List Spot) × AreThreadsAt keys nodes 
 abbrev pub AddsThreads : (old new spots : List Spot) → Type 0
 AddsThreads old new spots = (k : ℕ) (x : Spot) → slice_get new k ≡ Some x → (slice_get old k ≡ Some x) ⊎ ((j : ℕ) × (slice_get spots j ≡ Some x))
 
--- so it is of what is shared, where one is added
-abbrev pub AddsShared : (old new : List Shared) → Shared → Type 0
-AddsShared old new shared = (k : ℕ) (x : Shared) → slice_get new k ≡ Some x → (slice_get old k ≡ Some x) ⊎ (x ≡ shared)
-
 -- the state with its notes that a row stands for. How often a node has arrived is not kept: once where it waits, and
 -- else never
 pub record StandsFor (all : Rows) (row : Row) (key : Noted) : Type 0 where
   pub few : all.nodes ≤ 16
   pub threads : AreThreadsAt all.threads.keys all.nodes row.threads key.state.spots.items
-  pub shared : IsSharedAt all.shared.keys row.shared key.state.memory.items key.state.holders.items
+  pub shared : IsSharedAt all.shared row.shared key.state.memory.items key.state.holders.items
   pub notes : AreNotesAt all.notes row.notes key.notes.items
   pub counted : IsCounted key.state
 
@@ -69,17 +57,13 @@ AreRowsFull all = (k : ℕ) → k < row_count all → IsRowPlace all k
 pub record WidensRows (old new : Rows) : Type 0 where
   pub nodes : new.nodes ≡ old.nodes
   pub threads : Grows old.threads.keys new.threads.keys
-  pub shared : Grows old.shared.keys new.shared.keys
+  pub shared : KeepsShared old.shared new.shared
   pub notes : GrowNotes old.notes new.notes
   pub rows : Grows old.rows.keys new.rows.keys
-
--- no two of them are equal
-abbrev pub AreSharedDistinct : List Shared → Type 0
-AreSharedDistinct keys = IsDistinct shared_eq.it keys
 
 -- no two parts are equal, and no two rows
 pub record AreRowsDistinct (all : Rows) : Type 0 where
   pub threads : AreSpotsDistinct all.threads.keys
-  pub shared : AreSharedDistinct all.shared.keys
+  pub shared : AreSharedDistinct all.shared
   pub notes : AreNotesSound all.notes
   pub rows : IsDistinct row_eq.it all.rows.keys

@@ -1,8 +1,9 @@
 -- What becomes of what nodes share.
-use Rattle.std.specs.Prelude.{◌≡◌, ℕ, ◌<◌, Bool, true, false, List, Option, Some, None, if◌then◌else◌, is_none, length, slice_get, slice_index, slice_index_or, slice_set}
+use Rattle.std.specs.Prelude.{ℕ, ◌<◌, Bool, true, false, List, Option, Some, None, if◌then◌else◌, is_none, length, slice_index, slice_index_or, slice_set}
 use Rattle.lrc_trace.specs.declared.act.Deed.{Deed}
 use Rattle.lrc_trace.specs.declared.act.Deed.TheVariants.{Release}
-use Rattle.lrc_orders_table.specs.declared.parts.Shared.{Shared}
+use Rattle.lrc_orders_memory.specs.declared.sharing.AllShared.{AllShared}
+use Rattle.lrc_orders_memory.specs.Sharing.{IsSharedAt}
 use Rattle.lrc_orders_table.specs.declared.next.Next.{Next}
 use Rattle.lrc_orders_table.specs.declared.next.Next.TheVariants.{Stopped, Waits, Reads, Writes, Acquires}
 
@@ -33,8 +34,11 @@ Fits (Acquires lock) words holders = lock < length holders
 Fits _ words holders = Unit {0}
 
 -- so it is of what is shared with this number
-abbrev pub IsFitting : List Shared → (number : ℕ) → Next → Type 0
-IsFitting keys number next = (shared : Shared) × (slice_get keys number ≡ Some shared) × Fits next shared.memory.items shared.holders.items
+pub record IsFitting (all : AllShared) (number : ℕ) (next : Next) : Type 0 where
+  pub words : List ℕ
+  pub holders : List (Option ℕ)
+  pub at : IsSharedAt all number words holders
+  pub fits : Fits next words holders
 
 -- the value that a read, a write or an acquire gives: what is read, and else 0. None where a node does none of these
 -- next, or the lock is held

@@ -1,5 +1,5 @@
 -- What is known of the threads of rows, and to what steps from a row lead.
-use Rattle.std.specs.Prelude.{◌≡◌, ◌≢◌, ℕ, ◌≤◌, false, true, All, List, Some, length, map, slice_get, slice_index, slice_index_or}
+use Rattle.std.specs.Prelude.{◌≡◌, ◌≢◌, ℕ, ◌≤◌, false, true, All, List, Option, Some, length, map, slice_get, slice_index, slice_index_or}
 use Rattle.std.specs.List.{list_any}
 use Rattle.lrc_trace.specs.declared.act.Act.{Act}
 use Rattle.lrc_exec.specs.declared.spot.Spot.{Spot}
@@ -16,9 +16,9 @@ use Rattle.lrc_orders_settling.specs.Gone.{freed}
 use Rattle.lrc_orders_settling.specs.Taking.{ComputesLong, Takes}
 use Rattle.lrc_orders_live.specs.Like.{TakesLike}
 use Rattle.lrc_orders_live.specs.Live.{AreLive, forgot}
-use Rattle.lrc_orders_table.specs.declared.parts.Shared.{Shared}
 use Rattle.lrc_orders_table.specs.declared.rows.Row.{Row}
-use Rattle.lrc_orders_table.specs.Rows.{AreRowsDistinct, IsSharedAt, StandsFor, WidensRows}
+use Rattle.lrc_orders_memory.specs.Sharing.{IsSharedAt}
+use Rattle.lrc_orders_table.specs.Rows.{AreRowsDistinct, StandsFor, WidensRows}
 use Rattle.lrc_orders_table.specs.declared.next.Next.{Next}
 use Rattle.lrc_orders_table.specs.declared.next.Next.TheVariants.{Stopped}
 use Rattle.lrc_orders_table.specs.declared.next.Settled.{Settled}
@@ -58,10 +58,11 @@ pub record IsChange (table : Table) (change : Change) (number : ℕ) : Type 0 wh
   pub comes : slice_get table.afters.entries change.after ≡ Some (asked, after)
   pub spot : Spot
   pub there : slice_get table.rows.threads.keys asked.thread ≡ Some spot
-  pub shared : Shared
-  pub before : slice_get table.rows.shared.keys change.shared ≡ Some shared
-  pub becomes : IsSharedAt table.rows.shared.keys number (words_then (next_of table asked.thread) shared.memory.items)
-      (freed after.deeds.items (holders_then spot.me (next_of table asked.thread) shared.holders.items))
+  pub words : List ℕ
+  pub holders : List (Option ℕ)
+  pub before : IsSharedAt table.rows.shared change.shared words holders
+  pub becomes : IsSharedAt table.rows.shared number (words_then (next_of table asked.thread) words)
+      (freed after.deeds.items (holders_then spot.me (next_of table asked.thread) holders))
 
 -- what was noted of what becomes of what is shared is so
 abbrev pub AreChanges : Table → Type 0

@@ -6,8 +6,8 @@
 ghost use Rattle.std.specs.Prelude.{◌≡◌, ◌+◌, ◌<◌, ◌^◌, IfOk};
 ghost use Rattle.lrc_orders.specs.Notes.{is_noted_deed};
 
-use crate::parts::short;
 use indexmap::IndexSet;
+use lrc_orders_memory::numbers::short;
 use lrc_trace::act::{Act, Deed};
 use std::alloc::{AllocError, Global};
 

@@ -3,28 +3,12 @@
 ghost use Rattle.std.specs.Prelude.{◌≡◌, ◌≤◌, [], ◌∷◌, IfOk, OnOk, Some, length, map, slice_get};
 ghost use Rattle.lrc_orders.specs.Kept.{AreSpotsDistinct, Grows};
 ghost use Rattle.lrc_orders_settling.specs.Taking.{count_of};
-ghost use Rattle.lrc_orders_table.specs.Rows.{AddsShared, AddsThreads, AreSharedDistinct, AreThreadsAt, HaveThreads, IsSharedAt};
+ghost use Rattle.lrc_orders_table.specs.Rows.{AddsThreads, AreThreadsAt, HaveThreads};
 
 use indexmap::IndexSet;
 use lrc_exec::spot::Spot;
+use lrc_orders_memory::numbers::short;
 use std::alloc::{AllocError, Global};
-
-/// What the nodes of a state share: the words, and who holds each lock.
-#[derive(PartialEq, Eq, Hash, Drop)]
-pub struct Shared {
-    pub memory: Vec<u64>,
-    pub holders: Vec<Option<usize>>,
-}
-
-/// A place as a number of 32 bits. For a place that does not fit there is no memory.
-pub fn short(place: usize) -> Result<u32, AllocError>
-    ensures { IfOk result (λ number. number ≡ place) }
-{
-    match u32::try_from(place) {
-        Ok(number) => Ok(number),
-        Err(_) => Err(AllocError),
-    }
-}
 
 /// The number of a thread: its own, where it came before, and else the next.
 pub fn thread_number(threads: &mut IndexSet<Spot>, thread: Spot) -> Result<u32, AllocError>
@@ -34,19 +18,6 @@ pub fn thread_number(threads: &mut IndexSet<Spot>, thread: Spot) -> Result<u32, 
     ensures only { OnOk result (AddsThreads threads.old.keys threads.new.keys (thread ∷ [])) }
 {
     let (place, _new) = threads.insert_full(thread)?;
-    let number = short(place)?;
-    Ok(number)
-}
-
-/// The number of what is shared: its own, where it came before, and else the next.
-pub fn shared_number(all: &mut IndexSet<Shared>, shared: Shared) -> Result<u32, AllocError>
-    ensures grows { OnOk result (Grows all.old.keys all.new.keys) }
-    ensures distinct { OnOk result (AreSharedDistinct all.new.keys) }
-    ensures there { IfOk result (λ number. IsSharedAt all.new.keys number shared.memory.items
-        shared.holders.items) }
-    ensures only { OnOk result (AddsShared all.old.keys all.new.keys shared) }
-{
-    let (place, _new) = all.insert_full(shared)?;
     let number = short(place)?;
     Ok(number)
 }

@@ -7,11 +7,12 @@ ghost use Rattle.std.specs.Prelude.{◌≡◌};
 ghost use Rattle.lrc_orders_table.specs.RowHash.{mix, mixed};
 
 use crate::notes::Notes;
-use crate::parts::{Shared, counted, shared_number, threads_at, threads_of};
+use crate::parts::{counted, threads_at, threads_of};
 use indexmap::IndexSet;
 use lrc_exec::spot::Spot;
 use lrc_exec::state::State;
 use lrc_orders::noted::Noted;
+use lrc_orders_memory::sharing::AllShared;
 use std::alloc::{AllocError, Global};
 use std::hash::{Hash, Hasher};
 
@@ -62,7 +63,7 @@ fn mix(all: u64, number: u32) -> u64
 pub struct Rows {
     pub nodes: usize,
     pub threads: IndexSet<Spot>,
-    pub shared: IndexSet<Shared>,
+    pub shared: AllShared,
     pub notes: Notes,
     pub rows: IndexSet<Row>,
 }
@@ -80,7 +81,7 @@ impl Rows {
         ensures empty { row_count result ≡ 0 }
         ensures nodes { result.nodes ≡ nodes }
         ensures threads { result.threads.keys ≡ [] }
-        ensures shared { result.shared.keys ≡ [] }
+        ensures shared { result.shared.kept.keys ≡ [] }
         ensures links { result.notes.links.keys ≡ [] }
         ensures lasts { result.notes.lasts.keys ≡ [] }
         ensures distinct { AreRowsDistinct result }
@@ -88,7 +89,7 @@ impl Rows {
         Rows {
             nodes,
             threads: IndexSet::new(alloc),
-            shared: IndexSet::new(alloc),
+            shared: AllShared::new(alloc),
             notes: Notes::new(alloc),
             rows: IndexSet::new(alloc),
         }
@@ -116,12 +117,11 @@ impl Rows {
         ensures { IfOk result (IsRowAt self.now place) }
     {
         let row = self.row(place);
-        let shared = &self.shared.as_slice()[row.shared as usize];
         let spots = threads_at(alloc, &self.threads, &row.threads, self.nodes)?;
         Ok(Noted {
             state: State {
-                memory: Vec::from_slice(alloc, &shared.memory)?,
-                holders: Vec::from_slice(alloc, &shared.holders)?,
+                memory: self.shared.words(alloc, row.shared)?,
+                holders: self.shared.holders(alloc, row.shared)?,
                 arrivals: counted(alloc, &spots)?,
                 spots,
             },
@@ -145,13 +145,7 @@ impl Rows {
     {
         let state = noted.state;
         let threads = threads_of(&mut self.threads, &state.spots)?;
-        let shared = shared_number(
-            &mut self.shared,
-            Shared {
-                memory: state.memory,
-                holders: state.holders,
-            },
-        )?;
+        let shared = self.shared.number_of(&state.memory, state.holders)?;
         let notes = self.notes.add(&noted.notes)?;
         let (place, added) = self.put(Row {
             threads,

@@ -8,14 +8,14 @@ use crate::rows::Row;
 use crate::table::Table;
 
 impl Table {
-    ghost use Rattle.std.specs.Prelude.{◌≡◌, ◌<◌, ◌↔◌, IsTrue, MatchOption, Some, length, slice_get};
+    ghost use Rattle.std.specs.Prelude.{◌≡◌, ℕ, ◌<◌, ◌↔◌, IsTrue, List, MatchOption, Option, Some, length, slice_get};
     ghost use Rattle.lrc_exec.specs.declared.spot.Spot.{Spot as TheSpot};
     ghost use Rattle.lrc_exec.specs.States.{plain_at};
     ghost use Rattle.lrc_orders.specs.declared.noted.Noted.{Noted as Key};
     ghost use Rattle.lrc_orders.specs.Meeting.{HasNoPartner, IsCalm, IsLeastPair, IsPartner, Meet};
     ghost use Rattle.lrc_orders.specs.Stuck.{IsAtRest, IsStuck, IsUnfinished};
     ghost use Rattle.lrc_orders_laws.specs.Steps.{AllWait};
-    ghost use Rattle.lrc_orders_table.specs.declared.parts.Shared.{Shared as TheShared};
+    ghost use Rattle.lrc_orders_memory.specs.Sharing.{IsSharedAt};
     ghost use Rattle.lrc_orders_table.specs.Nexts.{next_in};
     ghost use Rattle.lrc_orders_table.specs.declared.known.Means.{Means as TheMeans};
     ghost use Rattle.lrc_orders_table.specs.Shared.{can_act};
@@ -120,15 +120,14 @@ impl Table {
     fn can_act(&self, row: &Row, node: usize, departs: bool) -> bool
         requires row { IsKnown self.now row.now }
         requires node { node < self.now.rows.nodes }
-        ensures { (shared : TheShared)
-            → slice_get self.now.rows.shared.keys row.now.shared ≡ Some shared
-            → result ≡ can_act (next_at self.now row.now node) shared.holders.items departs }
+        ensures { (words : List ℕ) (holders : List (Option ℕ))
+            → IsSharedAt self.now.rows.shared row.now.shared words holders
+            → result ≡ can_act (next_at self.now row.now node) holders departs }
     {
-        let shared = &self.rows.shared[row.shared as usize];
         match self.next(row, node) {
             Next::Stopped => false,
             Next::Waits => departs,
-            Next::Acquires(lock) => shared.holders[lock as usize].is_none(),
+            Next::Acquires(lock) => self.rows.shared.is_free(row.shared, lock as usize),
             Next::Turns | Next::Reads(_) | Next::Writes(..) => true,
         }
     }

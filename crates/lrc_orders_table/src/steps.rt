@@ -18,11 +18,11 @@ fn either(before: bool, here: bool) -> bool
 }
 
 impl Table {
-    ghost use Rattle.std.specs.Prelude.{◌≡◌, ◌<◌, IfErr, IfOk, List, MatchOption, None, OnOk, Some, false, length, slice_get, true};
+    ghost use Rattle.std.specs.Prelude.{◌≡◌, ℕ, ◌<◌, IfErr, IfOk, List, MatchOption, None, OnOk, Option, Some, false, length, slice_get, true};
     ghost use Rattle.lrc_orders.specs.declared.noted.Noted.{Noted as Key};
     ghost use Rattle.lrc_orders_settling.specs.declared.step.Step.TheVariants.{Alone, Together};
     ghost use Rattle.lrc_orders_settling.specs.Gone.{acts_by};
-    ghost use Rattle.lrc_orders_table.specs.declared.parts.Shared.{Shared as TheShared};
+    ghost use Rattle.lrc_orders_memory.specs.Sharing.{IsSharedAt};
     ghost use Rattle.lrc_orders_table.specs.Links.{AreNotesAt, AreNotesSound, GrowNotes, HaveNotes};
     ghost use Rattle.lrc_trace.specs.declared.act.Act.{Act as ActType};
     ghost use Rattle.lrc_orders_table.specs.Nexts.{notes_on};
@@ -67,16 +67,14 @@ impl Table {
     fn given(&self, row: &Row, node: usize) -> Option<u64>
         requires row { IsKnown self.now row.now }
         requires node { node < self.now.rows.nodes }
-        ensures { (shared : TheShared)
-            → slice_get self.now.rows.shared.keys row.now.shared ≡ Some shared
-            → result ≡ given (next_at self.now row.now node) shared.memory.items
-            shared.holders.items }
+        ensures { (words : List ℕ) (holders : List (Option ℕ))
+            → IsSharedAt self.now.rows.shared row.now.shared words holders
+            → result ≡ given (next_at self.now row.now node) words holders }
     {
-        let shared = &self.rows.shared[row.shared as usize];
         match self.next(row, node) {
-            Next::Reads(word) => Some(shared.memory[word as usize]),
+            Next::Reads(word) => Some(self.rows.shared.word(row.shared, word as usize)),
             Next::Writes(..) => Some(0),
-            Next::Acquires(lock) if shared.holders[lock as usize].is_none() => Some(0),
+            Next::Acquires(lock) if self.rows.shared.is_free(row.shared, lock as usize) => Some(0),
             _ => None,
         }
     }

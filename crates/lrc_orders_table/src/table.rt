@@ -1,7 +1,6 @@
 // Rows, and what is known of their threads.
 
 use crate::next::Next;
-use crate::parts::Shared;
 use crate::rows::{Row, Rows};
 use indexmap::IndexMap;
 use lrc_trace::act::Deed;
@@ -38,14 +37,13 @@ pub struct Led {
 }
 
 /// Rows, and what is known of the steps from them: what each thread does next (`nexts`), what came of a thread after
-/// its next act (`afters`), and what that made of what the nodes share (`changes`). `scratch` is where it is changed.
+/// its next act (`afters`), and what that made of what the nodes share (`changes`).
 #[derive(Drop)]
 pub struct Table {
     pub rows: Rows,
     pub nexts: Vec<Next>,
     pub afters: IndexMap<Asked, After>,
     pub changes: IndexMap<Change, u32>,
-    pub scratch: Shared,
 }
 
 impl Table {
@@ -65,10 +63,6 @@ impl Table {
             nexts: Vec::new(alloc),
             afters: IndexMap::new(alloc),
             changes: IndexMap::new(alloc),
-            scratch: Shared {
-                memory: Vec::new(alloc),
-                holders: Vec::new(alloc),
-            },
         }
     }
 }

@@ -1,6 +1,7 @@
 use Rattle.std.proofs.Common.{◌≡◌, ◌∙◌, ◌≤◌, length, refl, sym, ap, subst}
 use Rattle.std.specs.Prelude.{slice_get}
 use Rattle.lrc_orders.proofs.Keeping.{grows_not}
+use Rattle.lrc_orders_memory.specs.Sharing.{IsSharedAt}
 use Rattle.lrc_orders_table.specs.declared.rows.Rows.{Rows}
 use Rattle.lrc_orders_table.specs.Links.{AreNotesAt, StandByNode}
 use Rattle.lrc_orders_table.specs.Rows.{AddsThreads, AreThreadsAt, WidensRows}
@@ -11,7 +12,7 @@ use Rattle.lrc_orders_table.proofs.rows.Rows.add.Goals as goal
 pub add-requires-clause-stand : goal.add-requires-clause-stand
 add-requires-clause-stand c =
     let few = subst (λ n. n ≤ 16) c.requires.nodes (subst (λ l. length l ≤ 16) c.deref.ensures.value c.in_ok-threads.ensures.few) in
-    subst (StandByNode 16) (sym c.deref-2.ensures.value) (stand_further c.args.self.now.nodes 16 c.args.noted.notes.items few c.requires.notes)
+    subst (StandByNode 16) (sym c.deref-3.ensures.value) (stand_further c.args.self.now.nodes 16 c.args.noted.notes.items few c.requires.notes)
 
 pub put-requires : goal.put-requires
 put-requires c = record {
@@ -27,14 +28,14 @@ returns-clause-widens c =
     let mid : Rows = record {
       nodes = old.nodes;
       threads = c.threads_of.new.threads;
-      shared = c.shared_number.new.all;
+      shared = c.number_of.new.self;
       notes = c.add.new.self;
       rows = old.rows;
     } in
     let first : WidensRows old mid = record {
       nodes = refl;
       threads = c.in_ok-threads.ensures.grows;
-      shared = c.in_ok-shared.ensures.grows;
+      shared = c.in_ok-shared.ensures.keeps;
       notes = c.in_ok-notes.ensures.grows;
       rows = grows_not old.rows.keys old.rows.keys refl;
     } in
@@ -49,8 +50,9 @@ returns-clause-there c =
       few = subst (λ n. n ≤ 16) c.requires.nodes (subst (λ l. length l ≤ 16) c.deref.ensures.value c.in_ok-threads.ensures.few);
       threads = subst (λ n. AreThreadsAt keys n c.in_ok-threads.threads key.state.spots.items) c.requires.nodes
           (subst (λ l. AreThreadsAt keys (length l) c.in_ok-threads.threads l) c.deref.ensures.value c.in_ok-threads.ensures.there);
-      shared = c.in_ok-shared.ensures.there;
-      notes = subst (AreNotesAt c.add.new.self c.in_ok-notes.notes) c.deref-2.ensures.value c.in_ok-notes.ensures.there;
+      shared = subst (λ l. IsSharedAt c.number_of.new.self c.in_ok-shared.shared l key.state.holders.items) c.deref-2.ensures.value
+          c.in_ok-shared.ensures.there;
+      notes = subst (AreNotesAt c.add.new.self c.in_ok-notes.notes) c.deref-3.ensures.value c.in_ok-notes.ensures.there;
       counted = c.requires.counted;
     })
 

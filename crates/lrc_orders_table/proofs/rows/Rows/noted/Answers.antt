@@ -1,19 +1,21 @@
-use Rattle.std.proofs.Common.{◌<◌, ◌∙◌, length, map, sym, subst, ap}
-use Rattle.std.proofs.lemmas.Option.{slice_get_within}
-use Rattle.lrc_orders.proofs.Keeping.{item_in}
+use Rattle.std.proofs.Common.{◌∙◌, map, sym, subst, ap}
 use Rattle.lrc_orders_settling.specs.Taking.{count_of}
+use Rattle.lrc_orders_memory.specs.Sharing.{IsSharedAt}
 use Rattle.lrc_orders_table.proofs.RowLaws.{row_within, stands_at}
 use Rattle.lrc_orders_table.proofs.rows.Rows.noted.Goals as goal
 
 pub row-row-requires : goal.row-row-requires
 row-row-requires c = row_within c.args.self.now c.args.place c.requires.0 c.requires.1
 
-pub bounds-as_slice-row : goal.bounds-as_slice-row
-bounds-as_slice-row c =
-    let all = c.args.self.now in
-    let s = stands_at all c.args.place c.row-row.result c.row-row.ensures c.requires in
-    subst (λ keys. c.row-row.result.shared < length keys) (sym c.as_slice.ensures.keys)
-    (slice_get_within all.shared.keys c.row-row.result.shared s.shared.shared s.shared.there)
+pub words-requires : goal.words-requires
+words-requires c =
+    let s = stands_at c.args.self.now c.args.place c.row-row.result c.row-row.ensures c.requires in
+    record { words = c.requires.0.state.memory.items; holders = c.requires.0.state.holders.items; at = s.shared }
+
+pub holders-requires : goal.holders-requires
+holders-requires c =
+    let s = stands_at c.args.self.now c.args.place c.row-row.result c.row-row.ensures c.requires in
+    record { words = c.requires.0.state.memory.items; holders = c.requires.0.state.holders.items; at = s.shared }
 
 pub acts-requires : goal.acts-requires
 acts-requires c =
@@ -33,21 +35,18 @@ returns c =
     let all = c.args.self.now in
     let row = c.row-row.result in
     let s = stands_at all c.args.place row c.row-row.ensures c.requires in
-    let shared = c.index-as_slice-row.result in
+    let key = c.requires.0 in
+    let words = c.in_ok-words.ensures key.state.memory.items key.state.holders.items s.shared in
+    let holders = c.in_ok-holders.ensures key.state.memory.items key.state.holders.items s.shared in
     record {
       row = row;
       there = c.row-row.ensures;
       stands = record {
         few = s.few;
         threads = c.in_ok-spots.ensures;
-        shared = record {
-          shared = shared;
-          there = item_in all.shared.keys c.as_slice.result.now row.shared shared c.as_slice.ensures.keys
-              (slice_get_within all.shared.keys row.shared s.shared.shared s.shared.there) c.index-as_slice-row.is;
-          words_are = sym (c.in_ok-from_slice.ensures.items ∙ c.deref.ensures.value);
-          holders_are = sym (c.in_ok-from_slice-2.ensures.items ∙ c.deref-2.ensures.value);
-        };
+        shared = subst (λ l. IsSharedAt all.shared row.shared l c.in_ok-holders.field-0.items) (sym words)
+            (subst (λ l. IsSharedAt all.shared row.shared key.state.memory.items l) (sym holders) s.shared);
         notes = c.in_ok-acts.ensures;
-        counted = c.in_ok-counted.ensures ∙ ap (λ l. map count_of l) c.deref-3.ensures.value;
+        counted = c.in_ok-counted.ensures ∙ ap (λ l. map count_of l) c.deref.ensures.value;
       };
     }

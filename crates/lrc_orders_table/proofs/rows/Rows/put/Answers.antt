@@ -2,6 +2,7 @@ use Rattle.std.proofs.Common.{◌≡◌, refl, sym, subst}
 use Rattle.std.specs.Prelude.{Some, slice_get}
 use Rattle.lrc_orders.proofs.Adding.{added_at}
 use Rattle.lrc_orders.proofs.Keeping.{grows_not, put_grows}
+use Rattle.lrc_orders_memory.proofs.Apart.{shared_not}
 use Rattle.lrc_orders_table.specs.declared.rows.Rows.{Rows}
 use Rattle.lrc_orders_table.specs.contracts.rows.RowPartialEq.TheImpl.{eq-value as row_eq}
 use Rattle.lrc_orders_table.specs.RowHash.{row_is}
@@ -16,7 +17,7 @@ returns-clause-widens c =
     record {
       nodes = refl;
       threads = grows_not old.threads.keys old.threads.keys refl;
-      shared = grows_not old.shared.keys old.shared.keys refl;
+      shared = shared_not old.shared;
       notes = notes_not old.notes;
       rows = put_grows _ old.rows.keys c.insert_full.new.self.keys _ c.in_ok-place.ensures.keys;
     }
@@ -41,7 +42,7 @@ returns-clause-there c key stands =
     let wide : WidensRows old new = record {
       nodes = refl;
       threads = grows_not old.threads.keys old.threads.keys refl;
-      shared = grows_not old.shared.keys old.shared.keys refl;
+      shared = shared_not old.shared;
       notes = notes_not old.notes;
       rows = put_grows _ old.rows.keys c.insert_full.new.self.keys _ c.in_ok-place.ensures.keys;
     } in

@@ -12,10 +12,9 @@ returns-in_default-clause-taken c = λ key from.
     let means = c.args.means.now in
     let table = c.args.self.now in
     let row = c.args.row.now in
-    let s = from.of.stands.shared in
     let at = node_at table row key c.args.node from.of.stands c.requires.node in
     cannot_alone means key c.args.node at.spot at.here
-    (given_there means table row key c.requires.table from.of c.args.node at.spot at.here ∙ sym (c.given.ensures s.shared s.there) ∙ c.in_default.is)
+    (given_there means table row key c.requires.table from.of c.args.node at.spot at.here ∙ sym (c.given.ensures key.state.memory.items key.state.holders.items from.of.stands.shared) ∙ c.in_default.is)
 
 pub gone-requires-clause-row : goal.gone-requires-clause-row
 gone-requires-clause-row c =
@@ -23,7 +22,6 @@ gone-requires-clause-row c =
     let table = c.args.self.now in
     let row = c.args.row.now in
     let (key, from) = c.requires.from in
-    let s = from.of.stands.shared in
     let at = node_at table row key c.args.node from.of.stands c.requires.node in
     record {
       key = key;
@@ -31,7 +29,7 @@ gone-requires-clause-row c =
       spot = at.spot;
       here = at.here;
       goes = makes_on means key c.args.node at.spot at.here c.in-Some.value (makes means key c.args.node at.spot at.here c.in-Some.value
-          (given_there means table row key c.requires.table from.of c.args.node at.spot at.here ∙ sym (c.given.ensures s.shared s.there) ∙ c.in-Some.is));
+          (given_there means table row key c.requires.table from.of c.args.node at.spot at.here ∙ sym (c.given.ensures key.state.memory.items key.state.holders.items from.of.stands.shared) ∙ c.in-Some.is));
     }
 
 pub returns-in_err-led-clause-faults : goal.returns-in_err-led-clause-faults
@@ -42,10 +40,9 @@ returns-in_err-led-clause-faults c =
     let fault = c.in_err-led.field-0.0 in
     fault_up c.from_residual.result fault (λ f. (key : Noted) → IsTakenFrom means table row key → IsLongFault means key f) c.from_residual.ensures.1
     (λ key from.
-    let s = from.of.stands.shared in
     let at = node_at table row key c.args.node from.of.stands c.requires.node in
     let made = makes means key c.args.node at.spot at.here c.in-Some.value
-    (given_there means table row key c.requires.table from.of c.args.node at.spot at.here ∙ sym (c.given.ensures s.shared s.there) ∙ c.in-Some.is) in
+    (given_there means table row key c.requires.table from.of c.args.node at.spot at.here ∙ sym (c.given.ensures key.state.memory.items key.state.holders.items from.of.stands.shared) ∙ c.in-Some.is) in
     let long = c.in_err-led.ensures.faults key from.of in
     record {
       nodes = long.nodes;
@@ -57,7 +54,6 @@ returns-clause-taken c = λ key from.
     let means = c.args.means.now in
     let table = c.args.self.now in
     let row = c.args.row.now in
-    let s = from.of.stands.shared in
     let g = c.in_ok-led.ensures.gone key from.of in
     leads_alone means c.requires.means c.gone.new.self c.in_ok-led.led key c.args.node c.in-Some.value g
-    (given_there means table row key c.requires.table from.of c.args.node g.spot g.here ∙ sym (c.given.ensures s.shared s.there) ∙ c.in-Some.is) from.settled
+    (given_there means table row key c.requires.table from.of c.args.node g.spot g.here ∙ sym (c.given.ensures key.state.memory.items key.state.holders.items from.of.stands.shared) ∙ c.in-Some.is) from.settled

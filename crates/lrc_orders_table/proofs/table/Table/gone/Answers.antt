@@ -4,6 +4,7 @@ use Rattle.std.proofs.lemmas.Option.{same_Some, slice_get_within}
 use Rattle.lrc_orders.specs.declared.noted.Noted.{Noted}
 use Rattle.lrc_orders.proofs.Faults.{fault_up}
 use Rattle.lrc_orders.proofs.Keeping.{stands_on}
+use Rattle.lrc_orders_memory.proofs.Apart.{shared_kept}
 use Rattle.lrc_orders_table.specs.Links.{AreNotesAt, AreNotesSound}
 use Rattle.lrc_orders_table.specs.Nexts.{next_in}
 use Rattle.lrc_orders_table.specs.declared.table.After.{After}
@@ -45,14 +46,16 @@ pub shared_after-requires-clause-fits : goal.shared_after-requires-clause-fits
 shared_after-requires-clause-fits c =
     let means = c.args.means.now in
     let r = c.requires.row in
-    let s = r.of.stands.shared in
-    let next = c.next-next.ensures.at ∙ next_here means c.args.self.now c.args.row.now r.key c.args.node r.spot c.requires.table r.of r.here in (
-      s.shared,
-      stands_on c.args.row.now.shared s.shared c.in_ok-place.ensures.keeps.widens.shared s.there,
-      subst (λ n. Fits n s.shared.memory.items s.shared.holders.items) (sym next)
-          (subst (λ w. Fits (next_in means.flat r.spot) w s.shared.holders.items) (sym s.words_are)
-          (subst (λ h. Fits (next_in means.flat r.spot) r.key.state.memory.items h) (sym s.holders_are) (fits_here means.flat r.key.state r.of.valid r.spot))),
-    )
+    let words = r.key.state.memory.items in
+    let holders = r.key.state.holders.items in
+    let old = c.args.self.now.rows.shared in
+    let next = c.next-next.ensures.at ∙ next_here means c.args.self.now c.args.row.now r.key c.args.node r.spot c.requires.table r.of r.here in
+    record {
+      words = words;
+      holders = holders;
+      at = shared_kept old c.after.new.self.rows.shared c.args.row.now.shared words holders c.in_ok-place.ensures.keeps.widens.shared r.of.stands.shared;
+      fits = subst (λ n. Fits n words holders) (sym next) (fits_here means.flat r.key.state r.of.valid r.spot);
+    }
 
 pub notes-requires-clause-sound : goal.notes-requires-clause-sound
 notes-requires-clause-sound c =
@@ -115,7 +118,7 @@ returns-clause-table c =
     let last = c.notes.new.self in
     let s = c.in_ok-shared.ensures in
     let n = c.in_ok-notes.ensures in
-    table_notes means two last (table_shared means one two c.in_ok-place.ensures.table s.others s.distinct s.grows s.changes) n.others n.sound n.grows
+    table_notes means two last (table_shared means one two c.in_ok-place.ensures.table s.others s.distinct s.keeps s.changes) n.others n.sound n.grows
 
 pub returns-clause-gone : goal.returns-clause-gone
 returns-clause-gone c = λ key of.
@@ -132,14 +135,15 @@ returns-clause-gone c = λ key of.
     let n = c.in_ok-notes.ensures in
     let known = e.table in
     let after : After = e.there.0 in
-    let second : KeepsRows one two = keeps_shared means one two known s.others s.distinct s.grows in
-    let known_two : IsTable means two = table_shared means one two known s.others s.distinct s.grows s.changes in
+    let second : KeepsRows one two = keeps_shared means one two known s.others s.distinct s.keeps in
+    let known_two : IsTable means two = table_shared means one two known s.others s.distinct s.keeps s.changes in
     let third : KeepsRows two last = keeps_notes means two last known_two n.others n.sound n.grows in
     let at = node_at old row key node of.stands (let r = c.requires.row in
     let within = slice_get_within r.key.state.spots.items node r.spot r.here in
     let count = r.of.stands.threads.count in
     omega (arith, within, count)) in
-    let shared = of.stands.shared in
+    let words = key.state.memory.items in
+    let holders = key.state.holders.items in
     let entries_two = ap (λ (t : Table). slice_get t.afters.entries place) s.others in
     let entries_last = ap (λ (t : Table). slice_get t.afters.entries place) n.others in
     let comes : c.index-after.result.now ≡ after =
@@ -148,7 +152,7 @@ returns-clause-gone c = λ key of.
     has_gone means old one two last row key node c.args.value place c.in_ok-shared.shared c.in_ok-notes.notes c.index-after.result.now.thread at.spot
     c.next-next.result known e.keeps second third of at.here after e.there.1 (ap (λ (a : After). a.thread) comes)
     (c.next-next.ensures.at ∙ next_here means old row key node at.spot c.requires.table of at.here)
-    (s.there shared.shared _ after (stands_on row.shared shared.shared e.keeps.widens.shared shared.there) e.there.1)
+    (s.there words holders _ after (shared_kept old.rows.shared one.rows.shared row.shared words holders e.keeps.widens.shared of.stands.shared) e.there.1)
     (λ on. n.noted on key.notes.items _ after
     (subst (λ all. AreNotesAt all row.notes key.notes.items) (sym (ap (λ (t : Table). t.rows.notes) s.others))
     (notes_grown old.rows.notes one.rows.notes row.notes key.notes.items e.keeps.widens.notes of.stands.notes)) (entries_two ∙ e.there.1))

@@ -8,6 +8,7 @@ use Rattle.lrc_orders.specs.Traps.{is_trap}
 use Rattle.lrc_orders.proofs.Keeping.{grows_not, stands_on}
 use Rattle.lrc_orders_live.specs.Live.{forgot}
 use Rattle.lrc_orders_table.specs.declared.table.After.{After}
+use Rattle.lrc_orders_memory.proofs.Apart.{shared_not}
 use Rattle.lrc_orders_table.specs.declared.table.Table.{Table}
 use Rattle.lrc_orders_table.specs.contracts.table.AskedPartialEq.TheImpl.{eq-value as asked_eq}
 use Rattle.lrc_orders_table.specs.Tables.{IsAfter}
@@ -43,7 +44,7 @@ returns-clause-table c =
       traps = c.has_trap_deed-traps.ensures ∙ ap (list_any is_trap) c.deref.ensures.value;
     } in
     table_same means old new refl refl known refl known.distinct (afters_more means old new known asked after entries is)
-    (changes_same means old new refl refl (grows_not old.rows.shared.keys old.rows.shared.keys refl) (record { more = (asked, after) ∷ []; is = entries })
+    (changes_same means old new refl refl (shared_not old.rows.shared) (record { more = (asked, after) ∷ []; is = entries })
     refl known.changes)
 
 pub returns-clause-there : goal.returns-clause-there

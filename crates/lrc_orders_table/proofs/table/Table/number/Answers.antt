@@ -5,6 +5,7 @@ use Rattle.lrc_orders.proofs.Keeping.{grows_not}
 use Rattle.lrc_orders_live.specs.Live.{forgot}
 use Rattle.lrc_orders_table.specs.Rows.{AreRowsDistinct, WidensRows}
 use Rattle.lrc_orders_table.specs.Nexts.{next_in}
+use Rattle.lrc_orders_memory.proofs.Apart.{shared_not}
 use Rattle.lrc_orders_table.specs.declared.table.Table.{Table}
 use Rattle.lrc_orders_table.proofs.Keeping.{IsPlaced, table_on, threads_more, threads_one}
 use Rattle.lrc_orders_table.proofs.Linking.{notes_not}
@@ -31,7 +32,7 @@ returns-clause-table c =
     let wide : WidensRows old.rows new.rows = record {
       nodes = refl;
       threads = c.in_ok-number.ensures.grows;
-      shared = grows_not old.rows.shared.keys old.rows.shared.keys refl;
+      shared = shared_not old.rows.shared;
       notes = notes_not old.rows.notes;
       rows = grows_not old.rows.rows.keys old.rows.rows.keys refl;
     } in

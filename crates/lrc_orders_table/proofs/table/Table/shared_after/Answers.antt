@@ -7,8 +7,8 @@ use Rattle.indexmap.specs.IndexMap.{get}
 use Rattle.indexmap.proofs.CallerLemmas.{insert_entry-new}
 use Rattle.lrc_orders.proofs.Keeping.{grows_not, stands_on}
 use Rattle.lrc_orders_settling.specs.Gone.{freed}
-use Rattle.lrc_orders_table.specs.declared.parts.Shared.{Shared}
-use Rattle.lrc_orders_table.specs.Rows.{IsSharedAt}
+use Rattle.lrc_orders_memory.specs.Sharing.{IsSharedAt}
+use Rattle.lrc_orders_memory.proofs.Apart.{shared_kept}
 use Rattle.lrc_orders_table.specs.declared.table.After.{After}
 use Rattle.lrc_orders_table.specs.declared.table.Change.{Change}
 use Rattle.lrc_orders_table.specs.declared.table.Table.{Table}
@@ -21,7 +21,7 @@ use Rattle.lrc_orders_table.proofs.Sharing.{change_gives, same_holders, same_wor
 use Rattle.lrc_orders_table.proofs.table.Table.shared_after.Goals as goal
 
 pub returns-then-not-changes-clause-there : goal.returns-then-not-changes-clause-there
-returns-then-not-changes-clause-there c = λ before asked after at entry.
+returns-then-not-changes-clause-there c = λ words holders asked after at entry.
     let node = c.args.node in
     let next = c.args.next in
     let comes : c.index.result.now ≡ after =
@@ -29,15 +29,13 @@ returns-then-not-changes-clause-there c = λ before asked after at entry.
     let deeds : c.deref.result.now ≡ after.deeds.items = c.deref.ensures.value ∙ ap (λ (a : After). a.deeds.items) comes in
     let none : (is_change next || list_any is_release after.deeds.items) ≡ false =
     ap (λ ds. is_change next || list_any is_release ds) (sym deeds) ∙ sym c.changes.ensures ∙ c.if-not-changes.true in
-    record {
-      shared = before;
-      there = at;
-      words_are = sym (same_words node next after.deeds.items none before.memory.items);
-      holders_are = sym (same_holders node next after.deeds.items none before.holders.items);
-    }
+    let all = c.args.self.now.rows.shared in
+    subst (λ w. IsSharedAt all c.args.shared w (freed after.deeds.items (holders_then node next holders)))
+    (sym (same_words node next after.deeds.items none words))
+    (subst (λ h. IsSharedAt all c.args.shared words h) (sym (same_holders node next after.deeds.items none holders)) at)
 
 pub returns-in-Some-clause-there : goal.returns-in-Some-clause-there
-returns-in-Some-clause-there c = λ before asked after at entry.
+returns-in-Some-clause-there c = λ words holders asked after at entry.
     let table = c.args.self.now in
     let change : Change = record { shared = c.args.shared; after = c.in_ok-short.field-0 } in
     let (i, key, found, same) = place_from_lookup (change_eq.it change) table.changes.entries c.in-Some.number.now
@@ -45,8 +43,8 @@ returns-in-Some-clause-there c = λ before asked after at entry.
     let is : IsChange table change c.in-Some.number.now =
     subst (λ k. IsChange table k c.in-Some.number.now) (sym (change_is change key same)) (c.requires.changes i key c.in-Some.number.now found) in
     change_gives table c.args.shared c.args.place c.args.node c.in-Some.number.now c.args.next
-    (subst (λ n. IsChange table (record { shared = c.args.shared; after = n }) c.in-Some.number.now) c.in_ok-short.ensures is) c.requires.next before asked
-    after at entry
+    (subst (λ n. IsChange table (record { shared = c.args.shared; after = n }) c.in-Some.number.now) c.in_ok-short.ensures is) c.requires.next words holders
+    asked after at entry
 
 pub returns-clause-changes : goal.returns-clause-changes
 returns-clause-changes c =
@@ -57,45 +55,41 @@ returns-clause-changes c =
     let new : Table = record old {
       rows = record old.rows { shared = c.changed.new.all };
       changes = c.insert.new.self;
-      scratch = c.changed.new.scratch;
     } in
     let change : Change = record { shared = c.args.shared; after = c.in_ok-short.field-0 } in
     let number = c.in_ok-number.number in
     let fits = c.requires.fits in
-    let before : Shared = fits.0 in
-    let r = c.in_ok-number.ensures.there before fits.1 in
+    let words = fits.words in
+    let holders = fits.holders in
+    let all = c.changed.new.all in
+    let r0 = c.in_ok-number.ensures.there words holders fits.at in
     let comes : c.index.result.now ≡ n.after =
     same_Some c.index.result.now n.after (sym c.index.ensures ∙ value_at old.afters.entries c.args.place n.asked n.after n.comes) in
     let deeds : c.deref-2.result.now ≡ n.after.deeds.items = c.deref-2.ensures.value ∙ ap (λ (a : After). a.deeds.items) comes in
+    let r1 = subst (λ ds. IsSharedAt all number (words_then next words) (freed ds (holders_then node next holders))) deeds r0 in
+    let r2 = subst (λ m. IsSharedAt all number (words_then next words) (freed n.after.deeds.items (holders_then m next holders))) n.node_is r1 in
     let is : IsChange new change number = record {
       asked = n.asked;
       after = n.after;
       comes = ap (slice_get old.afters.entries) c.in_ok-short.ensures ∙ n.comes;
       spot = n.spot;
       there = n.there;
-      shared = before;
-      before = stands_on c.args.shared before c.in_ok-number.ensures.grows fits.1;
-      becomes = record {
-        shared = r.shared;
-        there = r.there;
-        words_are = r.words_are ∙ ap (λ m. words_then m before.memory.items) n.next_is;
-        holders_are =
-            r.holders_are ∙ ap (λ ds. freed ds (holders_then node next before.holders.items)) deeds
-            ∙ ap (λ m. freed n.after.deeds.items (holders_then m next before.holders.items)) n.node_is
-            ∙ ap (λ m. freed n.after.deeds.items (holders_then n.spot.me m before.holders.items)) n.next_is;
-      };
+      words = words;
+      holders = holders;
+      before = shared_kept old.rows.shared all c.args.shared words holders c.in_ok-number.ensures.keeps fits.at;
+      becomes = subst (λ m. IsSharedAt all number (words_then m words) (freed n.after.deeds.items (holders_then n.spot.me m holders))) n.next_is r2;
     } in
     let absent : get change_eq.it old.changes change ≡ None = sym c.get.ensures.value ∙ ap option_copied c.in_default.is in
-    changes_more old new change number refl refl c.in_ok-number.ensures.grows (grows_not old.afters.entries old.afters.entries refl)
+    changes_more old new change number refl refl c.in_ok-number.ensures.keeps (grows_not old.afters.entries old.afters.entries refl)
     (c.in_ok-insert.ensures.entries ∙ insert_entry-new change_eq.it old.changes change number absent) c.requires.changes is
 
 pub returns-clause-there : goal.returns-clause-there
-returns-clause-there c = λ before asked after at entry.
+returns-clause-there c = λ words holders asked after at entry.
     let node = c.args.node in
     let next = c.args.next in
     let comes : c.index.result.now ≡ after =
     same_Some c.index.result.now after (sym c.index.ensures ∙ value_at c.args.self.now.afters.entries c.args.place asked after entry) in
     let deeds : c.deref-2.result.now ≡ after.deeds.items = c.deref-2.ensures.value ∙ ap (λ (a : After). a.deeds.items) comes in
     subst
-    (λ ds. IsSharedAt c.changed.new.all.keys c.in_ok-number.number (words_then next before.memory.items)
-    (freed ds (holders_then node next before.holders.items))) deeds (c.in_ok-number.ensures.there before at)
+    (λ ds. IsSharedAt c.changed.new.all c.in_ok-number.number (words_then next words) (freed ds (holders_then node next holders))) deeds
+    (c.in_ok-number.ensures.there words holders at)
