@@ -50,7 +50,7 @@ item_other (y ∷ ys) zero (suc j) x apart = refl
 item_other (y ∷ ys) (suc k) zero x apart = refl
 item_other (y ∷ ys) (suc k) (suc j) x apart = item_other ys k j x (λ e. apart (ap suc e))
 
-length-words : (next : Next) (words : List ℕ) → length (words_then next words) ≡ length words
+pub length-words : (next : Next) (words : List ℕ) → length (words_then next words) ≡ length words
 length-words (Writes word value) words = length-set words word value
 length-words _ words = refl
 
@@ -148,7 +148,7 @@ module _ (means : Means) (table : Table) (row : Row) (key : Noted) (node value n
   abbrev kept : Spot
   kept = forgot means.live.now settled.spot
 
-  as_many : length (freed settled.deeds.items (holders_then node (next_in means.flat spot) key.state.holders.items)) ≡ length key.state.holders.items
+  pub as_many : length (freed settled.deeds.items (holders_then node (next_in means.flat spot) key.state.holders.items)) ≡ length key.state.holders.items
   as_many =
       length-freed settled.deeds.items (holders_then node (next_in means.flat spot) key.state.holders.items)
       ∙ length-holders node (next_in means.flat spot) key.state.holders.items

@@ -1,5 +1,5 @@
 -- What is shared, where nothing of it changes, and what was noted of changes.
-use Rattle.std.proofs.Common.{◌≡◌, ℕ, List, [], ◌∷◌, Bool, true, false, refl, sym, ◌∙◌, ap}
+use Rattle.std.proofs.Common.{◌≡◌, ℕ, List, [], ◌∷◌, Bool, true, false, refl, sym, subst, ◌∙◌, ap}
 use Rattle.std.specs.Prelude.{◌||◌, Option, Some, slice_get}
 use Rattle.std.specs.List.{list_any}
 use Rattle.std.proofs.lemmas.Bool.{true≢false}
@@ -31,6 +31,11 @@ words_still : (next : Next) (words : List ℕ) → is_change next ≡ false → 
 words_still (Writes word value) words e = absurd (true≢false e)
 words_still (Acquires lock) words e = refl
 words_still _ words e = refl
+
+-- what is not written stays
+pub words_unwritten : (next : Next) (words : List ℕ) → ((word value : ℕ) → next ≡ Writes word value → ⊥) → words_then next words ≡ words
+words_unwritten (Writes word value) words other = absurd (other word value refl)
+words_unwritten _ words other = refl
 
 holders_still : (node : ℕ) (next : Next) (holders : List (Option ℕ)) → is_change next ≡ false → holders_then node next holders ≡ holders
 holders_still node (Writes word value) holders e = refl

@@ -145,7 +145,8 @@ impl Rows {
     {
         let state = noted.state;
         let threads = threads_of(&mut self.threads, &state.spots)?;
-        let shared = self.shared.number_of(&state.memory, state.holders)?;
+        let holders = state.holders;
+        let shared = self.shared.number_of(&state.memory, holders)?;
         let notes = self.notes.add(&noted.notes)?;
         let (place, added) = self.put(Row {
             threads,

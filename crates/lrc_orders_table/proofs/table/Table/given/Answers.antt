@@ -16,6 +16,11 @@ pub returns-in-Reads : goal.returns-in-Reads
 returns-in-Reads c = λ words holders at.
     ap (λ n. Some n) (c.word.ensures words holders at) ∙ ap (λ n. given n words holders) (sym c.in-Reads.is ∙ c.next.ensures.at)
 
+pub returns-in-Acquires : goal.returns-in-Acquires
+returns-in-Acquires c = λ words holders at.
+    ap (λ b. if◌then◌else◌ {A = Option ℕ} b (Some 0) None) (sym c.if-is_free.true ∙ c.is_free.ensures words holders at)
+    ∙ ap (λ n. given n words holders) (sym c.in-Acquires.is ∙ c.next.ensures.at)
+
 pub returns-in_default : goal.returns-in_default
 returns-in_default c = λ words holders at.
     ap (λ b. if◌then◌else◌ {A = Option ℕ} b (Some 0) None) (sym c.if-is_free.false ∙ c.is_free.ensures words holders at)

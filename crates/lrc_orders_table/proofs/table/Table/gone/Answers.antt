@@ -15,7 +15,7 @@ use Rattle.lrc_orders_table.specs.Tables.{IsRowOf, IsTable, KeepsRows}
 use Rattle.lrc_orders_table.proofs.Acting.{fits_here, has_gone, me_at}
 use Rattle.lrc_orders_table.proofs.Entries.{value_at}
 use Rattle.lrc_orders_table.proofs.Linking.{notes_grown}
-use Rattle.lrc_orders_table.proofs.Keeping.{keeps_notes, keeps_shared, table_notes, table_shared}
+use Rattle.lrc_orders_table.proofs.Keeping.{keeps_again, keeps_notes, keeps_shared, table_notes, table_shared}
 use Rattle.lrc_orders_table.proofs.RowNodes.{next_here, next_there, node_at, node_there}
 use Rattle.lrc_orders_table.proofs.table.Table.gone.Goals as goal
 
@@ -119,6 +119,19 @@ returns-clause-table c =
     let s = c.in_ok-shared.ensures in
     let n = c.in_ok-notes.ensures in
     table_notes means two last (table_shared means one two c.in_ok-place.ensures.table s.others s.distinct s.keeps s.changes) n.others n.sound n.grows
+
+pub returns-clause-keeps : goal.returns-clause-keeps
+returns-clause-keeps c =
+    let means = c.args.means.now in
+    let one = c.after.new.self in
+    let two = c.shared_after.new.self in
+    let last = c.notes.new.self in
+    let e = c.in_ok-place.ensures in
+    let s = c.in_ok-shared.ensures in
+    let n = c.in_ok-notes.ensures in
+    let known = table_shared means one two e.table s.others s.distinct s.keeps s.changes in
+    keeps_again e.keeps
+    (keeps_again (keeps_shared means one two e.table s.others s.distinct s.keeps) (keeps_notes means two last known n.others n.sound n.grows))
 
 pub returns-clause-gone : goal.returns-clause-gone
 returns-clause-gone c = λ key of.
