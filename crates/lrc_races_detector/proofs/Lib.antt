@@ -6,13 +6,13 @@ pub mod Gathering
 pub mod Handing
 pub mod Holding
 pub mod Giving
+pub mod Pairs
+pub mod Placing
 pub mod Noting
 pub mod Telling
 pub mod Covering
 pub mod Written
 pub mod Collecting
-pub mod Pairs
-pub mod Placing
 pub mod Firsts
 pub mod Waiting
 pub mod Finding

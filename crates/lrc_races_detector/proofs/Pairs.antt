@@ -1,5 +1,5 @@
 -- Lists in order, put together and taken apart.
-use Rattle.std.proofs.Common.{◌≡◌, ℕ, ◌+◌, ◌-◌, ◌<◌, List, ◌++◌, length, get_or, inl, inr, refl, arith, length-append}
+use Rattle.std.proofs.Common.{◌≡◌, ℕ, ◌+◌, ◌-◌, ◌<◌, List, ◌++◌, length, get_or, inl, inr, refl, subst, ◌∙◌, arith, length-append}
 use Rattle.std.specs.Prelude.{AllPairs, Contains}
 use Rattle.std.proofs.lemmas.Bool.{cases_lt}
 use Rattle.std.proofs.lemmas.List.{get_or_append_left, get_or-append_right, get_or-append-add, get_or_default}
@@ -41,3 +41,11 @@ pairs-right R xs ys all i j d lt within =
     let long = length-append xs ys in
     let at : (k : ℕ) → get_or (xs ++ ys) (length xs + k) d ≡ get_or ys k d = λ k. get_or-append-add xs ys k d in
     rw (← at i, ← at j) (all (length xs + i) (length xs + j) d (omega arith) (omega arith))
+
+-- and what is in the first comes before what is in the second
+pub pairs-cross : {X : Type 0} (R : X → X → Type 0) (xs ys : List X) (p q : X) → AllPairs R (xs ++ ys) → Contains xs p → Contains ys q → R p q
+pairs-cross R xs ys p q all (i, i_lt, i_is) (j, j_lt, j_is) =
+    let long = length-append xs ys in
+    let left : get_or (xs ++ ys) i p ≡ p = get_or_append_left xs ys p i i_lt ∙ i_is in
+    let right : get_or (xs ++ ys) (length xs + j) p ≡ q = get_or-append-add xs ys j p ∙ get_or_default ys j p q j_lt ∙ j_is in
+    subst (λ b. R p b) right (subst (λ a. R a (get_or (xs ++ ys) (length xs + j) p)) left (all i (length xs + j) p (omega arith) (omega arith)))

@@ -22,3 +22,13 @@ slice_get-push_old (x ∷ xs) y (suc k) h = slice_get-push_old xs y k (omega ari
 pub slice_get-push_new : {X : Type 0} (xs : List X) (y : X) → slice_get (xs ++ y ∷ []) (length xs) ≡ Some y
 slice_get-push_new [] y = refl
 slice_get-push_new (x ∷ xs) y = slice_get-push_new xs y
+
+pub slice_get-append : {X : Type 0} (xs ys : List X) (k : ℕ) → k < length xs → slice_get (xs ++ ys) k ≡ slice_get xs k
+slice_get-append [] ys k h = absurd (omega arith)
+slice_get-append (x ∷ xs) ys zero h = refl
+slice_get-append (x ∷ xs) ys (suc k) h = slice_get-append xs ys k (omega arith)
+
+pub within_some : {X : Type 0} (xs : List X) (i : ℕ) (x : X) → slice_get xs i ≡ Some x → i < length xs
+within_some [] i x e = let never : ⊥ = cc in absurd never
+within_some (y ∷ ys) zero x e = omega arith
+within_some (y ∷ ys) (suc i) x e = let lt = within_some ys i x e in omega arith

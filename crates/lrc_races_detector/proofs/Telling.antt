@@ -1,11 +1,11 @@
 -- The pairs that are told of an access.
-use Rattle.std.proofs.Common.{◌≡◌, ◌≢◌, ℕ, zero, suc, ◌+◌, ◌<◌, ◌≤◌, List, [], ◌∷◌, ◌++◌, length, get_or, inl, inr, refl, sym, subst, ◌∙◌, ap, arith, add-one}
-use Rattle.std.specs.Prelude.{◌↔◌, ◌==◌, nat_lt, Option, Some, None, Bool, true, false, if◌then◌else◌, AllPairs, Contains, option_to_list}
+use Rattle.std.proofs.Common.{◌≡◌, ◌≢◌, ℕ, zero, suc, ◌+◌, ◌<◌, ◌≤◌, List, [], ◌∷◌, ◌++◌, length, get_or, take, inl, inr, refl, sym, subst, ◌∙◌, ap, ap₂, arith, add-one}
+use Rattle.std.specs.Prelude.{◌↔◌, ◌==◌, nat_lt, Option, Some, None, Bool, true, false, if◌then◌else◌, AllPairs, Contains, option_to_list, slice_get}
 use Rattle.std.proofs.lemmas.Bool.{cases_eq, cases_lt, lt-ltb, eq-eqb, ne_eqb}
 use Rattle.std.proofs.lemmas.List.Elements.{Contains-push, Contains-push_cases, Contains-append_left}
 use Rattle.std.proofs.lemmas.List.Quantifiers.{all_pairs_push}
 use Rattle.std.proofs.lemmas.Option.{slice_get-get_or}
-use Rattle.std.proofs.lemmas.List.{append-nil, get_or_default}
+use Rattle.std.proofs.lemmas.List.{append-nil, get_or_default, length_push, take_more}
 use Rattle.lrc_races_trace.specs.declared.event.Event.{Event}
 use Rattle.lrc_races_trace.specs.declared.event.Pair.{Pair}
 use Rattle.lrc_races_trace.specs.declared.event.Placed.{Placed}
@@ -20,14 +20,47 @@ use Rattle.lrc_races_detector.specs.Covers.{operation_of}
 use Rattle.lrc_races_detector.specs.Variables.{thread_of, told_with, told_one, told_at, told_below}
 use Rattle.lrc_races_detector.specs.Knowing.{Gathers, IsLastAt, IsLastOf, IsLast, IsRow, AccessOf, WriteOf}
 use Rattle.lrc_races_detector.proofs.Gathering.{Gathers-one}
+use Rattle.lrc_races_detector.specs.declared.places.Place.{Place}
+use Rattle.lrc_races_detector.specs.Placed.{row_in}
 use Rattle.lrc_races_detector.proofs.Pairs.{contained_at}
+use Rattle.lrc_races_detector.proofs.Placing.{row-append}
+use Rattle.lrc_races_detector.proofs.Pushing.{slice_get-append, slice_get-push_new}
 
 -- ---- the list, as a program makes it
 
-pub told-next : (lasts : List Last) (known : List ℕ) (later : Placed) (w : Bool) (i : ℕ) (d : Last) (r : Option Pair) → i < length lasts
-    → r ≡ told_one (get_or lasts i d) known later w
-    → told_below lasts known later w (i + 1) ≡ told_below lasts known later w i ++ option_to_list r
-told-next lasts known later w i d r lt e = rw (add-one, slice_get-get_or lasts i d lt, ← e) refl
+told-prefix : (xs ys : List Last) (known : List ℕ) (later : Placed) (w : Bool) (i : ℕ) → i ≤ length xs
+    → told_below (xs ++ ys) known later w i ≡ told_below xs known later w i
+told-prefix xs ys known later w zero le = refl
+told-prefix xs ys known later w (suc i) le =
+    ap₂ (λ (ps : List Pair) (o : Option Last). ps ++ option_to_list (told_at o known later w)) (told-prefix xs ys known later w i (omega arith))
+    (slice_get-append xs ys i (omega arith))
+
+told-push : (xs : List Last) (x : Last) (known : List ℕ) (later : Placed) (w : Bool)
+    → told_below (xs ++ x ∷ []) known later w (length (xs ++ x ∷ [])) ≡ told_below xs known later w (length xs) ++ option_to_list (told_one x known later w)
+told-push xs x known later w =
+    ap (λ n. told_below (xs ++ x ∷ []) known later w n) (length_push xs x ∙ add-one (length xs))
+    ∙ ap₂ (λ (ps : List Pair) (o : Option Last). ps ++ option_to_list (told_at o known later w)) (told-prefix xs (x ∷ []) known later w (length xs) (omega arith))
+    (slice_get-push_new xs x)
+
+told-with : (xs : List Last) (o : Option Last) (known : List ℕ) (later : Placed) (w : Bool)
+    → told_below (xs ++ (option_to_list o ++ [])) known later w (length (xs ++ (option_to_list o ++ [])))
+    ≡ told_below xs known later w (length xs) ++ option_to_list (told_at o known later w)
+told-with xs (Some x) known later w = told-push xs x known later w
+told-with xs None known later w =
+    ap (λ (ys : List Last). told_below ys known later w (length ys)) (append-nil xs) ∙ sym (append-nil (told_below xs known later w (length xs)))
+
+-- the pairs with the entry at one place more
+pub told-next : (lasts : List Last) (order : List Place) (known : List ℕ) (later : Placed) (w : Bool) (i : ℕ) (d : Place) (r : Option Pair)
+    → i < length order → r ≡ told_at (slice_get lasts (get_or order i d).index) known later w
+    → told_below (row_in lasts (take (i + 1) order)) known later w (length (row_in lasts (take (i + 1) order)))
+    ≡ told_below (row_in lasts (take i order)) known later w (length (row_in lasts (take i order))) ++ option_to_list r
+told-next lasts order known later w i d r lt e =
+    let row = row_in lasts (take i order) in
+    let one = slice_get lasts (get_or order i d).index in
+    let more : row_in lasts (take (i + 1) order) ≡ row ++ (option_to_list one ++ []) =
+    ap (row_in lasts) (take_more order i d lt) ∙ row-append lasts (take i order) (get_or order i d ∷ []) in
+    ap (λ (ys : List Last). told_below ys known later w (length ys)) more ∙ told-with row one known later w
+    ∙ ap (λ o. told_below row known later w (length row) ++ option_to_list o) (sym e)
 
 -- ---- pairs
 

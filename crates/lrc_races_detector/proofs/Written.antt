@@ -1,11 +1,11 @@
 -- A read tells nothing of a variable that nobody has written.
-use Rattle.std.proofs.Common.{◌≡◌, ℕ, zero, suc, ◌<◌, List, [], ◌∷◌, ◌++◌, length, set, refl, ◌∙◌, ap, ap₂, arith}
-use Rattle.std.specs.Prelude.{◌==◌, if◌then◌else◌, ◌||◌, Bool, true, false, Option, None, Some, insert, option_to_list, slice_get, slice_index}
+use Rattle.std.proofs.Common.{◌≡◌, ℕ, zero, suc, List, [], ◌∷◌, ◌++◌, refl, sym, ◌∙◌, ap, ap₂}
+use Rattle.std.specs.Prelude.{◌==◌, if◌then◌else◌, ◌||◌, Bool, true, false, Option, None, Some, option_to_list, slice_get, slice_index}
 use Rattle.std.proofs.lemmas.Bool.{or_parts}
 use Rattle.lrc_races_trace.specs.declared.event.Pair.{Pair}
 use Rattle.lrc_races_trace.specs.declared.event.Placed.{Placed}
 use Rattle.lrc_races_detector.specs.declared.variables.Last.{Last}
-use Rattle.lrc_races_detector.specs.Variables.{noted, thread_of, told_at, told_below, told_one, told_with}
+use Rattle.lrc_races_detector.specs.Variables.{noted, thread_of, told_at, told_below, told_one, told_with, IsNotedAt}
 use Rattle.lrc_races_detector.specs.Written.{any_written, is_written}
 
 unwritten : (o : Option Placed) → is_written o ≡ false → o ≡ None
@@ -61,28 +61,42 @@ written_first : (placed : Placed) (w : Bool) → is_written (noted None placed w
 written_first placed true = refl
 written_first placed false = refl
 
-pub written_set : (lasts : List Last) (at : ℕ) (last : Last) (placed : Placed) (w : Bool) → slice_get lasts at ≡ Some last
-    → any_written (set lasts at (noted (Some last) placed w)) ≡ (any_written lasts || w)
-written_set [] at last placed w is = let never : ⊥ = cc in absurd never
-written_set (x ∷ xs) zero last placed w is =
-    let same : last ≡ x = cc in
-    ap (λ b. b || any_written xs) (written_again last placed w ∙ ap (λ (l : Last). is_written l.write || w) same)
-    ∙ or_past (is_written x.write) (any_written xs) w
-written_set (x ∷ xs) (suc at) last placed w is =
-    ap (λ b. is_written x.write || b) (written_set xs at last placed w is) ∙ or_swap (is_written x.write) (any_written xs) w
+any-append : (xs ys : List Last) → any_written (xs ++ ys) ≡ (any_written xs || any_written ys)
+any-append [] ys = refl
+any-append (x ∷ xs) ys = ap (λ b. is_written x.write || b) (any-append xs ys) ∙ or_swap (is_written x.write) (any_written xs) (any_written ys)
 
-pub written_put : (lasts : List Last) (at : ℕ) (placed : Placed) (w : Bool) → at < suc (length lasts)
-    → any_written (insert lasts at (noted None placed w)) ≡ (any_written lasts || w)
-written_put lasts zero placed w within = ap (λ b. b || any_written lasts) (written_first placed w) ∙ or_turned w (any_written lasts)
+noted_more : (front back : List Last) (old : Option Last) (placed : Placed) (w : Bool)
+    → any_written (front ++ noted old placed w ∷ back) ≡ (any_written (front ++ (option_to_list old ++ back)) || w)
+noted_more front back (Some x) placed w =
+    any-append front (noted (Some x) placed w ∷ back)
+    ∙ ap (λ b. any_written front || (b || any_written back)) (written_again x placed w)
+    ∙ or_behind (any_written front) (is_written x.write) (any_written back) w
+    ∙ ap (λ b. b || w) (sym (any-append front (x ∷ back)))
+  where
+    or_behind : (f a b w : Bool) → (f || ((a || w) || b)) ≡ ((f || (a || b)) || w)
+    or_behind true a b w = refl
+    or_behind false a b w = or_past a b w
+noted_more front back None placed w =
+    any-append front (noted None placed w ∷ back)
+    ∙ ap (λ b. any_written front || (b || any_written back)) (written_first placed w)
+    ∙ or_between (any_written front) (any_written back) w
+    ∙ ap (λ b. b || w) (sym (any-append front back))
   where
     or_turned : (a b : Bool) → (a || b) ≡ (b || a)
     or_turned true true = refl
     or_turned true false = refl
     or_turned false true = refl
     or_turned false false = refl
-written_put [] (suc at) placed w within = absurd (omega arith)
-written_put (x ∷ xs) (suc at) placed w within =
-    ap (λ b. is_written x.write || b) (written_put xs at placed w (omega arith)) ∙ or_swap (is_written x.write) (any_written xs) w
+
+    or_between : (f b w : Bool) → (f || (w || b)) ≡ ((f || b) || w)
+    or_between true b w = refl
+    or_between false b w = or_turned w b
+
+-- noted at its place, it is written where it was or this is a write
+pub written_noted : (before after : List Last) (placed : Placed) (w : Bool) → IsNotedAt before after placed w
+    → any_written after ≡ (any_written before || w)
+written_noted before after placed w is =
+    ap any_written is.is ∙ noted_more is.front is.back is.old placed w ∙ ap (λ xs. any_written xs || w) (sym is.was)
 
 -- ---- where a write may be
 
@@ -90,13 +104,12 @@ pub seen_true : (a : Bool) → (a || true) ≡ true
 seen_true true = refl
 seen_true false = refl
 
-pub seen_more : (a written w : Bool) → (a || written) ≡ written → ((a || w) || (written || w)) ≡ (written || w)
-seen_more true true w e = refl
-seen_more true false w e = let never : ⊥ = cc in absurd never
-seen_more false true true e = refl
-seen_more false true false e = refl
-seen_more false false true e = refl
-seen_more false false false e = refl
+pub seen_now : (was is w : Bool) → is ≡ (was || w) → was ≡ false → (is || w) ≡ w
+seen_now was is w e none = ap (λ b. b || w) (e ∙ ap (λ b. b || w) none) ∙ or_twice w
+  where
+    or_twice : (b : Bool) → (b || b) ≡ b
+    or_twice true = refl
+    or_twice false = refl
 
 pub seen_none : (a written : Bool) → (a || written) ≡ written → written ≡ false → a ≡ false
 seen_none true true e none = none

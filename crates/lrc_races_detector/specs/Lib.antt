@@ -3,6 +3,7 @@ pub mod Vectors
 pub mod Within
 pub mod Clocks
 pub mod Barriers
+pub mod Placed
 pub mod Variables
 pub mod Written
 pub mod Covers

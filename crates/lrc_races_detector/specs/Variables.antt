@@ -1,21 +1,23 @@
 -- What is kept of variables, what changes there, and what is told by it.
-use Rattle.std.specs.Prelude.{◌≡◌, ◌≢◌, ℕ, zero, suc, ◌<◌, ◌≤◌, ◌==◌, nat_lt, Bool, if◌then◌else◌, List, []}
-use Rattle.std.specs.Prelude.{◌∷◌, ◌++◌, length, Option, Some, None, AllPairs, Contains, option_to_list, slice_get, slice_index, slice_index_or}
+use Rattle.std.specs.Prelude.{◌≡◌, ◌≢◌, ℕ, zero, suc, ◌<◌, ◌==◌, nat_lt, Bool, if◌then◌else◌, List, []}
+use Rattle.std.specs.Prelude.{◌∷◌, ◌++◌, Option, Some, None, AllPairs, Contains, option_to_list, slice_get, slice_index}
 use Rattle.lrc_races_trace.specs.declared.event.Pair.{Pair}
 use Rattle.lrc_races_trace.specs.declared.event.Placed.{Placed}
 use Rattle.lrc_races_detector.specs.declared.accesses.Accesses.{Accesses}
 use Rattle.lrc_races_detector.specs.declared.variables.Last.{Last}
 use Rattle.lrc_races_detector.specs.declared.variables.Variables.{Variables}
-
-abbrev pub thread_of : Last → ℕ
-thread_of last = last.access.event.thread
+pub use Rattle.lrc_races_detector.specs.Placed.{thread_of}
+use Rattle.lrc_races_detector.specs.Placed.{row_in}
 
 -- a row has one entry for each thread that accesses the variable, ascending by thread
 abbrev pub IsAscending : List Last → Type 0
 IsAscending lasts = AllPairs (λ a b. thread_of a < thread_of b) lasts
 
+abbrev pub row_of : Accesses → List Last
+row_of accesses = row_in accesses.lasts.items accesses.order.items
+
 abbrev pub items_of : Option Accesses → List Last
-items_of (Some row) = row.lasts.items
+items_of (Some row) = row_of row
 items_of None = []
 
 abbrev pub lasts_of : Variables → ℕ → List Last
@@ -67,9 +69,3 @@ abbrev pub told_below : List Last → List ℕ → Placed → Bool → ℕ → L
 told_below lasts known later is_write zero = []
 told_below lasts known later is_write (suc i) = told_below lasts known later is_write i
     ++ option_to_list (told_at (slice_get lasts i) known later is_write)
-
--- where a thread has its entry in a row, or is to have it
-pub record IsPlace (lasts : List Last) (thread at : ℕ) : Type 0 where
-  pub within : at ≤ length lasts
-  pub below : (k : ℕ) (d : Last) → k < at → thread_of (slice_index_or lasts k d) < thread
-  pub reached : (d : Last) → at < length lasts → thread ≤ thread_of (slice_index_or lasts at d)

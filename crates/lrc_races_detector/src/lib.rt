@@ -3,8 +3,8 @@
 //!
 //! It uses vectors that say what is known of each thread. It has one for each thread, for each lock, and for the open
 //! cycle of each barrier, and one for each thread of a closed cycle. For each variable and each thread that accesses
-//! it, it stores the last access and the last write, ascending by thread. Of a variable whose accesses all happen before
-//! its last one it looks at that alone. So memory grows with threads, locks and
+//! it, it stores the last access and the last write, in the order of the first accesses, and beside them where they stand,
+//! ascending by thread. Of a variable whose accesses all happen before its last one it looks at that alone. So memory grows with threads, locks and
 //! barriers, and with the threads of each variable, but not with the length of the trace. Vectors share what they know
 //! alike: of a thread that another forks and joins, that thread's vector has few entries of its own.
 //!
@@ -21,6 +21,7 @@ pub mod detector;
 pub mod fault_finder;
 pub mod groups;
 mod held;
+pub mod places;
 mod threads;
 pub mod trace;
 pub mod variables;

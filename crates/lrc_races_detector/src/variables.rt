@@ -1,11 +1,13 @@
 // The last accesses of variables.
-ghost use Rattle.std.specs.Prelude.{◌≡◌, ◌≢◌, ℕ, ◌<◌, ◌≤◌, [], ◌++◌, ◌||◌, OnOk, false, length};
+ghost use Rattle.std.specs.Prelude.{◌≡◌, ℕ, ◌<◌, [], ◌++◌, OnOk, false, length, slice_get};
 ghost use Rattle.std.specs.Bool.{OnFalse};
-ghost use Rattle.lrc_races_detector.specs.Variables.{lasts_of, noted, told_one, told_below, IsAscending, IsNoted, IsRowNoted, IsPlace};
+ghost use Rattle.lrc_races_detector.specs.Placed.{row_in};
+ghost use Rattle.lrc_races_detector.specs.Variables.{lasts_of, noted, told_at, told_one, told_below, IsNoted};
 ghost use Rattle.lrc_races_detector.specs.Vectors.{entries};
 ghost use Rattle.lrc_races_detector.specs.Written.{any_written};
 
 use crate::accesses::Accesses;
+use crate::places::Place;
 use crate::vectors::Known;
 use lrc_races_trace::event::{Pair, Placed};
 use std::alloc::{AllocError, Global};
@@ -37,36 +39,46 @@ fn told_one(last: &Last, known: Known<'_>, later: Placed, is_write: bool) -> Opt
     Some(Pair { earlier, later })
 }
 
-// Adds to `told` the pairs of an access with these last accesses of its variable, if `known` is what the access's thread
-// knows. It fails if memory runs out.
+// The pair with the last access that stands at a place.
+fn told_at(
+    lasts: &[Last],
+    place: Place,
+    known: Known<'_>,
+    later: Placed,
+    is_write: bool,
+) -> Option<Pair>
+    ensures { result ≡ told_at (slice_get lasts.now place.index) (entries known.entry) later is_write }
+{
+    match lasts.get(place.index as usize) {
+        Some(last) => told_one(last, known, later, is_write),
+        None => None,
+    }
+}
+
+// Adds to `told` the pairs of an access with these last accesses of its variable, in this order, if `known` is what the
+// access's thread knows. It fails if memory runs out.
 fn tell_all(
     lasts: &[Last],
+    order: &[Place],
     known: Known<'_>,
     later: Placed,
     is_write: bool,
     told: &mut Vec<Pair>,
 ) -> Result<(), AllocError>
-    ensures { OnOk result (told.new.items
-        ≡ told.old.items ++ told_below lasts.now (entries known.entry) later is_write (length lasts.now)) }
+    ensures { OnOk result (told.new.items ≡ told.old.items
+        ++ told_below (row_in lasts.now order.now) (entries known.entry) later is_write
+        (length (row_in lasts.now order.now))) }
 {
-    for last in lasts {
-        if let Some(pair) = told_one(last, known, later, is_write) {
+    for place in order {
+        if let Some(pair) = told_at(lasts, *place, known, later, is_write) {
             told.push(pair)?;
         }
     }
     Ok(())
 }
 
-// Where the thread has its entry, or is to have it: behind all lower threads.
-fn place_of(lasts: &[Last], thread: u32) -> usize
-    ensures within { result ≤ length lasts.now }
-    ensures place { IsAscending lasts.now → IsPlace lasts.now thread result }
-{
-    lasts.partition_point(|last| last.access.event.thread < thread)
-}
-
-// The entry of a thread, with an access more.
-fn noted(old: Option<Last>, placed: Placed, is_write: bool) -> Last
+/// The entry of a thread, with an access more.
+pub(crate) fn noted(old: Option<Last>, placed: Placed, is_write: bool) -> Last
     ensures { result ≡ noted old placed is_write }
 {
     let write = if is_write {
@@ -81,29 +93,6 @@ fn noted(old: Option<Last>, placed: Placed, is_write: bool) -> Last
         access: placed,
         write,
     }
-}
-
-// Notes an access among the last ones of its variable.
-pub(crate) fn note_last(
-    lasts: &mut Vec<Last>,
-    placed: Placed,
-    is_write: bool,
-) -> Result<(), AllocError>
-    ensures noted { OnOk result (IsRowNoted lasts.old.items lasts.new.items placed is_write) }
-    ensures written { OnOk result (any_written lasts.new.items
-        ≡ (any_written lasts.old.items || is_write)) }
-{
-    let thread = placed.event.thread;
-    let at = place_of(lasts.as_slice(), thread);
-    if at < lasts.len() {
-        let last = lasts[at];
-        if last.access.event.thread == thread {
-            lasts[at] = noted(Some(last), placed, is_write);
-            return Ok(());
-        }
-    }
-    lasts.insert(at, noted(None, placed, is_write))?;
-    Ok(())
 }
 
 /// All variables.
@@ -122,16 +111,6 @@ impl Variables {
         }
     }
 
-    /// Returns the last accesses of the variable, ascending by thread.
-    pub fn lasts(&self, variable: usize) -> &[Last]
-        ensures { result.now ≡ lasts_of self.now variable }
-    {
-        match self.rows.get(variable) {
-            Some(row) => row.lasts.as_slice(),
-            None => &[],
-        }
-    }
-
     // Whether a thread may have written the variable.
     fn is_written(&self, variable: usize) -> bool
         ensures { OnFalse result (any_written (lasts_of self.now variable) ≡ false) }
@@ -139,6 +118,28 @@ impl Variables {
         match self.rows.get(variable) {
             Some(row) => row.written,
             None => false,
+        }
+    }
+
+    // Adds to `told` the pairs of an access with the last accesses of the variable.
+    fn tell_row(
+        &self,
+        variable: usize,
+        known: Known<'_>,
+        later: Placed,
+        is_write: bool,
+        told: &mut Vec<Pair>,
+    ) -> Result<(), AllocError>
+        ensures { OnOk result (told.new.items
+            ≡ told.old.items ++ told_below (lasts_of self.now variable) (entries known.entry) later
+            is_write (length (lasts_of self.now variable))) }
+    {
+        match self.rows.get(variable) {
+            Some(row) => {
+                let lasts = row.lasts.as_slice();
+                tell_all(lasts, row.order.as_slice(), known, later, is_write, told)
+            }
+            None => Ok(()),
         }
     }
 
@@ -157,7 +158,7 @@ impl Variables {
             is_write (length (lasts_of self.now variable))) }
     {
         if is_write || self.is_written(variable) {
-            return tell_all(self.lasts(variable), known, later, is_write, told);
+            return self.tell_row(variable, known, later, is_write, told);
         }
         Ok(())
     }
