@@ -77,5 +77,5 @@ returns-in_err-or_too_long-clause-faults c =
     let e = c.in_ok-steps.ensures in
     let fault = c.in_err-or_too_long.field-0.0 in
     let cut = subst (AreSteps task new.table.rows c.args.place) c.in_err-or_too_long.ensures.1 e.steps in
-    fault_up c.from_residual.result fault (IsFault task) c.from_residual.ensures.1
+    fault_up c.from_residual-in_err-or_too_long.result fault (IsFault task) c.from_residual-in_err-or_too_long.ensures.1
     (record { nodes = λ is. let x : TooMany ≡ BadNodes = sym c.in_err-or_too_long.ensures.0 ∙ is in cc; many = λ is. long_at task new c.args.place e.found cut.0 })

@@ -120,7 +120,7 @@ returns-in_err-next-clause-long c =
 pub returns-in_err-advance-clause-long : goal.returns-in_err-advance-clause-long
 returns-in_err-advance-clause-long c =
     let task = c.args.task.now in
-    fault_up c.from_residual-2.result c.in_err-advance.field-0.0 (λ fault. fault ≡ TooMany → IsCutLess task c.args.self.now c.advance.new.self)
-    c.from_residual-2.ensures.1 (λ is.
+    fault_up c.from_residual-in_err-advance.result c.in_err-advance.field-0.0 (λ fault. fault ≡ TooMany → IsCutLess task c.args.self.now c.advance.new.self)
+    c.from_residual-in_err-advance.ensures.1 (λ is.
     let l = c.in_err-advance.ensures.long is in
     record { less = l.less; widens = widens_again c.in_ok-next.ensures.widens l.widens; long = l.long })
