@@ -1,4 +1,4 @@
-use Rattle.std.proofs.Common.{ap, length, refl, subst}
+use Rattle.std.proofs.Common.{ap, length, subst}
 use Rattle.std.specs.Prelude.{Option, MatchOption}
 use Rattle.lrc_orders_table.specs.declared.table.Led.{Led}
 use Rattle.lrc_explore.specs.Reached.{CannotTakeAt, LeadsTo}
@@ -69,16 +69,16 @@ returns-clause-trapless c = λ no calm.
 -- ---- where some node computes too long
 
 pub returns-in-Err-TooMany-clause-found : goal.returns-in-Err-TooMany-clause-found
-returns-in-Err-TooMany-clause-found c = (c.in-Err-TooMany.ensures.long refl).found
+returns-in-Err-TooMany-clause-found c = (c.in-Err-TooMany.ensures.long c.in-Err-TooMany.field-0-is).found
 
 pub returns-in-Err-TooMany-clause-more : goal.returns-in-Err-TooMany-clause-more
-returns-in-Err-TooMany-clause-more c = (c.in-Err-TooMany.ensures.long refl).more
+returns-in-Err-TooMany-clause-more c = (c.in-Err-TooMany.ensures.long c.in-Err-TooMany.field-0-is).more
 
 pub returns-in-Err-TooMany-clause-stepped : goal.returns-in-Err-TooMany-clause-stepped
-returns-in-Err-TooMany-clause-stepped c = (c.in-Err-TooMany.ensures.long refl).long
+returns-in-Err-TooMany-clause-stepped c = (c.in-Err-TooMany.ensures.long c.in-Err-TooMany.field-0-is).long
 
 pub returns-in-Err-TooMany-clause-trapless : goal.returns-in-Err-TooMany-clause-trapless
 returns-in-Err-TooMany-clause-trapless c = λ no.
-    let l = c.in-Err-TooMany.ensures.long refl in
+    let l = c.in-Err-TooMany.ensures.long c.in-Err-TooMany.field-0-is in
     trapless_same c.args.task.now c.args.self.now.table.rows c.row_after.new.self.table.rows c.requires.found.reached l.keeps.widens
     (ap (λ l. length l) l.keeps.rows)

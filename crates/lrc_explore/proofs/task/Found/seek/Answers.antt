@@ -2,7 +2,7 @@ use Rattle.std.proofs.Common.{◌+◌, ◌<◌, sym, subst, arith}
 use Rattle.std.specs.Prelude.{None}
 use Rattle.lrc_orders_table.specs.Rows.{row_count}
 use Rattle.lrc_explore.specs.Answers.{IsVisit}
-use Rattle.lrc_explore.specs.Cut.{is_longer}
+use Rattle.lrc_explore.specs.Cut.{are_more, is_longer}
 use Rattle.lrc_explore.specs.Met.{IsTrapMet, VisitKeeps}
 use Rattle.lrc_explore.specs.Traps.{first_trap}
 use Rattle.lrc_explore.proofs.Keys.{more_again, within_more}
@@ -15,6 +15,9 @@ loop-place-init c = (
       (seeking_first c.args.task.now c.args.self.now c.args.races c.args.start c.requires.found c.requires.start c.requires.trapless),
   λ le. omega (arith, le),
 )
+
+pub end_from-requires-clause-cut : goal.end_from-requires-clause-cut
+end_from-requires-clause-cut c = are_more (omega (arith, c.if-len-task.true, c.len-in-loop-place.ensures.len))
 
 pub end_from-requires-clause-traps : goal.end_from-requires-clause-traps
 end_from-requires-clause-traps c =

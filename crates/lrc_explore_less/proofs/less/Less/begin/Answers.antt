@@ -1,4 +1,4 @@
-use Rattle.std.proofs.Common.{refl, arith}
+use Rattle.std.proofs.Common.{arith}
 use Rattle.lrc_explore_less.proofs.Steps.{begun_first, begun_on, has_begun}
 use Rattle.lrc_explore_less.proofs.less.Less.begin.Goals as goal
 
@@ -21,10 +21,10 @@ pub returns-in-Err-TooMany-clause-begun : goal.returns-in-Err-TooMany-clause-beg
 returns-in-Err-TooMany-clause-begun c =
     let task = c.args.task.now in
     let e = c.in_ok-traps.ensures in
-    begun_on task _ _ (c.in-Err-TooMany.ensures.long refl).widens (has_begun task _ c.in_ok-traps.traps e.start e.traps c.start_trap-self.ensures)
+    begun_on task _ _ (c.in-Err-TooMany.ensures.long c.in-Err-TooMany.field-0-is).widens (has_begun task _ c.in_ok-traps.traps e.start e.traps c.start_trap-self.ensures)
 
 pub returns-in-Err-TooMany-clause-less : goal.returns-in-Err-TooMany-clause-less
-returns-in-Err-TooMany-clause-less c = (c.in-Err-TooMany.ensures.long refl).less
+returns-in-Err-TooMany-clause-less c = (c.in-Err-TooMany.ensures.long c.in-Err-TooMany.field-0-is).less
 
 pub returns-in-Err-TooMany-clause-long : goal.returns-in-Err-TooMany-clause-long
-returns-in-Err-TooMany-clause-long c = λ is. (c.in-Err-TooMany.ensures.long refl).long
+returns-in-Err-TooMany-clause-long c = λ is. (c.in-Err-TooMany.ensures.long c.in-Err-TooMany.field-0-is).long

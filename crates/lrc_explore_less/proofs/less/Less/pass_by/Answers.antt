@@ -1,4 +1,4 @@
-use Rattle.std.proofs.Common.{◌∙◌, refl, sym, subst, arith}
+use Rattle.std.proofs.Common.{◌∙◌, sym, subst, arith}
 use Rattle.lrc_orders_settling.specs.declared.step.Step.TheVariants.{Alone}
 use Rattle.lrc_orders_table.specs.Rows.{row_count}
 use Rattle.lrc_explore_less.specs.Passing.{HasPassed, IsTaken}
@@ -46,8 +46,8 @@ returns-clause-on c = λ is.
 
 pub returns-in-Err-TooMany-clause-passed : goal.returns-in-Err-TooMany-clause-passed
 returns-in-Err-TooMany-clause-passed c =
-    let l = c.in-Err-TooMany.ensures.long refl in
+    let l = c.in-Err-TooMany.ensures.long c.in-Err-TooMany.field-0-is in
     (still_passing c.args.task.now c.args.self.now c.take.new.self c.args.first c.requires.passing l.sound l.widens l.opens l.rows, (c.args.last, l.long))
 
 pub returns-in-Err-TooMany-clause-widens : goal.returns-in-Err-TooMany-clause-widens
-returns-in-Err-TooMany-clause-widens c = (c.in-Err-TooMany.ensures.long refl).widens
+returns-in-Err-TooMany-clause-widens c = (c.in-Err-TooMany.ensures.long c.in-Err-TooMany.field-0-is).widens

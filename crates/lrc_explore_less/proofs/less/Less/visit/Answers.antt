@@ -1,4 +1,3 @@
-use Rattle.std.proofs.Common.{refl}
 use Rattle.lrc_orders_table.proofs.RowLaws.{row_grown}
 use Rattle.lrc_explore.proofs.MeansOf.{means_are, means_of}
 use Rattle.lrc_explore.proofs.Stepping.{key_at, known_at, row_at, row_of}
@@ -50,10 +49,10 @@ returns-in-Ok-clause-visit c =
     }
 
 pub returns-in-Err-TooMany-clause-less : goal.returns-in-Err-TooMany-clause-less
-returns-in-Err-TooMany-clause-less c = (c.in-Err-TooMany.ensures.long refl).less
+returns-in-Err-TooMany-clause-less c = (c.in-Err-TooMany.ensures.long c.in-Err-TooMany.field-0-is).less
 
 pub returns-in-Err-TooMany-clause-widens : goal.returns-in-Err-TooMany-clause-widens
-returns-in-Err-TooMany-clause-widens c = (c.in-Err-TooMany.ensures.long refl).widens
+returns-in-Err-TooMany-clause-widens c = (c.in-Err-TooMany.ensures.long c.in-Err-TooMany.field-0-is).widens
 
 pub returns-in-Err-TooMany-clause-visit : goal.returns-in-Err-TooMany-clause-visit
-returns-in-Err-TooMany-clause-visit c = (c.in-Err-TooMany.ensures.long refl).long
+returns-in-Err-TooMany-clause-visit c = (c.in-Err-TooMany.ensures.long c.in-Err-TooMany.field-0-is).long
