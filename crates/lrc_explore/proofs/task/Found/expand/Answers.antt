@@ -41,9 +41,9 @@ loop-node-preserved c =
     let new = c.expand_step-in-loop-node.new.self.table.rows in
     let place = c.args.place in
     let node = c.loop-node.node in
-    let alone = c.in-Past-alone.alone in
+    let alone = c.in-Past-2.alone in
     let e = c.in_ok-alone.ensures in
-    let s = subst (IsStepped task new place (Alone node)) c.in-Past-alone.is e.stepped in
+    let s = subst (IsStepped task new place (Alone node)) c.in-Past-2.is e.stepped in
     let full = i.found.reached.full place (within_more task first old place c.requires.found i.more c.requires.within) in
     record {
       found = e.found;
@@ -51,12 +51,12 @@ loop-node-preserved c =
       all = after_at_grown task old.table.rows new place Together e.more.rows full i.all;
       each = each_more task old.table.rows new place node e.more.rows full i.each s.0;
       trap =
-          subst (IsTrapAmong task new place (node + 1)) (sym c.first_step-trap-in-loop-node.ensures)
+          subst (IsTrapAmong task new place (node + 1)) (sym c.first_step-trap-in-Past-2.ensures)
           (among_on task old.table.rows new place node c.loop-node.trap alone e.more.rows full i.trap s.1);
       trapless =
-          subst (λ t. KeepsTrapless task first.table.rows new (is_some t)) (sym c.first_step-trap-in-loop-node.ensures)
+          subst (λ t. KeepsTrapless task first.table.rows new (is_some t)) (sym c.first_step-trap-in-Past-2.ensures)
           (keeps_on task first.table.rows old.table.rows new c.loop-node.trap alone (Alone node) i.trapless
-          (subst (λ s. KeepsTrapless task old.table.rows new (traps_in s)) c.in-Past-alone.is e.trapless));
+          (subst (λ s. KeepsTrapless task old.table.rows new (traps_in s)) c.in-Past-2.is e.trapless));
     }
 
 pub returns-clause-steps : goal.returns-clause-steps
@@ -80,11 +80,11 @@ returns-in-Long-clause-trapless c =
     subst (λ s. KeepsTrapless c.args.task.now c.args.self.now.table.rows c.expand_step.new.self.table.rows (traps_in s)) c.in-Long.is
     c.in_ok-together.ensures.trapless
 
-pub returns-in-Long-alone-clause-more : goal.returns-in-Long-alone-clause-more
-returns-in-Long-alone-clause-more c = more_again c.loop-node.invariant.more c.in_ok-alone.ensures.more
+pub returns-in-Long-2-clause-more : goal.returns-in-Long-2-clause-more
+returns-in-Long-2-clause-more c = more_again c.loop-node.invariant.more c.in_ok-alone.ensures.more
 
-pub returns-in-Long-alone-clause-steps : goal.returns-in-Long-alone-clause-steps
-returns-in-Long-alone-clause-steps c =
+pub returns-in-Long-2-clause-steps : goal.returns-in-Long-2-clause-steps
+returns-in-Long-2-clause-steps c =
     let i = c.loop-node.invariant in
     let task = c.args.task.now in
     let old = c.loop-node.self in
@@ -92,13 +92,13 @@ returns-in-Long-alone-clause-steps c =
     let place = c.args.place in
     let e = c.in_ok-alone.ensures in
     let full = i.found.reached.full place (within_more task c.args.self.now old place c.requires.found i.more c.requires.within) in (
-      subst (IsStepped task new place (Alone c.loop-node.node)) c.in-Long-alone.is e.stepped,
+      subst (IsStepped task new place (Alone c.loop-node.node)) c.in-Long-2.is e.stepped,
       among_named task old.table.rows new place c.loop-node.node c.loop-node.trap e.more.rows full i.trap,
     )
 
-pub returns-in-Long-alone-clause-trapless : goal.returns-in-Long-alone-clause-trapless
-returns-in-Long-alone-clause-trapless c = λ none calm.
+pub returns-in-Long-2-clause-trapless : goal.returns-in-Long-2-clause-trapless
+returns-in-Long-2-clause-trapless c = λ none calm.
     let old = c.loop-node.self.table.rows in
     let new = c.expand_step-in-loop-node.new.self.table.rows in
-    subst (λ s. KeepsTrapless c.args.task.now old new (traps_in s)) c.in-Long-alone.is c.in_ok-alone.ensures.trapless refl
+    subst (λ s. KeepsTrapless c.args.task.now old new (traps_in s)) c.in-Long-2.is c.in_ok-alone.ensures.trapless refl
     (c.loop-node.invariant.trapless none calm)
