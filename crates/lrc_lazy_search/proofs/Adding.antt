@@ -1,6 +1,6 @@
 -- States that are found from others, and put to those that were found before.
-use Rattle.std.proofs.Common.{◌≡◌, ℕ, zero, suc, ◌+◌, ◌<◌, ◌≤◌, ◌^◌, List, [], ◌∷◌, ◌++◌, length, Result, Ok, Err, IfOk, Bool, false, inl, inr, refl, sym, subst, ◌∙◌, ap, arith, replicate}
-use Rattle.std.specs.Prelude.{Option, Some, None, if◌then◌else◌, slice_get, slice_index}
+use Rattle.std.proofs.Common.{◌≡◌, ℕ, zero, suc, ◌+◌, ◌<◌, ◌≤◌, ◌^◌, List, [], ◌∷◌, ◌++◌, length, Result, Ok, Err, IfOk, false, inl, inr, refl, sym, subst, ◌∙◌, ap, arith, replicate}
+use Rattle.std.specs.Prelude.{Option, Some, None, slice_get, slice_index}
 use Rattle.std.specs.List.{IsDistinct}
 use Rattle.std.proofs.lemmas.Bool.{cases_lt, cases_eq}
 use Rattle.std.proofs.lemmas.Option.{same_Some}
@@ -9,7 +9,7 @@ use Rattle.lrc_program.specs.declared.Program.{Program}
 use Rattle.lrc_trace.specs.declared.act.Act.{Act}
 use Rattle.lrc_trace.specs.declared.act.Deed.{Deed}
 use Rattle.lrc_trace.specs.Run.{act_of}
-use Rattle.lrc_trace.proofs.Positions.{Does-last, slice_get-seam}
+use Rattle.lrc_trace.proofs.Positions.{Does-last}
 use Rattle.lrc_exec.specs.declared.spot.Flat.{Flat}
 use Rattle.lrc_exec.specs.Plain.{Plain}
 use Rattle.lrc_consistency_laws.proofs.UpToRace.{in_range}
@@ -20,7 +20,7 @@ use Rattle.lrc_orders.specs.Notes.{notes_of, notes_with}
 use Rattle.lrc_orders.specs.Outcome.{HasOutcome}
 use Rattle.lrc_orders.proofs.Counting.{step_counts}
 use Rattle.lrc_orders.proofs.Gathering.{put_all}
-use Rattle.lrc_orders.proofs.Keeping.{stands_on as stays, put_grows, item_at}
+use Rattle.lrc_orders.proofs.Keeping.{stands_on as stays, item_at}
 use Rattle.lrc_orders.proofs.Noting.{notes_more}
 use Rattle.lrc_lazy_known.specs.Effect.{word_of, IsKnowledgeAfter}
 use Rattle.lrc_lazy_search.specs.declared.state.LazyState.{LazyState}
@@ -289,3 +289,16 @@ searched_more flat old new outcomes more place g h within before here k key lt a
           subst (IsSearched flat new more) same
           (searched_on flat old new outcomes more stood.0 g h (before k stood.0 (omega (arith, lt, other)) stood.1))
     ]
+
+pub grows_long : {A : Type 0} {old new : List A} → Grows old new → length old ≤ length new
+grows_long {old = old} g = let long = ap length g.is ∙ length-append old g.more in omega (arith, long)
+
+-- ---- no states, and the first of some
+
+pub no_items : {A : Type 0} (xs : List A) → length xs ≡ 0 → xs ≡ []
+no_items [] e = refl
+no_items (x ∷ xs) e = absurd (omega (arith, e))
+
+pub first_item : {A : Type 0} (xs : List A) → 0 < length xs → (x : A) × (slice_get xs 0 ≡ Some x)
+first_item [] lt = absurd (omega (arith, lt))
+first_item (x ∷ xs) lt = (x, refl)

@@ -1,10 +1,10 @@
 -- Rows to which others are added: each stays where it is, and stands for one state, and no two stand for equal ones.
-use Rattle.std.proofs.Common.{◌≡◌, ℕ, zero, suc, ◌+◌, ◌<◌, ◌≤◌, List, [], ◌∷◌, ◌++◌, Bool, true, false, inl, inr, length, refl, sym, subst, ◌∙◌, ap, arith, replicate}
+use Rattle.std.proofs.Common.{◌≡◌, ℕ, zero, suc, ◌+◌, ◌<◌, List, [], ◌∷◌, Bool, true, false, inl, inr, length, refl, sym, subst, ◌∙◌, ap, arith}
 use Rattle.std.specs.Prelude.{Option, Some, None, nat_eq, slice_get, slice_index}
 use Rattle.std.specs.List.{IsDistinct, AllByRecursion}
 use Rattle.std.specs.Option.{option_eq}
 use Rattle.std.proofs.lemmas.Bool.{and_parts, cases_lt, eqb-true}
-use Rattle.std.proofs.lemmas.List.{ext_get_or, length-append, append-nil}
+use Rattle.std.proofs.lemmas.List.{ext_get_or}
 use Rattle.std.proofs.lemmas.Option.{same_Some, slice_get_within}
 use lib.Pointwise.{pointwise}
 use mathlib.Core.Bool.{beq}
@@ -16,14 +16,13 @@ use Rattle.lrc_trace.specs.declared.act.Deed.TheVariants.{Quiet, Print, Read, Wr
 use Rattle.lrc_trace.specs.contracts.act.CausePartialEq.TheImpl.{eq-value as cause_eq}
 use Rattle.lrc_trace.specs.contracts.act.DeedPartialEq.TheImpl.{eq-value as deed_eq}
 use Rattle.lrc_trace.specs.contracts.act.ActPartialEq.TheImpl.{eq-value as act_eq}
-use Rattle.lrc_trace.proofs.Positions.{slice_get-front, slice_get-seam}
 use Rattle.lrc_exec.specs.declared.spot.Flat.{Flat}
 use Rattle.lrc_exec.specs.declared.spot.Spot.{Spot}
 use Rattle.lrc_exec.specs.contracts.spot.SpotPartialEq.TheImpl.{eq-value as spot_eq}
 use Rattle.lrc_exec.specs.contracts.state.StatePartialEq.TheImpl.{eq-value as state_eq}
-use Rattle.lrc_orders.specs.Kept.{Grows, IsAddedAt}
+use Rattle.lrc_orders.specs.Kept.{Grows}
 use Rattle.lrc_orders.proofs.Alike.{acts_same}
-use Rattle.lrc_orders.proofs.Keeping.{grows_again, grows_not, item_at, stands_on}
+use Rattle.lrc_orders.proofs.Keeping.{item_at, stands_on}
 use Rattle.lrc_orders.proofs.KeptAlike.{both_true, equal_items, nat_itself, one_place}
 use Rattle.lrc_orders.proofs.Same.{option_same, pointwise_same, spot_same}
 use Rattle.lrc_orders.proofs.Widening.{apart_in, not_true}
@@ -46,9 +45,8 @@ use Rattle.lrc_lazy_search.specs.contracts.parts.NotesPartialEq.TheImpl.{eq-valu
 use Rattle.lrc_lazy_search.specs.contracts.found.RowPartialEq.TheImpl.{eq-value as row_eq}
 use Rattle.lrc_lazy_search.specs.contracts.state.LazyStatePartialEq.TheImpl.{eq-value}
 use Rattle.lrc_lazy_search.specs.Found.{AreDistinct, AreFound, IsFoundAt, StandsFor, Widens, found_count}
-use Rattle.lrc_lazy_search.specs.Parts.{AreNotesAt, AreThreadsAt, IsAlikeAt, IsCommonAt}
-use Rattle.lrc_lazy_search.specs.Searching.{IsNeat}
-use Rattle.lrc_lazy_search.proofs.Same.{Alike, known_same}
+use Rattle.lrc_lazy_search.specs.Parts.{AreThreadsAt, IsAlikeAt, IsCommonAt}
+use Rattle.lrc_lazy_search.proofs.Same.{known_same}
 
 -- ---- growth
 

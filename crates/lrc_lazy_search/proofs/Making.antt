@@ -270,13 +270,13 @@ module _ (flat : Flat) (key : LazyState) (fit : IsFit flat key) (node : ℕ) whe
 
   -- so it is told by whether there is a next deed
   pub is_some_can : (found : Option Deed) → found ≡ next → is_some found ≡ true → CanAct flat key
-  is_some_can None is yes = cc
-  is_some_can (Some deed) is yes = some_can deed (sym is)
+  is_some_can None is there = cc
+  is_some_can (Some deed) is there = some_can deed (sym is)
 
   pub is_none_can : (found : Option Deed) → found ≡ next → is_some found ≡ false → (d : Deed)
       → CanMake flat.words (plain_at flat key.state) key.knowledge node d → ⊥
-  is_none_can None is no d can = none_can (sym is) d can
-  is_none_can (Some deed) is no d can = cc
+  is_none_can None is none d can = none_can (sym is) d can
+  is_none_can (Some deed) is none d can = cc
 
 pub poked_long : (d : Deed) (memory : List ℕ) → length (poked d memory) ≡ length memory
 poked_long (Read w v) memory = length-set memory w v

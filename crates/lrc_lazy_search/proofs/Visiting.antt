@@ -1,8 +1,8 @@
 -- States that are put to those that were found, and visits of those that wait.
-use Rattle.std.proofs.Common.{◌≡◌, ◌⊎◌, ℕ, zero, suc, ◌+◌, ◌<◌, ◌≤◌, ◌^◌, List, [], ◌∷◌, ◌++◌, Bool, true, false, inl, inr, length, refl, sym, subst, ◌∙◌, ap, arith, append_assoc, Result, Ok, Err, OnOk}
-use Rattle.std.specs.Prelude.{◌↔◌, MatchOption, Option, Some, None, slice_get, slice_index, if◌then◌else◌}
+use Rattle.std.proofs.Common.{◌≡◌, ◌⊎◌, ℕ, zero, suc, ◌+◌, ◌<◌, ◌≤◌, List, [], ◌∷◌, ◌++◌, Bool, true, false, inl, inr, length, refl, sym, subst, ◌∙◌, ap, arith, append_assoc, Result, Ok, Err, OnOk}
+use Rattle.std.specs.Prelude.{◌↔◌, MatchOption, Option, Some, None, slice_get, if◌then◌else◌}
 use Rattle.std.proofs.lemmas.List.{append-nil, length-append, nil_from_length}
-use Rattle.std.proofs.lemmas.Option.{same_Some, slice_get_within}
+use Rattle.std.proofs.lemmas.Option.{same_Some}
 use Rattle.lrc_trace.proofs.Positions.{slice_get-seam}
 use Rattle.lrc_trace.specs.declared.act.Act.{Act}
 use Rattle.lrc_exec.specs.declared.spot.Flat.{Flat}
@@ -145,6 +145,7 @@ adds_more flat old mid new taken state a b = record {
         first : IsOneOf (state ∷ []) key → IsOneOf (state ∷ taken) key
         first (zero, e) = (zero, e)
         first (suc j, e) = cc
+
     there : (keys : List LazyState) → AreFound flat old.found keys → AreThere ((keys ++ a.more) ++ b.more) (state ∷ taken)
     there keys are zero x e = b.there (keys ++ a.more) (a.found keys are) zero x e
     there keys are (suc k) x e = key_on (record { more = b.more; is = refl }) (a.there keys are k x e)
@@ -290,6 +291,7 @@ module _ (task : Task) (old : Searched) (state : LazyState) (waiting : List Lazy
       at_end (z ∷ xs) ys P front last (suc k) x here =
           at_end xs ys (λ n. P (suc n)) (λ n y there. front (suc n) y there)
           (λ n y there. subst (λ m. P m y) (omega arith) (last n y there)) k x here
+
       all_reached : AreReached task.program.now task.flat (keys ++ more)
       all_reached = at_end keys more (λ k x. IsReached task.program.now task.flat x k) order.reached
           (λ k x here. reached_more (omega arith) (reached k x here))

@@ -1,5 +1,5 @@
 -- The number by which what the nodes share is looked up.
-use Rattle.std.specs.Prelude.{◌≡◌, ℕ, ◌*◌, ◌%◌, ◌^◌, List, [], ◌∷◌, Bool, true, false, bit_xor, fold, length, nat_eq}
+use Rattle.std.specs.Prelude.{◌≡◌, ℕ, ◌*◌, ◌%◌, ◌^◌, List, [], ◌∷◌, Bool, true, bit_xor, fold, length, nat_eq}
 use Rattle.std.specs.Option.{option_eq}
 use Rattle.std.proofs.Common.{suc, refl, sym, ap, ◌∙◌}
 use Rattle.std.proofs.lemmas.Bool.{and_parts, eqb-true, true≢false}

@@ -117,10 +117,7 @@ pub(crate) fn common_of(alloc: Global, state: &LazyState) -> Result<Common, Allo
 }
 
 /// Returns the number of what is shared: its own, where it came before, and else the next. It fails if memory runs out.
-pub(crate) fn common_number(
-    all: &mut IndexSet<Common>,
-    common: Common,
-) -> Result<u32, AllocError>
+pub(crate) fn common_number(all: &mut IndexSet<Common>, common: Common) -> Result<u32, AllocError>
     ensures grows { OnOk result (Grows all.old.keys all.new.keys) }
     ensures distinct { OnOk result (AreCommonsDistinct all.new.keys) }
     ensures there { IfOk result (λ number. IsAlikeAt all.new.keys number common) }

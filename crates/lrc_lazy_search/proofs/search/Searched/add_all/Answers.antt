@@ -1,5 +1,4 @@
-use Rattle.std.proofs.Common.{[], arith, length}
-use Rattle.lrc_lazy_search.proofs.Visiting.{item_of, take_one, taken_all, taken_none}
+use Rattle.lrc_lazy_search.proofs.Visiting.{item_of, take_one, taken_none}
 use Rattle.lrc_lazy_search.proofs.search.Searched.add_all.Goals as goal
 
 pub loop-state-init : goal.loop-state-init

@@ -4,7 +4,7 @@ use Rattle.lrc_orders.specs.Kept.{Grows}
 use Rattle.lrc_orders.specs.Outcome.{HasOutcome}
 use Rattle.lrc_lazy_search.specs.Found.{found_count}
 use Rattle.lrc_lazy_search.specs.Searching.{AreSound}
-use Rattle.lrc_lazy_search.proofs.Adding.{reached_more, reached_next, searched_next, searched_still}
+use Rattle.lrc_lazy_search.proofs.Adding.{reached_more, reached_next}
 use Rattle.lrc_lazy_search.proofs.Searched.{outcome_there, reached_fit}
 use Rattle.lrc_lazy_search.proofs.Visiting.{always_ok, both_ok, even_adds, its_long, its_reached, visited_ending, visited_going}
 use Rattle.lrc_lazy_search.proofs.search.Searched.visit.Goals as goal
@@ -92,9 +92,9 @@ returns-else-can_act-clause-at c =
     let e = c.take_outcome.ensures in
     let new = c.take_outcome.new.self in
     ok_says c.take_outcome.result
-    (λ (is : Grows all.outcomes.keys new.outcomes.keys × AreSound task.program.now task.flat new.outcomes.keys × HasOutcome new.outcomes.keys key.notes.items).
-    visited_ending task all key all.waiting.items c.requires.at new e.found (ap (λ w. w.items) e.waiting) is.0 is.1
-    (c.can_act.ensures.still c.if-can_act.false) is.2)
+    (λ (is : Grows all.outcomes.keys new.outcomes.keys × (AreSound task.program.now task.flat new.outcomes.keys × HasOutcome new.outcomes.keys key.notes.items)).
+    visited_ending task all key all.waiting.items c.requires.at new e.found (ap (λ w. w.items) e.waiting) is.0 is.1.0
+    (c.can_act.ensures.still c.if-can_act.false) is.1.1)
     (both_ok _ _ c.take_outcome.result e.more (both_ok _ _ c.take_outcome.result e.sound e.has))
 
 pub returns-else-can_act-clause-even : goal.returns-else-can_act-clause-even
