@@ -1,9 +1,9 @@
 -- The number by which what the nodes share is looked up.
-use Rattle.std.specs.Prelude.{◌≡◌, ℕ, ◌*◌, ◌%◌, ◌^◌, List, [], ◌∷◌, Bool, true, bit_xor, fold, length, nat_eq}
+use Rattle.std.specs.Prelude.{◌≡◌, ℕ, ◌*◌, ◌%◌, ◌^◌, List, [], ◌∷◌, Bool, true, bit_xor, fold, nat_eq}
 use Rattle.std.specs.Option.{option_eq}
-use Rattle.std.proofs.Common.{suc, refl, sym, ap, ◌∙◌}
+use Rattle.std.proofs.Common.{refl, sym, ap, ◌∙◌}
 use Rattle.std.proofs.lemmas.Bool.{and_parts, eqb-true, true≢false}
-use lib.Pointwise.{pointwise}
+use lib.Pointwise.{pointwise, bytes_decides}
 use mathlib.Core.Bool.{beq}
 use Rattle.std.specs.Hash.{u64}
 use Rattle.lrc_lazy_known.specs.declared.known.Last.{Last}
@@ -27,9 +27,12 @@ mark Nothing = 0
 mark (Value v) = v
 mark Unordered = 1
 
--- what one knows, what is known of a word, and what the nodes share, mixed in
+-- values, what one knows, what is known of a word, and what the nodes share, mixed in
+abbrev pub mixed_values : ℕ → List ℕ → ℕ
+mixed_values all values = fold mix all values
+
 abbrev pub mixed_known : ℕ → Known → ℕ
-mixed_known all known = mix (mix all (length known.values.value.items)) (mark known.last)
+mixed_known all known = mix (mixed_values all known.values.value.items) (mark known.last)
 
 abbrev pub mixed_word : ℕ → KnownWord → ℕ
 mixed_word all word = fold mixed_known all word.knowers.items
@@ -48,12 +51,6 @@ fold_same E f same n (x ∷ xs) (y ∷ ys) e =
     let p = and_parts (E x y) (pointwise E xs ys) e in
     fold_same E f same (f n x) xs ys p.1 ∙ ap (λ m. fold f m ys) (same n x y p.0)
 
-length_same : (xs ys : List ℕ) → pointwise nat_eq xs ys ≡ true → length xs ≡ length ys
-length_same [] [] e = refl
-length_same [] (y ∷ ys) e = absurd (true≢false (sym e))
-length_same (x ∷ xs) [] e = absurd (true≢false (sym e))
-length_same (x ∷ xs) (y ∷ ys) e = ap suc (length_same xs ys (and_parts (nat_eq x y) (pointwise nat_eq xs ys) e).1)
-
 mark_same : (a b : Last) → last_eq.it a b ≡ true → mark a ≡ mark b
 mark_same Nothing Nothing e = refl
 mark_same (Value v) (Value w) e = eqb-true v w e
@@ -64,8 +61,8 @@ known_same : (n : ℕ) (a b : Known) → known_eq.it a b ≡ true → mixed_know
 known_same n a b e =
     let p = and_parts (last_eq.it a.last b.last) _ e in
     let q = and_parts (pointwise nat_eq a.values.value.items b.values.value.items) (pointwise beq a.above.items b.above.items) p.1 in
-    ap (λ k. mix (mix n k) (mark a.last)) (length_same a.values.value.items b.values.value.items q.0)
-    ∙ ap (λ k. mix (mix n (length b.values.value.items)) k) (mark_same a.last b.last p.0)
+    ap (λ values. mix (mixed_values n values) (mark a.last)) ((bytes_decides a.values.value.items b.values.value.items).0 q.0)
+    ∙ ap (λ k. mix (mixed_values n b.values.value.items) k) (mark_same a.last b.last p.0)
 
 word_same : (n : ℕ) (a b : KnownWord) → word_eq.it a b ≡ true → mixed_word n a ≡ mixed_word n b
 word_same n a b e = fold_same known_eq.it mixed_known known_same n a.knowers.items b.knowers.items e

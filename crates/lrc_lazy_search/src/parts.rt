@@ -5,7 +5,7 @@ ghost use Rattle.lrc_orders.specs.Kept.{AreSpotsDistinct, Grows};
 ghost use Rattle.lrc_lazy_known.specs.Effect.{word_of};
 ghost use Rattle.lrc_lazy_known.specs.Tidy.{IsTidy};
 ghost use Rattle.lrc_lazy_known.specs.Word.{IsSame};
-ghost use Rattle.lrc_lazy_search.specs.CommonHash.{mark, mix, mixed, mixed_known, mixed_word};
+ghost use Rattle.lrc_lazy_search.specs.CommonHash.{mark, mix, mixed, mixed_known, mixed_values, mixed_word};
 ghost use Rattle.lrc_lazy_search.specs.Parts.{AreCommonsDistinct, AreNotesAt, AreNotesDistinct, AreThreadsAt, IsAlikeAt};
 
 use crate::state::LazyState;
@@ -25,8 +25,7 @@ pub(crate) struct Common {
     knowledge: Knowledge,
 }
 
-// It is hashed as one number, in which of each list of values the length alone is mixed: where many values are known,
-// nearly all time would go into them.
+// It is hashed as one number.
 impl Hash for Common {
     ghost use Rattle.std.specs.Hash.{u64};
     ghost use Rattle.lrc_lazy_search.specs.CommonHash.{mixed, respects};
@@ -67,12 +66,24 @@ fn mixed_word(all: u64, word: &KnownWord) -> u64
     mixed
 }
 
-// A number with what one knows mixed in: the last write, and how many values there are.
+// A number with what one knows mixed in: the values, and the last write.
 fn mixed_known(all: u64, known: &Known) -> u64
     ensures { result ≡ mixed_known all known.now }
 {
-    let count = known.values.as_ref().len() as u64;
-    mix(mix(all, count), mark(known.last))
+    let values = mixed_values(all, known.values.as_ref().as_slice());
+    mix(values, mark(known.last))
+}
+
+// A number with values mixed in.
+#[tactic(auto, using(std::proofs::lemmas::List::Sums::fold_more))]
+fn mixed_values(all: u64, values: &[u64]) -> u64
+    ensures { result ≡ mixed_values all values.now }
+{
+    let mut mixed = all;
+    for value in values {
+        mixed = mix(mixed, *value);
+    }
+    mixed
 }
 
 // A number for the last of the known writes.
