@@ -1,6 +1,6 @@
 -- States that are found from others, and put to those that were found before.
-use Rattle.std.proofs.Common.{◌≡◌, ℕ, zero, suc, ◌+◌, ◌<◌, ◌≤◌, ◌^◌, List, [], ◌∷◌, ◌++◌, length, Result, Ok, Err, IfOk, Bool, false, inl, inr, refl, sym, subst, ◌∙◌, ap, arith, replicate}
-use Rattle.std.specs.Prelude.{Option, Some, None, if◌then◌else◌, slice_get, slice_index}
+use Rattle.std.proofs.Common.{◌≡◌, ℕ, zero, suc, ◌+◌, ◌<◌, ◌≤◌, ◌^◌, List, [], ◌∷◌, ◌++◌, length, Result, Ok, Err, IfOk, false, inl, inr, refl, sym, subst, ◌∙◌, ap, arith, replicate}
+use Rattle.std.specs.Prelude.{Option, Some, None, slice_get, slice_index}
 use Rattle.std.specs.List.{IsDistinct}
 use Rattle.std.proofs.lemmas.Bool.{cases_lt, cases_eq}
 use Rattle.std.proofs.lemmas.Option.{same_Some}
@@ -9,7 +9,7 @@ use Rattle.lrc_program.specs.declared.Program.{Program}
 use Rattle.lrc_trace.specs.declared.act.Act.{Act}
 use Rattle.lrc_trace.specs.declared.act.Deed.{Deed}
 use Rattle.lrc_trace.specs.Run.{act_of}
-use Rattle.lrc_trace.proofs.Positions.{Does-last, slice_get-seam}
+use Rattle.lrc_trace.proofs.Positions.{Does-last}
 use Rattle.lrc_exec.specs.declared.spot.Flat.{Flat}
 use Rattle.lrc_exec.specs.Plain.{Plain}
 use Rattle.lrc_consistency_laws.proofs.UpToRace.{in_range}
@@ -20,14 +20,14 @@ use Rattle.lrc_orders.specs.Notes.{notes_of, notes_with}
 use Rattle.lrc_orders.specs.Outcome.{HasOutcome}
 use Rattle.lrc_orders.proofs.Counting.{step_counts}
 use Rattle.lrc_orders.proofs.Gathering.{put_all}
-use Rattle.lrc_orders.proofs.Keeping.{stands_on as stays, put_grows, item_at}
+use Rattle.lrc_orders.proofs.Keeping.{stands_on as stays, item_at}
 use Rattle.lrc_orders.proofs.Noting.{notes_more}
 use Rattle.lrc_lazy_known.specs.Effect.{word_of, IsKnowledgeAfter}
 use Rattle.lrc_lazy_search.specs.declared.state.LazyState.{LazyState}
 use Rattle.lrc_lazy_search.specs.declared.search.Task.{Task}
 use Rattle.lrc_lazy_search.specs.contracts.state.LazyStatePartialEq.TheImpl.{eq-value}
 use Rattle.lrc_lazy.specs.Standing.{with_memory, IsRenewed, Stands, effect_at}
-use Rattle.lrc_lazy_search.specs.Searching.{Steps, IsFresh, IsAhead, still, onward, renewed, IsNext, AreNext, CanAct, ComesToTurn, CountsNoneGone, HasStep, HasAll, Leads, to_one, to_turn, AreEnough, of_one, of_all, IsNeat, IsReached, HasKey, AreThere}
+use Rattle.lrc_lazy_search.specs.Searching.{Steps, IsFresh, IsAhead, still, onward, renewed, IsNext, AreNext, CanAct, ComesToTurn, CountsNoneGone, HasStep, HasAll, Leads, to_one, to_turn, AreEnough, of_one, of_all, IsNeat, IsReached, HasKey, AreThere, IsOneOf}
 use Rattle.lrc_lazy_search.specs.Searching.{HasNexts, HasEnough, by_one, by_all, IsSearched, AreSearched, IsBegun}
 use Rattle.lrc_lazy_search.specs.Task.{IsTask, IsInOrder}
 use Rattle.lrc_lazy.proofs.Beginning.{stands_first, first_notes}
@@ -169,7 +169,7 @@ first_reached task key is first valid nothing none neat left =
 pub key_on : {old new : List LazyState} {key : LazyState} → Grows old new → HasKey old key → HasKey new key
 key_on g h = record { place = h.place; stored = h.stored; there = stays h.place h.stored g h.there; same = h.same }
 
-begun_on : {program : Program} {flat : Flat} {old new : List LazyState} → Grows old new → IsBegun program flat old → IsBegun program flat new
+pub begun_on : {program : Program} {flat : Flat} {old new : List LazyState} → Grows old new → IsBegun program flat old → IsBegun program flat new
 begun_on g b = record { first = b.first; stands = b.stands; none = b.none; leads = leads_on (λ x has. key_on g has) b.leads }
 
 pub first_room : (task : Task) (key : LazyState) → IsFirst task.flat task.start key.state → (n : ℕ) → slice_index key.state.arrivals.items n < 2 ^ 63
@@ -178,19 +178,28 @@ first_room task key first n =
     let same = ap (λ (m : Plain). slice_index m.arrivals n) first.begun in
     omega (arith, few, same)
 
--- the first state, or one ahead of it, put to none
-pub first_in_order : (task : Task) (old new : List LazyState) (key ahead : LazyState) (b : Bool) → IsTask task → old ≡ []
-    → new ≡ (if b then old else old ++ ahead ∷ []) → IsFirst task.flat task.start key.state → IsStateOf task.flat key.state
+-- one of a single state is that one
+one_alone : (ahead x : LazyState) → IsOneOf (ahead ∷ []) x → ahead ≡ x
+one_alone ahead x (zero, at) = same_Some ahead x at
+one_alone ahead x (suc k, at) = cc
+
+-- what lies ahead of the first state is reached
+pub first_ahead : (task : Task) (key ahead : LazyState) → IsTask task → IsFirst task.flat task.start key.state → IsStateOf task.flat key.state
     → ((word : ℕ) → word_of key.knowledge word ≡ []) → key.notes.items ≡ [] → IsNeat task.flat key → CountsNoneGone task.flat key
-    → IsAhead task.flat key ahead → IsNeat task.flat ahead → CountsNoneGone task.flat ahead → HasKey new ahead → IsDistinct eq-value.it new → IsInOrder task new
-first_in_order task old new key ahead b is none put first valid nothing notes whole counts goes neat left has distinct =
-    let start = first_reached task key is first valid nothing notes whole counts in
-    let reached = reached_ahead task.program.now task.flat is.words is.locks key ahead 0 start goes neat left in
+    → IsAhead task.flat key ahead → IsNeat task.flat ahead → CountsNoneGone task.flat ahead → IsReached task.program.now task.flat ahead 0
+first_ahead task key ahead is first valid nothing notes whole counts goes neat left =
+    reached_ahead task.program.now task.flat is.words is.locks key ahead 0 (first_reached task key is first valid nothing notes whole counts) goes neat left
+
+-- the first state, or one ahead of it, alone
+pub first_in_order : (task : Task) (keys : List LazyState) (key ahead : LazyState) → IsTask task → IsFirst task.flat task.start key.state
+    → ((word : ℕ) → word_of key.knowledge word ≡ []) → key.notes.items ≡ [] → IsAhead task.flat key ahead
+    → ((k : ℕ) (x : LazyState) → slice_get keys k ≡ Some x → IsOneOf (ahead ∷ []) x) → IsReached task.program.now task.flat ahead 0 → HasKey keys ahead
+    → IsDistinct eq-value.it keys → IsInOrder task keys
+first_in_order task keys key ahead is first nothing notes goes from reached has distinct =
     let machine = first.begun ∙ is.begun in
     record {
-      reached = put_all (λ k x. IsReached task.program.now task.flat x k) b old new ahead put
-          (λ k x at. let never : ◌≡◌ {A = Option LazyState} None (Some x) = ap (λ l. slice_get l k) (sym none) ∙ at in cc)
-          (reached_more (omega arith) reached);
+      reached = λ k x at.
+          subst (λ (y : LazyState). IsReached task.program.now task.flat y k) (one_alone ahead x (from k x at)) (reached_more (omega arith) reached);
       begun = record {
         first = key;
         stands = subst (λ (m : Plain). Stands task.program.now task.flat.nodes [] m key.knowledge) (sym machine)
@@ -221,45 +230,6 @@ first_turns task keys key is none first nothing notes turns =
       };
       distinct = none_distinct keys none;
     }
-
--- one state more
-pub more_in_order : (task : Task) (old new : List LazyState) (key : LazyState) (b : Bool) → IsInOrder task old
-    → new ≡ (if b then old else old ++ key ∷ []) → IsReached task.program.now task.flat key (length old) → IsDistinct eq-value.it new → IsInOrder task new
-more_in_order task old new key b order put reached distinct = record {
-  reached = put_all (λ k x. IsReached task.program.now task.flat x k) b old new key put order.reached reached;
-  begun = begun_on (put_grows b old new key put) order.begun;
-  distinct = distinct;
-}
-
--- ---- all of them are there
-
--- those that were taken from the end, and are there
-pub record Taken (keys all left : List LazyState) : Type 0 where
-  pub taken : List LazyState
-  pub is : all ≡ left ++ taken
-  pub there : AreThere keys taken
-
-behind : (xs ys : List LazyState) (x : LazyState) → (xs ++ x ∷ []) ++ ys ≡ xs ++ x ∷ ys
-behind [] ys x = refl
-behind (z ∷ xs) ys x = ap (λ l. z ∷ l) (behind xs ys x)
-
-pub take_one : (old new all before after : List LazyState) (x : LazyState) → before ≡ after ++ x ∷ [] → Grows old new → HasKey new x
-    → Taken old all before → Taken new all after
-take_one old new all before after x e g has t = record {
-  taken = x ∷ t.taken;
-  is = t.is ∙ ap (λ l. l ++ t.taken) e ∙ behind after t.taken x;
-  there = go;
-}
-  where
-    go : AreThere new (x ∷ t.taken)
-    go zero y at = let same : x ≡ y = same_Some x y at in subst (HasKey new) same has
-    go (suc k) y at = key_on g (t.there k y at)
-
--- the states that are taken from the end are among all
-pub item_of : (keys all before after : List LazyState) (x : LazyState) → before ≡ after ++ x ∷ [] → Taken keys all before
-    → (k : ℕ) × (slice_get all k ≡ Some x)
-item_of keys all before after x e t =
-    (length after, ap (λ l. slice_get l (length after)) (t.is ∙ ap (λ l. l ++ t.taken) e ∙ behind after t.taken x) ∙ slice_get-seam after x t.taken)
 
 -- ---- a state that was searched
 

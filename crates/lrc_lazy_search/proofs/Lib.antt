@@ -6,4 +6,6 @@ pub mod Ahead
 pub mod Fresh
 pub mod Neat
 pub mod Learned
-pub mod Sharing
+pub mod Numbering
+pub mod FoundLaws
+pub mod Visiting

@@ -1,5 +1,6 @@
 -- What a node can do with other words is the same but for what a read gives.
-use Rattle.std.proofs.Common.{◌≡◌, ℕ, ◌<◌, List, [], ◌∷◌, length, map, inl, inr, refl, sym, subst, ◌∙◌, ap, arith, zero, suc}
+use Rattle.std.proofs.Common.{◌≡◌, ℕ, ◌<◌, List, [], ◌∷◌, length, map, inl, inr, refl, sym, subst, ◌∙◌, ap, arith, zero, suc, true, false}
+use Rattle.std.specs.Option.{is_some}
 use Rattle.std.specs.Prelude.{◌↔◌, Option, Some, None, Contains, option_map, slice_get, slice_index, slice_set}
 use Rattle.std.proofs.lemmas.Bool.{cases_lt}
 use Rattle.std.proofs.lemmas.List.{get_or-set_same, length-set, length-map}
@@ -28,7 +29,7 @@ use Rattle.lrc_lazy_search.specs.declared.state.LazyState.{LazyState}
 use Rattle.lrc_lazy.specs.Standing.{with_memory, CanMake}
 use Rattle.lrc_lazy_search.specs.Fit.{IsFit}
 use Rattle.lrc_lazy.specs.Swapped.{IsNoAcquire}
-use Rattle.lrc_lazy_search.specs.Searching.{poked, AreOnce, IsInFront}
+use Rattle.lrc_lazy_search.specs.Searching.{poked, AreOnce, CanAct, IsInFront}
 use Rattle.lrc_lazy.proofs.Coming.{read_stays}
 
 -- the same deed, or reads of one word
@@ -254,6 +255,28 @@ module _ (flat : Flat) (key : LazyState) (fit : IsFit flat key) (node : ℕ) whe
       let g = some_given (last_of word node) (values_of word node) in
       record { deed = Read w g.0; can = read_made flat key fit node w u g.0 s.0 s.1 g.1; free = λ l e. cc }
   front_can deed is free = record { deed = deed; can = one_sound flat key fit node deed is (λ w u e. cc) 0 deed refl; free = free }
+
+  -- a node that is about to do something can do something
+  pub some_can : (deed : Deed) → next ≡ Some deed → CanAct flat key
+  some_can (Read w u) is = let f = front_can (Read w u) is (λ l e. cc) in record { node = node; deed = f.deed; can = f.can }
+  some_can deed is = record { node = node; deed = deed; can = one_sound flat key fit node deed is (λ w u e. cc) 0 deed refl }
+
+  -- and no other
+  pub none_can : next ≡ None → (d : Deed) → CanMake flat.words (plain_at flat key.state) key.knowledge node d → ⊥
+  none_can is d can =
+      let too = made_too (plain_at flat key.state) can.memory key.state.memory.items node d can.after can.made in
+      let never : ◌≡◌ {A = Option Deed} None (Some too.deed) = sym is ∙ ap (option_map (λ (s : Deed × Plain). s.0)) too.made in
+      cc
+
+  -- so it is told by whether there is a next deed
+  pub is_some_can : (found : Option Deed) → found ≡ next → is_some found ≡ true → CanAct flat key
+  is_some_can None is there = cc
+  is_some_can (Some deed) is there = some_can deed (sym is)
+
+  pub is_none_can : (found : Option Deed) → found ≡ next → is_some found ≡ false → (d : Deed)
+      → CanMake flat.words (plain_at flat key.state) key.knowledge node d → ⊥
+  is_none_can None is none d can = none_can (sym is) d can
+  is_none_can (Some deed) is none d can = cc
 
 pub poked_long : (d : Deed) (memory : List ℕ) → length (poked d memory) ≡ length memory
 poked_long (Read w v) memory = length-set memory w v

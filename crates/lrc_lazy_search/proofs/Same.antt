@@ -60,12 +60,12 @@ last_same (Value v) (Value w) e = ap Value (eqb-true v w e)
 last_same Unordered Unordered e = refl
 last_same _ _ e = absurd (true≢false (sym e))
 
-record Alike (a b : Known) : Type 0 where
-  last : a.last ≡ b.last
-  values : a.values.value.items ≡ b.values.value.items
-  above : a.above.items ≡ b.above.items
+pub record Alike (a b : Known) : Type 0 where
+  pub last : a.last ≡ b.last
+  pub values : a.values.value.items ≡ b.values.value.items
+  pub above : a.above.items ≡ b.above.items
 
-known_same : (a b : Known) → known_eq.it a b ≡ true → Alike a b
+pub known_same : (a b : Known) → known_eq.it a b ≡ true → Alike a b
 known_same a b e =
     let p = and_parts (last_eq.it a.last b.last) _ e in
     let q = and_parts (pointwise nat_eq a.values.value.items b.values.value.items) (pointwise beq a.above.items b.above.items) p.1 in

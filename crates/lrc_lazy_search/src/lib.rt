@@ -7,11 +7,13 @@
 //!   node's read.
 //! - It skips storing states for at most 64 such acts in a row, so that a node that computes alone for ever does
 //!   not keep the search from ending.
-//! - States share their lists of values: each list is kept once.
+//! - A state is kept as a row of numbers: what a node is at, what the nodes share and know, and what was noted is kept
+//!   once for all states that have it. Only the states that wait for a visit are kept whole.
 //! - A state counts arrivals from the first barrier that some node has not left. So a loop of barriers has
 //!   finitely many states, if its numbers do not grow without end.
 #![tactic(auto)]
 
-mod lists;
+mod found;
+mod parts;
 pub mod search;
 pub mod state;

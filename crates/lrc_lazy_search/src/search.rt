@@ -8,7 +8,7 @@ ghost use Rattle.lrc_lazy.specs.Lazy.{IsLazyOutcome};
 ghost use Rattle.lrc_lazy_search.specs.Searching.{FitsLazily, MeetsMore};
 ghost use Rattle.lrc_lazy_search.specs.Task.{IsTask};
 
-use crate::lists::shared_state;
+use crate::found::Found;
 use crate::state::{LONG_WAYS, LazyState};
 use indexmap::IndexSet;
 use lrc_exec::code::Code;
@@ -18,7 +18,7 @@ use lrc_orders::outcomes::Outcome;
 use lrc_orders::search::ExploreFault;
 use lrc_program::Program;
 use std::alloc::{AllocError, Global};
-use std::rc::Rc;
+use std::collections::VecDeque;
 
 /// Returns every outcome of the lazy runs of a program on this many nodes, after which no node can make an act. It
 /// fails with `BadNodes` exactly if the number of nodes is not 1 to 16. It gives up with `TooMany` only if lazy runs
@@ -105,35 +105,35 @@ pub(crate) struct Task<'c> {
     most: usize,
 }
 
-// States, each once, in the order in which they were found, and the outcomes of those at which no node can make an act;
-// and the lists of values of the states, each once.
+// The states that were found, as rows, the last of them whole: those that wait for a visit, in this order. And the outcomes
+// of those at which no node can make an act.
 #[derive(Drop)]
 pub(crate) struct Searched {
-    states: IndexSet<LazyState>,
+    found: Found,
+    waiting: VecDeque<LazyState>,
     outcomes: IndexSet<Outcome>,
-    lists: IndexSet<Rc<Vec<u64>>>,
 }
 
 impl Searched {
-    ghost use Rattle.std.specs.Prelude.{◌≡◌, ◌≢◌, ◌↔◌, ◌<◌, ◌≤◌, ◌^◌, ◌-◌, ℕ, List, IfOk, IfErr, OnOk, Some, [], false, true, length, slice_get};
-    ghost use Rattle.std.specs.List.{IsDistinct};
+    ghost use Rattle.std.specs.Prelude.{◌≡◌, ◌≢◌, ◌↔◌, ◌<◌, ◌≤◌, ◌+◌, ◌^◌, ◌∷◌, ℕ, List, IfErr, OnOk, Some, [], length, slice_get};
     ghost use Rattle.lrc_trace.specs.declared.act.Act.{Act as ActType};
+    ghost use Rattle.lrc_exec.specs.States.{IsStateOf};
     ghost use Rattle.lrc_orders.specs.Kept.{Grows};
     ghost use Rattle.lrc_orders.specs.Outcome.{HasOutcome};
     ghost use Rattle.lrc_lazy.specs.Lazy.{IsLazyOutcome};
     ghost use Rattle.lrc_lazy_search.specs.declared.state.LazyState.{LazyState as StateType};
-    ghost use Rattle.lrc_lazy_search.specs.Searching.{AreEnough, AreNext, AreReached, AreSearched, AreSound, AreThere, CanAct, IsBegun, FitsLazily, IsReached, IsSearched, MeetsMore};
-    ghost use Rattle.lrc_lazy_search.specs.Task.{IsTask, IsInOrder};
+    ghost use Rattle.lrc_lazy_search.specs.Found.{AreDistinct, found_count};
+    ghost use Rattle.lrc_lazy_search.specs.Searching.{AreSound, FitsLazily, IsNeat, IsReached, MeetsMore};
+    ghost use Rattle.lrc_lazy_search.specs.Task.{Adds, IsAt, IsEmpty, IsTask};
 
     // No states, and no outcomes.
     fn none(alloc: Global) -> Searched
-        ensures states { result.states.keys ≡ [] }
-        ensures outcomes { result.outcomes.keys ≡ [] }
+        ensures { IsEmpty result }
     {
         Searched {
-            states: IndexSet::new(alloc),
+            found: Found::none(alloc),
+            waiting: VecDeque::new(alloc),
             outcomes: IndexSet::new(alloc),
-            lists: IndexSet::new(alloc),
         }
     }
 
@@ -147,8 +147,7 @@ impl Searched {
     // From the start on, where there is nothing yet, goes through all states.
     fn search(&mut self, alloc: Global, task: &Task<'_>) -> Result<(), ExploreFault>
         requires task { IsTask task.now }
-        requires none { self.old.states.keys ≡ [] }
-        requires outcomes { self.old.outcomes.keys ≡ [] }
+        requires none { IsEmpty self.old }
         ensures exact { OnOk result ((notes : List ActType)
             → (IsLazyOutcome task.now.program.now task.now.flat.nodes notes
             ↔ HasOutcome self.new.outcomes.keys notes)) }
@@ -166,16 +165,16 @@ impl Searched {
     // Adds the start, or what it goes ahead to, where there are no states yet, unless that turns for ever.
     fn begin(&mut self, alloc: Global, task: &Task<'_>, spare: &mut u32) -> Result<(), AllocError>
         requires task { IsTask task.now }
-        requires none { self.old.states.keys ≡ [] }
-        ensures order { OnOk result (IsInOrder task.now self.new.states.keys) }
-        ensures same { self.new.outcomes ≡ self.old.outcomes }
+        requires none { IsEmpty self.old }
+        ensures at { OnOk result (IsAt task.now self.new self.new.waiting.items) }
+        ensures all { OnOk result (found_count self.new.found
+            ≡ length self.new.waiting.items) }
     {
         let mut first = LazyState::start(alloc, &task.flat, task.start)?;
         if first.go_ahead(alloc, &task.flat, spare)? {
             return Ok(());
         }
-        self.states.insert_full(first)?;
-        Ok(())
+        self.add(alloc, task, first)
     }
 
     // Goes through the states, in the order in which they are found.
@@ -186,8 +185,8 @@ impl Searched {
         spare: &mut u32,
     ) -> Result<(), ExploreFault>
         requires task { IsTask task.now }
-        requires order { IsInOrder task.now self.old.states.keys }
-        requires outcomes { self.old.outcomes.keys ≡ [] }
+        requires at { IsAt task.now self.old self.old.waiting.items }
+        requires all { found_count self.old.found ≡ length self.old.waiting.items }
         ensures exact { OnOk result ((notes : List ActType)
             → (IsLazyOutcome task.now.program.now task.now.flat.nodes notes
             ↔ HasOutcome self.new.outcomes.keys notes)) }
@@ -197,83 +196,36 @@ impl Searched {
         ensures fits { OnOk result (FitsLazily task.now.program.now task.now.flat.nodes
             task.now.most self.new.outcomes.keys) }
     {
-        let mut place = 0;
-        while place < self.states.len() {
-            if self.states.len() > task.most {
+        while let Some(state) = self.waiting.pop_front() {
+            if self.found.len() > task.most {
                 return Err(ExploreFault::TooMany);
             }
-            self.visit(alloc, task, place, spare)?;
-            place += 1;
+            self.visit(alloc, task, &state, spare)?;
         }
         Ok(())
     }
 
-    // Looks at a state: finds those to go on with, and takes its outcome where no node can act.
+    // Looks at the first of the states that waited: finds those to go on with, and takes its outcome where no node can act.
     fn visit(
         &mut self,
         alloc: Global,
         task: &Task<'_>,
-        place: usize,
+        state: &LazyState,
         spare: &mut u32,
     ) -> Result<(), AllocError>
         requires task { IsTask task.now }
-        requires order { IsInOrder task.now self.old.states.keys }
-        requires sound { AreSound task.now.program.now task.now.flat self.old.outcomes.keys }
-        requires within { place < length self.old.states.keys }
-        requires small { place < 2 ^ 63 - 1 }
-        ensures order { OnOk result (IsInOrder task.now self.new.states.keys) }
-        ensures grows { OnOk result (Grows self.old.states.keys self.new.states.keys) }
-        ensures more { OnOk result (Grows self.old.outcomes.keys self.new.outcomes.keys) }
-        ensures sound { OnOk result (AreSound task.now.program.now task.now.flat
-            self.new.outcomes.keys) }
-        ensures done { OnOk result ((key : StateType)
-            → slice_get self.old.states.keys place ≡ Some key
-            → IsSearched task.now.flat self.new.states.keys self.new.outcomes.keys key) }
+        requires at { IsAt task.now self.old (state.now ∷ self.old.waiting.items) }
+        requires small { found_count self.old.found < 2 ^ 63 }
+        ensures at { OnOk result (IsAt task.now self.new self.new.waiting.items) }
+        ensures even { OnOk result (found_count self.new.found + length self.old.waiting.items
+            ≡ found_count self.old.found + length self.new.waiting.items) }
     {
-        if self.can_act_at(alloc, task, place)? {
-            let nexts = self.nexts_at(alloc, task, place, spare)?;
+        if state.can_act(&task.flat) {
+            let nexts = state.nexts(alloc, &task.flat, spare)?;
             self.add_all(alloc, task, nexts)
         } else {
-            self.take_outcome(alloc, task, place)
+            self.take_outcome(alloc, task, state)
         }
-    }
-
-    // Whether a node can act at one of them.
-    fn can_act_at(&self, alloc: Global, task: &Task<'_>, place: usize) -> Result<bool, AllocError>
-        requires task { IsTask task.now }
-        requires order { IsInOrder task.now self.now.states.keys }
-        requires within { place < length self.now.states.keys }
-        ensures can { IfOk result (λ can. can ≡ true → (key : StateType)
-            → slice_get self.now.states.keys place ≡ Some key → CanAct task.now.flat key) }
-        ensures still { IfOk result (λ can. can ≡ false → (key : StateType)
-            → slice_get self.now.states.keys place ≡ Some key → ¬ CanAct task.now.flat key) }
-    {
-        self.states.as_slice()[place].can_act(alloc, &task.flat)
-    }
-
-    // The states to go on with from one of them.
-    fn nexts_at(
-        &self,
-        alloc: Global,
-        task: &Task<'_>,
-        place: usize,
-        spare: &mut u32,
-    ) -> Result<Vec<LazyState>, AllocError>
-        requires task { IsTask task.now }
-        requires order { IsInOrder task.now self.now.states.keys }
-        requires within { place < length self.now.states.keys }
-        requires small { place < 2 ^ 63 - 1 }
-        ensures reached { IfOk result (λ all. (k : ℕ) (after : StateType)
-            → slice_get all.items k ≡ Some after
-            → IsReached task.now.program.now task.now.flat after (length self.now.states.keys)) }
-        ensures sound { IfOk result (λ all. (key : StateType)
-            → slice_get self.now.states.keys place ≡ Some key
-            → AreNext task.now.flat key all.items) }
-        ensures enough { IfOk result (λ all. (key : StateType)
-            → slice_get self.now.states.keys place ≡ Some key
-            → AreEnough task.now.flat key all.items) }
-    {
-        self.states.as_slice()[place].nexts(alloc, &task.flat, spare)
     }
 
     // Takes the outcome of a state at which no node can make an act.
@@ -281,22 +233,20 @@ impl Searched {
         &mut self,
         alloc: Global,
         task: &Task<'_>,
-        place: usize,
+        state: &LazyState,
     ) -> Result<(), AllocError>
         requires sound { AreSound task.now.program.now task.now.flat self.old.outcomes.keys }
-        requires within { place < length self.old.states.keys }
-        requires over { (key : StateType) → slice_get self.old.states.keys place ≡ Some key
-            → IsLazyOutcome task.now.program.now task.now.flat.nodes key.notes.items }
-        ensures same { self.new.states ≡ self.old.states }
+        requires over { IsLazyOutcome task.now.program.now task.now.flat.nodes
+            state.now.notes.items }
+        ensures found { self.new.found ≡ self.old.found }
+        ensures waiting { self.new.waiting ≡ self.old.waiting }
         ensures more { OnOk result (Grows self.old.outcomes.keys self.new.outcomes.keys) }
         ensures sound { OnOk result (AreSound task.now.program.now task.now.flat
             self.new.outcomes.keys) }
-        ensures has { OnOk result ((key : StateType)
-            → slice_get self.old.states.keys place ≡ Some key
-            → HasOutcome self.new.outcomes.keys key.notes.items) }
+        ensures has { OnOk result (HasOutcome self.new.outcomes.keys state.now.notes.items) }
     {
         let _task = task;
-        let notes = copied(alloc, &self.states.as_slice()[place].notes)?;
+        let notes = copied(alloc, &state.notes)?;
         self.outcomes.insert_full(Outcome { notes })?;
         Ok(())
     }
@@ -308,19 +258,29 @@ impl Searched {
         task: &Task<'_>,
         states: Vec<LazyState>,
     ) -> Result<(), AllocError>
-        requires order { IsInOrder task.now self.old.states.keys }
+        requires distinct { AreDistinct self.old.found }
         requires reached { (k : ℕ) (after : StateType) → slice_get states.items k ≡ Some after
-            → IsReached task.now.program.now task.now.flat after (length self.old.states.keys) }
-        ensures order { OnOk result (IsInOrder task.now self.new.states.keys) }
-        ensures grows { OnOk result (Grows self.old.states.keys self.new.states.keys) }
-        ensures has { OnOk result (AreThere self.new.states.keys states.items) }
-        ensures same { self.new.outcomes ≡ self.old.outcomes }
+            → IsReached task.now.program.now task.now.flat after (found_count self.old.found) }
+        ensures { OnOk result (Adds task.now.flat self.old self.new states.items) }
     {
         let _task = task;
         let mut states = states;
         while let Some(state) = states.pop() {
-            let shared = shared_state(alloc, &mut self.lists, state)?;
-            self.states.insert_full(shared)?;
+            self.add(alloc, task, state)?;
+        }
+        Ok(())
+    }
+
+    // Adds a state, if it is new.
+    fn add(&mut self, alloc: Global, task: &Task<'_>, state: LazyState) -> Result<(), AllocError>
+        requires distinct { AreDistinct self.old.found }
+        requires state { IsStateOf task.now.flat state.state }
+        requires neat { IsNeat task.now.flat state }
+        ensures { OnOk result (Adds task.now.flat self.old self.new (state ∷ [])) }
+    {
+        let (_place, added) = self.found.add(alloc, &task.flat, &state)?;
+        if added {
+            self.waiting.push_back(state)?;
         }
         Ok(())
     }

@@ -319,6 +319,29 @@ impl LazyState {
         ensures { IfOk result (λ found. (deed : DeedType) → found ≡ Some deed
             → IsForced flat.now self.now node deed) }
     {
+        let Some(deed) = self.state.next_deed(flat, node) else {
+            return Ok(None);
+        };
+        match deed {
+            Deed::Arrive => Ok(None),
+            Deed::Read(_, _) => self.forced_read(alloc, flat, node),
+            deed => Ok(Some(deed)),
+        }
+    }
+
+    // The same of a node that reads, maybe one of several values.
+    fn forced_read(
+        &self,
+        alloc: Global,
+        flat: &Flat,
+        node: usize,
+    ) -> Result<Option<Deed>, AllocError>
+        requires flat { IsFlat flat.now }
+        requires fit { IsFit flat.now self.now }
+        requires front { IsInFront flat.now self.now node }
+        ensures { IfOk result (λ found. (deed : DeedType) → found ≡ Some deed
+            → IsForced flat.now self.now node deed) }
+    {
         let deeds = self.deeds(alloc, flat, node)?;
         if deeds.len() != 1 {
             return Ok(None);
@@ -493,20 +516,19 @@ impl LazyState {
         Ok(())
     }
 
-    /// Returns whether a node can do something. It fails if memory runs out.
-    pub fn can_act(&self, alloc: Global, flat: &Flat) -> Result<bool, AllocError>
+    /// Returns whether a node can do something.
+    pub fn can_act(&self, flat: &Flat) -> bool
         requires flat { IsFlat flat.now }
         requires fit { IsFit flat.now self.now }
-        ensures can { IfOk result (λ can. can ≡ true → CanAct flat.now self.now) }
-        ensures still { IfOk result (λ can. can ≡ false → ¬ CanAct flat.now self.now) }
+        ensures can { result ≡ true → CanAct flat.now self.now }
+        ensures still { result ≡ false → ¬ CanAct flat.now self.now }
     {
         for node in 0..flat.nodes as usize {
-            let deeds = self.deeds(alloc, flat, node)?;
-            if !deeds.is_empty() {
-                return Ok(true);
+            if self.state.next_deed(flat, node).is_some() {
+                return true;
             }
         }
-        Ok(false)
+        false
     }
 
     /// Returns the states to go on with: those to which the lowest node leads that can do something other than acquire

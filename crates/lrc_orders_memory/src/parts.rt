@@ -29,7 +29,7 @@ pub struct Parts {
 }
 
 impl Parts {
-    ghost use Rattle.std.specs.Prelude.{◌≡◌, ℕ, ◌<◌, ◌≤◌, [], IfOk, List, OnOk, Some, length, slice_get, slice_index, slice_set};
+    ghost use Rattle.std.specs.Prelude.{◌≡◌, ℕ, ◌<◌, ◌≤◌, ◌++◌, [], IfOk, List, OnOk, Some, length, slice_get, slice_index, slice_set};
     ghost use Rattle.lrc_orders_memory.specs.Parts.{ArePartsDistinct, AreWordsAt, HaveWords, HasMemory, IsMemory, KeepsParts};
 
     /// No parts.
@@ -92,10 +92,29 @@ impl Parts {
             → words.items ≡ all) }
     {
         let mut words = Vec::new(alloc);
-        for place in 0..memory.count {
-            words.push(self.read(memory, place))?;
-        }
+        self.put(memory.count, memory.number, &mut words)?;
         Ok(words)
+    }
+
+    // Puts so many words with this number behind others.
+    fn put(&self, count: usize, number: u32, to: &mut Vec<u64>) -> Result<(), AllocError>
+        requires { HaveWords self.now count number }
+        ensures { OnOk result ((levels : ℕ) (words : List ℕ) → count ≡ length words
+            → AreWordsAt self.now levels number words
+            → to.new.items ≡ to.old.items ++ words) }
+    {
+        if count == 0 {
+            return Ok(());
+        }
+        if count == 1 {
+            to.push(self.words.as_slice()[number as usize])?;
+            return Ok(());
+        }
+        let halves = self.halves.as_slice()[number as usize];
+        let half = count / 2;
+        self.put(half, halves.first, to)?;
+        self.put(count - half, halves.second, to)?;
+        Ok(())
     }
 
     // The number of words, which none have as 0.

@@ -1,6 +1,6 @@
 -- No two rows stand for equal states.
 use Rattle.std.proofs.Common.{◌≡◌, ℕ, ◌<◌, List, Bool, true, false, inl, inr, refl, sym, subst, ◌∙◌, ap, arith}
-use Rattle.std.specs.Prelude.{Option, Some, None, nat_eq, slice_get, slice_index}
+use Rattle.std.specs.Prelude.{Some, nat_eq, slice_get, slice_index}
 use Rattle.std.specs.Option.{option_eq}
 use Rattle.std.proofs.lemmas.Bool.{and_parts, cases_lt, eqb-true}
 use Rattle.std.proofs.lemmas.List.{ext_get_or}

@@ -1,7 +1,8 @@
 use Rattle.std.proofs.Common.{Bool, refl, sym, subst}
 use Rattle.std.specs.Prelude.{IfOk}
 use Rattle.std.proofs.lemmas.Result.{IfOk-weaker}
-use Rattle.lrc_explore.specs.Answers.{FitsEnd, FitsSettled, IsEnd}
+use Rattle.lrc_orders.proofs.Faults.{fault_up}
+use Rattle.lrc_explore.specs.Answers.{FitsEnd, FitsSettled, IsEnd, IsFault}
 use Rattle.lrc_explore.specs.Met.{FitsSought, IsSought}
 use Rattle.lrc_explore.proofs.Fitting.{fits_settled}
 use Rattle.lrc_explore.proofs.Keys.{start_grown, within_more}
@@ -84,3 +85,15 @@ returns-in_ok-ends-in-Through-clause-fits c = λ through.
 
 pub met_told-requires-clause-many : goal.met_told-requires-clause-many
 met_told-requires-clause-many c = subst (IsSought c.args.task.now c.seek.new.self c.args.races) c.in-Many.is c.in_ok-sought.ensures.sought
+
+pub returns-in_err-traps-clause-faults : goal.returns-in_err-traps-clause-faults
+returns-in_err-traps-clause-faults c =
+    fault_up c.from_residual.result c.in_err-traps.field-0.0 (IsFault c.args.task.now) c.from_residual.ensures.1 c.in_err-traps.ensures.faults
+
+pub returns-in_err-sought-clause-faults : goal.returns-in_err-sought-clause-faults
+returns-in_err-sought-clause-faults c =
+    fault_up c.from_residual-in_err-sought.result c.in_err-sought.field-0.0 (IsFault c.args.task.now) c.from_residual-in_err-sought.ensures.1 c.in_err-sought.ensures.faults
+
+pub returns-in_err-met-in-Many-clause-faults : goal.returns-in_err-met-in-Many-clause-faults
+returns-in_err-met-in-Many-clause-faults c =
+    fault_up c.from_residual-in_err-met-in-Many.result c.in_err-met-in-Many.field-0.0 (IsFault c.args.task.now) c.from_residual-in_err-met-in-Many.ensures.1 c.in_err-met-in-Many.ensures.faults

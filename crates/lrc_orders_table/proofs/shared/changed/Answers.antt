@@ -1,4 +1,4 @@
-use Rattle.std.proofs.Common.{◌≡◌, ◌∙◌, sym, subst, ap}
+use Rattle.std.proofs.Common.{◌∙◌, sym, subst, ap}
 use Rattle.std.specs.Prelude.{slice_set}
 use Rattle.lrc_orders_settling.specs.Gone.{freed}
 use Rattle.lrc_orders_memory.specs.Sharing.{IsSharedAt}

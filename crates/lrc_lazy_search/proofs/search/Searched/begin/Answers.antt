@@ -1,20 +1,53 @@
-use Rattle.lrc_lazy_search.proofs.Adding.{first_in_order, first_room, first_turns}
+use Rattle.std.proofs.Common.{[], length, ap, refl, arith}
+use Rattle.lrc_orders.proofs.Faults.{ok_says}
+use Rattle.lrc_lazy_search.proofs.Adding.{first_ahead, first_room, first_turns}
+use Rattle.lrc_lazy_search.proofs.Visiting.{all_wait, first_at, none_at}
 use Rattle.lrc_lazy_search.proofs.search.Searched.begin.Goals as goal
 
 pub go_ahead-requires-clause-room : goal.go_ahead-requires-clause-room
 go_ahead-requires-clause-room c = first_room c.args.task.now c.in_ok-first.first c.in_ok-first.ensures.first
 
-pub returns-clause-order : goal.returns-clause-order
-returns-clause-order c =
-    let e = c.in_ok-first.ensures in
-    let i = c.in_ok-insert_full.ensures in
-    let s = i.stored in
-    first_in_order c.args.task.now c.args.self.now.states.keys c.insert_full.new.self.keys c.in_ok-first.first c.go_ahead.new.self _
-    c.requires.task c.requires.none i.keys e.first e.state e.nothing e.notes e.neat (e.left c.requires.task.some) c.in_ok-go_ahead.ensures.ahead (c.in_ok-go_ahead.ensures.neat e.neat) (c.in_ok-go_ahead.ensures.left c.requires.task.some)
-    (record { place = c.in_ok-insert_full.field-0.0; stored = s.0; there = s.1; same = s.2 }) i.unique
+pub add-requires-clause-distinct : goal.add-requires-clause-distinct
+add-requires-clause-distinct c = c.requires.none.distinct
 
-pub returns-then-branch-clause-order : goal.returns-then-branch-clause-order
-returns-then-branch-clause-order c =
+pub add-requires-clause-state : goal.add-requires-clause-state
+add-requires-clause-state c =
     let e = c.in_ok-first.ensures in
-    first_turns c.args.task.now c.args.self.now.states.keys c.in_ok-first.first c.requires.task c.requires.none e.first e.nothing e.notes
-    (c.in_ok-go_ahead.ensures.turns c.if-branch.true)
+    let g = c.in_ok-go_ahead.ensures in
+    let some = c.requires.task.some in
+    (first_ahead c.args.task.now c.in_ok-first.first c.go_ahead.new.self c.requires.task e.first e.state e.nothing e.notes e.neat (e.left some)
+    g.ahead (g.neat e.neat) (g.left some)).valid
+
+pub add-requires-clause-neat : goal.add-requires-clause-neat
+add-requires-clause-neat c = c.in_ok-go_ahead.ensures.neat c.in_ok-first.ensures.neat
+
+pub returns-clause-at : goal.returns-clause-at
+returns-clause-at c =
+    let task = c.args.task.now in
+    let e = c.in_ok-first.ensures in
+    let g = c.in_ok-go_ahead.ensures in
+    let some = c.requires.task.some in
+    let reached = first_ahead task c.in_ok-first.first c.go_ahead.new.self c.requires.task e.first e.state e.nothing e.notes e.neat (e.left some)
+    g.ahead (g.neat e.neat) (g.left some) in
+    ok_says c.add.result
+    (λ adds.
+    first_at task c.args.self.now c.add.new.self c.in_ok-first.first c.go_ahead.new.self c.requires.task c.requires.none adds e.first e.nothing e.notes
+    g.ahead reached)
+    c.add.ensures
+
+pub returns-clause-all : goal.returns-clause-all
+returns-clause-all c =
+    ok_says c.add.result (λ adds. all_wait c.args.task.now.flat c.args.self.now c.add.new.self _ c.requires.none adds) c.add.ensures
+
+pub returns-then-branch-clause-at : goal.returns-then-branch-clause-at
+returns-then-branch-clause-at c =
+    let e = c.in_ok-first.ensures in
+    none_at c.args.task.now c.args.self.now c.requires.none
+    (first_turns c.args.task.now [] c.in_ok-first.first c.requires.task refl e.first e.nothing e.notes
+    (c.in_ok-go_ahead.ensures.turns c.if-branch.true))
+
+pub returns-then-branch-clause-all : goal.returns-then-branch-clause-all
+returns-then-branch-clause-all c =
+    let found = c.requires.none.found in
+    let long = ap length c.requires.none.waiting in
+    omega (arith, found, long)

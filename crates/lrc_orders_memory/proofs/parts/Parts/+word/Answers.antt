@@ -1,4 +1,4 @@
-use Rattle.std.proofs.Common.{◌<◌, ◌≤◌, ◌/◌, ◌∙◌, sym, arith}
+use Rattle.std.proofs.Common.{◌<◌, ◌/◌, ◌∙◌, sym, arith}
 use Rattle.lrc_orders_memory.proofs.Halving.{read_first, read_second, taken_apart}
 use Rattle.lrc_orders_memory.proofs.parts.Parts.+word.Goals as goal
 

@@ -1,5 +1,4 @@
-use Rattle.std.proofs.Common.{◌≡◌, ◌<◌, ◌≤◌, ◌/◌, ◌∙◌, length, sym, subst, ap, arith}
-use Rattle.std.specs.Prelude.{Some, slice_get}
+use Rattle.std.proofs.Common.{◌<◌, arith}
 use Rattle.lrc_orders_memory.proofs.Halving.{first_written, second_written, taken_apart}
 use Rattle.lrc_orders_memory.proofs.parts.Parts.+written.Goals as goal
 

@@ -1,4 +1,4 @@
-use Rattle.std.proofs.Common.{◌≡◌, ◌∙◌, sym, ap}
+use Rattle.std.proofs.Common.{◌∙◌, sym, ap}
 use Rattle.lrc_orders_table.specs.Shared.{can_act}
 use Rattle.lrc_orders_table.proofs.Fitting.{lock_there}
 use Rattle.lrc_orders_table.proofs.table.Table.can_act.Goals as goal

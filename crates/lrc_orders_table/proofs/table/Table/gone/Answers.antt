@@ -6,7 +6,6 @@ use Rattle.lrc_orders.proofs.Faults.{fault_up}
 use Rattle.lrc_orders.proofs.Keeping.{stands_on}
 use Rattle.lrc_orders_memory.proofs.Apart.{shared_kept}
 use Rattle.lrc_orders_table.specs.Links.{AreNotesAt, AreNotesSound}
-use Rattle.lrc_orders_table.specs.Nexts.{next_in}
 use Rattle.lrc_orders_table.specs.declared.table.After.{After}
 use Rattle.lrc_orders_table.specs.declared.table.Table.{Table}
 use Rattle.lrc_orders_table.specs.Going.{IsLongAct}

@@ -5,7 +5,7 @@ use Rattle.indexmap.specs.IndexMap.{get}
 use Rattle.indexmap.proofs.CallerLemmas.{insert_entry-new}
 use Rattle.lrc_exec.specs.declared.spot.Spot.{Spot}
 use Rattle.lrc_orders.specs.Traps.{is_trap}
-use Rattle.lrc_orders.proofs.Keeping.{grows_not, stands_on}
+use Rattle.lrc_orders.proofs.Keeping.{stands_on}
 use Rattle.lrc_orders_live.specs.Live.{forgot}
 use Rattle.lrc_orders_table.specs.declared.table.After.{After}
 use Rattle.lrc_orders_memory.proofs.Apart.{shared_not}

@@ -5,7 +5,7 @@ use Rattle.std.proofs.lemmas.Map.Entries.{place_from_lookup}
 use Rattle.std.proofs.lemmas.Option.{same_Some}
 use Rattle.indexmap.specs.IndexMap.{get}
 use Rattle.indexmap.proofs.CallerLemmas.{insert_entry-new}
-use Rattle.lrc_orders.proofs.Keeping.{grows_not, stands_on}
+use Rattle.lrc_orders.proofs.Keeping.{grows_not}
 use Rattle.lrc_orders_settling.specs.Gone.{freed}
 use Rattle.lrc_orders_memory.specs.Sharing.{IsSharedAt}
 use Rattle.lrc_orders_memory.proofs.Apart.{shared_kept}

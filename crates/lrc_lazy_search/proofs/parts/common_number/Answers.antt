@@ -1,0 +1,12 @@
+use Rattle.std.proofs.Common.{◌≡◌, sym, subst}
+use Rattle.std.specs.Prelude.{Some, slice_get}
+use Rattle.lrc_orders.proofs.Keeping.{put_grows}
+use Rattle.lrc_lazy_search.proofs.parts.common_number.Goals as goal
+
+pub returns-clause-grows : goal.returns-clause-grows
+returns-clause-grows c = put_grows _ c.args.all.now.keys c.insert_full.new.self.keys _ c.in_ok-place.ensures.keys
+
+pub returns-clause-there : goal.returns-clause-there
+returns-clause-there c =
+    let s = c.in_ok-place.ensures.stored in
+    (s.0, subst (λ n. slice_get c.insert_full.new.self.keys n ≡ Some s.0) (sym c.in_ok-number.ensures) s.1, s.2)
