@@ -1,0 +1,4 @@
+mod Found
+mod Changes
+mod Each
+mod Same
