@@ -1,8 +1,8 @@
 -- What one act more makes of the states, and of what is kept of them.
-use Rattle.std.proofs.Common.{◌≡◌, ◌≢◌, ℕ, zero, suc, ◌+◌, ◌<◌, ◌≤◌, ◌⊎◌, Bool, true, false, List, [], ◌∷◌, ◌++◌, length, inl, inr, refl, sym, subst, ap, ◌∙◌, arith, max}
+use Rattle.std.proofs.Common.{◌≡◌, ◌≢◌, ℕ, zero, suc, ◌+◌, ◌<◌, ◌≤◌, Bool, List, [], ◌∷◌, ◌++◌, length, inl, inr, refl, sym, subst, ap, ◌∙◌, arith}
 use Rattle.std.specs.Prelude.{◌&&◌, Option, Some, None, Vec, nat_le, option_map, slice_get, unwrap_or}
 use Rattle.std.specs.declared.alloc.Global.{Global}
-use Rattle.std.proofs.lemmas.Bool.{cases_Bool, cases_eq, cond-false}
+use Rattle.std.proofs.lemmas.Bool.{cases_eq, cond-false}
 use Rattle.std.proofs.lemmas.List.{length_push}
 use Rattle.std.proofs.lemmas.Option.{same_Some, slice_get_within}
 use Rattle.lrc_trace.proofs.Positions.{slice_get-seam}
@@ -23,8 +23,8 @@ use Rattle.lrc_exact_judge.specs.Shape.{shape_of}
 use Rattle.lrc_exact_judge.proofs.Among.{AreRowsWith, closed-among, nothing-among, still-among, together-among}
 use Rattle.lrc_exact_judge.proofs.Next.{before-other, before-own}
 use Rattle.lrc_exact_history.specs.declared.node.NodeState.{NodeState}
-use Rattle.lrc_exact_history.specs.States.{by_itself, is_closing, IsStateOf, Shows}
-use Rattle.lrc_exact_history.specs.Runs.{all_times, AreStatesOf, Closes, HasOneMore, if_told, IsToldBy, kept_before, news_of, time_of, told, with_time}
+use Rattle.lrc_exact_history.specs.States.{by_itself, IsStateOf, Shows}
+use Rattle.lrc_exact_history.specs.Runs.{all_times, AreStatesOf, Closes, HasOneMore, if_told, kept_before, news_of, time_of, told, with_time}
 use Rattle.lrc_exact_history.proofs.Lasts.{AreBoth, both, last-both, neither}
 use Rattle.lrc_exact_history.proofs.Pushed.{at-push}
 

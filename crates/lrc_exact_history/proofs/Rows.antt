@@ -1,6 +1,6 @@
 -- What a node has of a word as it learns a row.
 use Rattle.std.proofs.Common.{◌≡◌, ℕ, zero, suc, ◌+◌, ◌<◌, ◌≤◌, List, refl, sym, ap, ◌∙◌, arith, length, subst}
-use Rattle.std.specs.Prelude.{Some, if◌then◌else◌, nat_le, slice_get, slice_index_or, Vec}
+use Rattle.std.specs.Prelude.{Some, nat_le, slice_get, slice_index_or, Vec}
 use Rattle.std.specs.declared.alloc.Global.{Global}
 use Rattle.std.proofs.lemmas.Bool.{cond-true, cond-false, le-leb, lt-leb}
 use Rattle.std.proofs.lemmas.Option.{slice_get_read}

@@ -1,5 +1,5 @@
 -- One act more in a history.
-use Rattle.std.proofs.Common.{◌≡◌, ℕ, ◌+◌, ◌<◌, ◌≤◌, List, [], ◌∷◌, ◌++◌, Bool, true, false, length, refl, sym, subst, ap, ◌∙◌, arith}
+use Rattle.std.proofs.Common.{◌≡◌, ℕ, ◌+◌, ◌<◌, ◌≤◌, List, [], ◌∷◌, ◌++◌, true, length, refl, sym, subst, ap, ◌∙◌, arith}
 use Rattle.std.specs.Prelude.{Option, Some, None, Vec, slice_get}
 use Rattle.std.specs.declared.alloc.Global.{Global}
 use Rattle.std.proofs.lemmas.Option.{none-some, same_Some}
@@ -21,7 +21,7 @@ use Rattle.lrc_exact_history.specs.States.{by_itself, is_closing, IsStateOf, Sho
 use Rattle.lrc_exact_history.specs.Words.{IsTimeOf}
 use Rattle.lrc_exact_history.specs.Runs.{AreKeptOf, Closes, if_told, IsHistoryAt, IsToldBy, kept_before, news_of, told}
 use Rattle.lrc_exact_history.proofs.Lasts.{AreBoth, at-both, both, neither}
-use Rattle.lrc_exact_history.proofs.Next.{are_next, closed_is, held, IsClosedTo, IsKnown, keeps_next, news_are, own_next, rows_next, short_next}
+use Rattle.lrc_exact_history.proofs.Next.{are_next, closed_is, held, IsClosedTo, IsKnown, keeps_next, news_are, own_next, short_next}
 
 -- what stands for a state knows so many nodes
 wide_of : {nodes words : ℕ} {made : List (Vec Made Global)} (a : Option NodeState) (o : Option State) → AreBoth (IsStateOf nodes words made) a o
@@ -59,8 +59,8 @@ module _ (history : History) (run : List Act) (states : List State) (at : IsHist
       let s = at.short act.node in
       omega (arith, few, e, o, s)
 
-  pub short_in : history.words < 4294967296 → length kept_here.words.items < 4294967296
-  short_in few = let a = held_here.shows.all_words in omega (arith, few, a)
+  pub short_in : length kept_here.words.items < 4294967296
+  short_in = let few = at.small in let a = held_here.shows.all_words in omega (arith, few, a)
 
   pub words_in : (word : ℕ) → word < history.words → word < length kept_here.words.items
   words_in word lt = let a = held_here.shows.all_words in omega (arith, lt, a)
@@ -146,6 +146,7 @@ module _ (history : History) (run : List Act) (states : List State) (at : IsHist
             at.first at.rows at.own at.short closes next calm named;
         first = at.first;
         rows = rows_are;
+        small = at.small;
         own = own_next history.layout history.words history.made.items made history.states.items history.begun run states act within at.keeps at.states_are
             at.first at.rows at.own at.short closes next calm named;
         short = short_next history.layout history.words history.made.items made history.states.items history.begun run states act within at.keeps at.states_are

@@ -98,6 +98,7 @@ pub record AreKeptOf (layout : Layout) (words : ℕ) (begun : NodeState) (made :
   pub states_are : AreStatesOf layout.nodes words made kept states
   pub first : Shows layout.nodes words begun (state_at_start layout.nodes)
   pub rows : length made ≡ layout.nodes
+  pub small : words < 4294967296
   pub own : (q : ℕ) → q < layout.nodes
       → entry (state_before (exact_rule (shape_of layout)) run states q (length run)).knows.time q ≡ length (row_of made q)
   pub short : (q : ℕ) → length (row_of made q) ≤ length run

@@ -1,5 +1,5 @@
-use Rattle.std.proofs.Common.{◌≡◌, ℕ, List, ap, sym, ◌∙◌, length, subst}
-use Rattle.std.specs.Prelude.{Option, Some}
+use Rattle.std.proofs.Common.{ℕ, List, ap, sym, ◌∙◌, length}
+use Rattle.std.specs.Prelude.{Option}
 use Rattle.lrc_exact.specs.LocalRule.{arrived_state, arrives_there}
 use Rattle.lrc_exact_history.specs.Runs.{time_of, with_time}
 use Rattle.lrc_exact_history.proofs.Lasts.{all-next, time-wide, wide-next}

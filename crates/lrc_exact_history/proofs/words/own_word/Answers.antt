@@ -1,7 +1,6 @@
-use Rattle.std.proofs.Common.{◌≡◌, ℕ, ◌/◌, subst, sym, ap}
+use Rattle.std.proofs.Common.{◌/◌, subst, sym}
 use Rattle.lrc_trace.specs.declared.act.Deed.{Deed}
-use Rattle.lrc_trace.specs.declared.act.Deed.TheVariants.{Read, Write}
-use Rattle.lrc_exact.specs.Rule.{State, accessed, with_write}
+use Rattle.lrc_exact.specs.Rule.{accessed, with_write}
 use Rattle.lrc_exact_history.specs.States.{by_itself}
 use Rattle.lrc_exact_history.specs.Words.{IsWordOf}
 use Rattle.lrc_exact_history.proofs.words.own_word.Goals as goal

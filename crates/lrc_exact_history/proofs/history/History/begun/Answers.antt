@@ -1,4 +1,4 @@
-use Rattle.std.proofs.Common.{◌≡◌, ℕ, List, [], length, refl, sym, ap, ◌∙◌, arith}
+use Rattle.std.proofs.Common.{[], length, sym, ap, ◌∙◌, arith}
 use Rattle.std.proofs.lemmas.Option.{none-some}
 use Rattle.lrc_time.proofs.Times.{entry-zeros}
 use Rattle.lrc_exact.specs.Rule.{exact_rule}
@@ -18,6 +18,7 @@ returns-clause-history c =
         states_are = record { long = ap length c.new-2.ensures.items; each = λ place one state a b. absurd (none-some state b) };
         first = c.in_ok-begun.ensures;
         rows = omega (arith, low, high, many);
+        small = omega arith;
         own = λ q lt. entry-zeros nodes q ∙ sym (ap length (c.loop-node.invariant.none q));
         short = λ q. let e = ap length (c.loop-node.invariant.none q) in omega (arith, e);
       },

@@ -1,8 +1,5 @@
-use Rattle.std.proofs.Common.{◌≡◌, ℕ, List, get_or, length-set, set, refl, subst, sym, ap, ◌∙◌}
-use Rattle.std.specs.Prelude.{Vec}
-use Rattle.std.specs.declared.alloc.Global.{Global}
+use Rattle.std.proofs.Common.{◌≡◌, get_or, length-set, set, subst, sym, ap, ◌∙◌}
 use Rattle.lrc_exact.specs.Rule.{open_interval}
-use Rattle.lrc_exact_copies.specs.declared.made.Made.{Made}
 use Rattle.lrc_exact_judge.proofs.Kept.{rows-pushed}
 use Rattle.lrc_exact_history.specs.declared.node.NodeState.{NodeState}
 use Rattle.lrc_exact_history.specs.States.{Shows}

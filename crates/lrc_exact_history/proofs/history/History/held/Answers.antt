@@ -1,4 +1,4 @@
-use Rattle.std.proofs.Common.{◌≡◌, ℕ, List, ap, sym, ◌∙◌, length}
+use Rattle.std.proofs.Common.{ℕ, List, ap, sym, ◌∙◌, length}
 use Rattle.std.specs.Prelude.{Option, option_and_then, slice_get, unwrap_or}
 use Rattle.lrc_clock.specs.Times.{acts_at}
 use Rattle.lrc_exact_history.specs.declared.node.NodeState.{NodeState}

@@ -1,5 +1,5 @@
 use Rattle.std.proofs.Common.{◌≡◌, ℕ, ◌<◌, ◌++◌, ◌∷◌, [], List, length, subst, sym, ap, ◌∙◌, refl, arith}
-use Rattle.std.specs.Prelude.{Option, Some, Vec, slice_get}
+use Rattle.std.specs.Prelude.{Some, Vec, slice_get}
 use Rattle.std.specs.declared.alloc.Global.{Global}
 use Rattle.lrc_time.specs.Time.{entry}
 use Rattle.lrc_exact_judge.specs.declared.layout.Layout.{Layout}
@@ -24,7 +24,7 @@ pub after-requires-clause-short : goal.after-requires-clause-short
 after-requires-clause-short c =
     let h = c.requires.history in
     subst (λ (k : NodeState). length k.words.items < 4294967296) (sym c.held-held.ensures)
-    (short_in c.args.self.now c.args.acts.now h.0 h.1 c.args.act c.requires.node (omega arith))
+    (short_in c.args.self.now c.args.acts.now h.0 h.1 c.args.act c.requires.node)
 
 pub after-requires-clause-within : goal.after-requires-clause-within
 after-requires-clause-within c = λ word value is.
@@ -50,7 +50,7 @@ close_by-requires-clause-weight c = λ closing.
 pub close_by-requires-clause-short : goal.close_by-requires-clause-short
 close_by-requires-clause-short c =
     let h = c.requires.history in
-    short_in c.args.self.now c.args.acts.now h.0 h.1 c.args.act c.requires.node (omega arith)
+    short_in c.args.self.now c.args.acts.now h.0 h.1 c.args.act c.requires.node
 
 pub news-news-requires-clause-wide : goal.news-news-requires-clause-wide
 news-news-requires-clause-wide c =
@@ -108,7 +108,8 @@ told-requires-clause-short c =
     let same = c.in_ok-close_by.ensures.same in
     let rows = c.as_slice-2.ensures.value in
     let all = (after_shows self acts h.0 h.1 act c.requires.node c.held-held.result.now c.in_ok-after.after c.held-held.ensures c.in_ok-after.ensures).all_words in
-    omega (arith, all)
+    let few = h.1.small in
+    omega (arith, all, few)
 
 pub returns-clause-layout : goal.returns-clause-layout
 returns-clause-layout c = c.in_ok-close_by.ensures.same.layout

@@ -1,4 +1,4 @@
-use Rattle.std.proofs.Common.{◌≡◌, ℕ, List, length, refl, sym, ap, ◌∙◌, arith}
+use Rattle.std.proofs.Common.{ℕ, List, length, refl, sym, ap, ◌∙◌, arith}
 use Rattle.lrc_time.proofs.Times.{length-zeros}
 use Rattle.lrc_exact_copies.specs.Made.{has}
 use Rattle.lrc_exact_history.specs.declared.words.KeptWord.{KeptWord}

@@ -1,14 +1,13 @@
-use Rattle.std.proofs.Common.{◌≡◌, ℕ, ◌<◌, List, ◌++◌, length, get_or, refl, subst, sym, ap, ◌∙◌, arith}
-use Rattle.std.specs.Prelude.{None, Option, Some, slice_get}
+use Rattle.std.proofs.Common.{◌≡◌, ℕ, ◌<◌, List, ◌++◌, length, get_or, sym, ap, ◌∙◌, arith}
+use Rattle.std.specs.Prelude.{None, Some, slice_get}
 use Rattle.std.proofs.lemmas.Option.{slice_get-get_or, slice_get_within}
 use Rattle.lrc_time.specs.Time.{joined}
 use Rattle.lrc_time.proofs.Times.{length-joined_same}
-use Rattle.lrc_exact.specs.Memory.{Word}
-use Rattle.lrc_exact.specs.Rule.{Knowledge, State, with_learned, with_news}
-use Rattle.lrc_exact_copies.specs.Made.{AreAmong, has}
+use Rattle.lrc_exact.specs.Rule.{with_news}
+use Rattle.lrc_exact_copies.specs.Made.{has}
 use Rattle.lrc_exact_judge.specs.Keepers.{known_of}
 use Rattle.lrc_exact_history.specs.declared.words.KeptWord.{KeptWord}
-use Rattle.lrc_exact_history.specs.Words.{IsWordOf, word_seen}
+use Rattle.lrc_exact_history.specs.Words.{word_seen}
 use Rattle.lrc_exact_history.proofs.Accesses.{news-agree}
 use Rattle.lrc_exact_history.proofs.node.NodeState.learned.Goals as goal
 
