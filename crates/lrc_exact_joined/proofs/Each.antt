@@ -1,6 +1,7 @@
 -- Lists of what there is of each number, one more at the end.
-use Rattle.std.proofs.Common.{◌≡◌, ℕ, zero, suc, ◌+◌, ◌<◌, List, [], ◌∷◌, ◌++◌, length, take, get_or, refl, sym, ap, ◌∙◌, arith, map}
+use Rattle.std.proofs.Common.{◌≡◌, ℕ, zero, suc, ◌+◌, ◌<◌, List, [], ◌∷◌, ◌++◌, length, take, get_or, refl, sym, ap, ◌∙◌, append_assoc, arith, map}
 use Rattle.std.proofs.Math.Seq.{take-suc}
+use Rattle.std.proofs.lemmas.List.{append-nil}
 use Rattle.lrc_exact_states.specs.Key.{each_from}
 
 pub each-next : {A : Type 0} (f : ℕ → A) (first count : ℕ) → each_from first (suc count) f ≡ each_from first count f ++ f (first + count) ∷ []
@@ -40,3 +41,22 @@ taken-next {B} g h xs x ys y i lt is so_far one =
     ∙ sym (map-next h (take i ys) (get_or ys i y))
     ∙ sym (ap (map h) (take-suc ys i y lt))
     ∙ ap (λ (n : ℕ). map h (take n ys)) e
+
+-- what was added for each so far, and for one more
+pub added-next : {A B : Type 0} (f : A → B) (g : ℕ → A) (old xs : List B) (x : B) (count : ℕ) → xs ≡ old ++ map f (each_from 0 count g) → x ≡ f (g count)
+    → xs ++ x ∷ [] ≡ old ++ map f (each_from 0 (count + 1) g)
+added-next {A} {B} f g old xs x count so_far one =
+    ap (λ (ys : List B). ys ++ x ∷ []) so_far
+    ∙ append_assoc old (map f (each_from 0 count g)) (x ∷ [])
+    ∙ ap (λ (ys : List B). old ++ ys)
+    (ap (λ (y : B). map f (each_from 0 count g) ++ y ∷ []) one
+    ∙ sym (map-next f (each_from 0 count g) (g count))
+    ∙ ap (map f) (grown-next g (each_from 0 count g) (g count) count refl refl))
+
+-- nothing is added at first
+pub added-none : {A B : Type 0} (f : A → B) (g : ℕ → A) (old : List B) → old ≡ old ++ map f (each_from 0 0 g)
+added-none f g old = sym (append-nil old)
+
+pub map-append : {A B : Type 0} (f : A → B) (xs ys : List A) → map f (xs ++ ys) ≡ map f xs ++ map f ys
+map-append f [] ys = refl
+map-append {A} {B} f (x ∷ xs) ys = ap (λ (zs : List B). f x ∷ zs) (map-append f xs ys)

@@ -2,3 +2,4 @@ mod Found
 mod Changes
 mod Each
 mod Same
+mod Seen

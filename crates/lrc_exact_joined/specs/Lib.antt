@@ -1,3 +1,4 @@
 pub mod View
+pub mod Kept
 pub mod Places
 pub mod Searching

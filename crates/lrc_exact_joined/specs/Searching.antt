@@ -6,10 +6,10 @@ use Rattle.lrc_orders.specs.declared.outcomes.Outcome.{Outcome}
 use Rattle.lrc_orders.specs.Notes.{notes_of}
 use Rattle.lrc_orders.specs.Outcome.{HasOutcome}
 use Rattle.lrc_lazy.specs.Lazy.{IsOver}
+use Rattle.lrc_lazy.specs.Swapped.{IsNoAcquire}
 use Rattle.lrc_exact.specs.Rule.{Shape, State, KeepsExact}
 use Rattle.lrc_exact_laws.specs.Laws.{IsExactRun}
 use Rattle.lrc_exact_outcomes.specs.Outcome.{IsExactOutcome}
-use Rattle.lrc_exact_search.specs.Run.{IsFree}
 use Rattle.lrc_exact_states.specs.Keyed.{HasKeyOf}
 use Rattle.lrc_exact_states.specs.Runs.{Base, IsDecidedDeed}
 use Rattle.lrc_exact_states.specs.Searched.{first_seen, IsLookingForEver, IsReached, IsSeenFrom, Seen}
@@ -33,6 +33,11 @@ pub record IsMetByKey (program : Program) (shape : Shape) (cap : ℕ) (runs : Li
   pub met : SeenRun
   pub there : slice_get runs place ≡ Some met
   pub key : HasKeyOf program shape cap acts base (seen_of met)
+
+-- the act may come next, and acquires no lock
+pub record IsFree (program : Program) (shape : Shape) (acts : List Act) (act : Act) : Type 0 where
+  pub longer : IsExactRun program shape (acts ++ act ∷ [])
+  pub free : IsNoAcquire act.deed
 
 -- what the next act of a run compares is decided
 abbrev pub IsDecidedNext : Shape → ℕ → Seen → Act → Type 0

@@ -4,24 +4,34 @@
 //!
 //! PLAN (goes when the work is done). Without collections alone.
 //!
+//! Decided: no lower crate changes. A key is computed of the run's acts, not of the memory that the search keeps. The crate
+//! `lrc_exact_history` below makes of the acts what each node has after each act, as the definition says it, position by
+//! position: each state of the definition has one that is kept, so `here`, what a lock hands on and what was known at an arrive
+//! are looked up by the very definitions (`last_state` over what is kept), and no invariant of a machine is needed. It is slow
+//! (a copy of the node's words for each act), and wants only `collect` to be 0.
+//!
 //! 1. Done: `key`, the key as it is kept, and what it stands for (`specs/View.antt`); keys that compare equal stand for one.
 //!    `places` and `gaps`: how high places are, and how each stands to each other, of what the nodes' intervals did. `decided`:
 //!    whether what is compared of a word is decided. `met`: a run that is met, and its base; `specs/Searching.antt`: the search.
-//! 2. To do: of each node its words, with marks and the values before. `NodeCopy` of `lrc_exact_copies` and `Memory` of
-//!    `lrc_exact_judge` keep them private: each needs a function that tells them. Then `key_of_run`, at a run from whose barriers
-//!    no node is still to depart and whose base is that of its last barrier; there an arrive knows what its node does, since a node
-//!    that waits makes no act. Its clause: `key_seen` of it is `key_of`. `the_machine_has_its_part_of_a_key` gives threads, holders
-//!    and counts; `known_there` of a place is what `known_at` has up to its time, and `last_change` looks no further.
-//! 3. To do: `SearchByKeysFindsAll`, as a law: the list that `joining_by_keys_finds_all` wants has the runs that were met, and those
-//!    on the way from each to what lies ahead of it.
-//! 4. To do: the search. It keeps a `SeenRun` for each key, and hands back `Undecided` where an acquire or a depart is not decided.
-//!    Its clauses are those of `exact_outcomes` but for `TooMany`. `ExactRun::spins` has to say that it made looks alone.
-//! 5. To do: caps 4, 16, .., 4,096, one after another, then `exact_outcomes`; so it is with collections.
+//!    `lrc_exact_history`: `history_of` is the history of a run (`IsHistoryOf`).
+//! 2. Written: `kept_words` (what a key keeps of a node's words), `run_places` (how much is known at each place, in the order of
+//!    `places_of`), and in `proofs/Seen.antt` that what is kept shows what is known at each place (`seen_at`), so that gaps and
+//!    heights of the one are those of the other (`gaps_agree`, `heights_agree`).
+//! 3. Written: `SearchByKeysFindsAll`, as the law `laws::search_by_keys_finds_all`.
+//! 4. To do: `key_of_run`, which joins these parts: spots, holders and counts are the machine's, by
+//!    `the_machine_has_its_part_of_a_key` (its `stopped` wants that a node that has stopped has departed as often as it has arrived:
+//!    the acts are well synchronized, and an end is an act between no arrive and its depart).
+//! 5. To do, in a crate above, over `lrc_exact_search`: the search. It keeps a `SeenRun` for each key, and hands back `Undecided`
+//!    where an acquire or a depart is not decided. Its clauses are those of `exact_outcomes` but for `TooMany`. `ExactRun::spins`
+//!    has to say that it made looks alone. Caps 4, 16, .., 4,096, one after another, then `exact_outcomes`; so it is with
+//!    collections. Keys of programs with many words are great: the square of the number of places, times nodes and words.
 #![tactic(auto)]
 
 pub mod decided;
 pub mod gaps;
+pub mod kept_words;
 pub mod key;
 pub mod laws;
 pub mod met;
 pub mod places;
+pub mod run_places;
