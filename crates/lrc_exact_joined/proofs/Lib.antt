@@ -1,5 +1,1 @@
 mod Found
-mod Changes
-mod Each
-mod Same
-mod Seen

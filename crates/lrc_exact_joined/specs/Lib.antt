@@ -1,4 +1,1 @@
-pub mod View
-pub mod Kept
-pub mod Places
 pub mod Searching
