@@ -1,5 +1,5 @@
 -- Lists of what there is of each number, one more at the end.
-use Rattle.std.proofs.Common.{◌≡◌, ℕ, zero, suc, ◌+◌, ◌<◌, List, [], ◌∷◌, ◌++◌, length, take, get_or, refl, sym, ap, ◌∙◌, append_assoc, arith, map}
+use Rattle.std.proofs.Common.{◌≡◌, ℕ, zero, suc, ◌+◌, ◌<◌, ◌≤◌, List, [], ◌∷◌, ◌++◌, length, take, get_or, refl, sym, ap, ap₂, ◌∙◌, append_assoc, arith, map}
 use Rattle.std.proofs.Math.Seq.{take-suc}
 use Rattle.std.proofs.lemmas.List.{append-nil}
 use Rattle.lrc_exact_states.specs.Key.{each_from}
@@ -60,3 +60,16 @@ added-none f g old = sym (append-nil old)
 pub map-append : {A B : Type 0} (f : A → B) (xs ys : List A) → map f (xs ++ ys) ≡ map f xs ++ map f ys
 map-append f [] ys = refl
 map-append {A} {B} f (x ∷ xs) ys = ap (λ (zs : List B). f x ∷ zs) (map-append f xs ys)
+
+-- lists of the same values
+pub each_agree : {A : Type 0} (f g : ℕ → A) (first count : ℕ) → ((i : ℕ) → first ≤ i → i < first + count → f i ≡ g i)
+    → each_from first count f ≡ each_from first count g
+each_agree f g first zero same = refl
+each_agree f g first (suc count) same =
+    ap₂ (λ x xs. x ∷ xs) (same first (omega arith) (omega arith)) (each_agree f g (suc first) count (λ i low high. same i (omega (arith, low)) (omega (arith, high))))
+
+-- of three parts that were added one after another
+pub parts-added : {A B : Type 0} (f : A → B) (xs ys zs : List A) → ((map f xs) ++ map f ys) ++ map f zs ≡ map f (xs ++ (ys ++ zs))
+parts-added {B = B} f xs ys zs =
+    append_assoc (map f xs) (map f ys) (map f zs)
+    ∙ sym (map-append f xs (ys ++ zs) ∙ ap (λ (bs : List B). map f xs ++ bs) (map-append f ys zs))

@@ -19,11 +19,11 @@ use Rattle.lrc_exact_history.proofs.Next.{held_is}
 use Rattle.lrc_exact_states.specs.Levels.{Change, last_change}
 use Rattle.lrc_exact_states.specs.Key.{at_arrive, at_lock, at_node, capped_above, change_kept, each_from, Gap, gap_of, gaps_of, handed_on, heights_of, is_above, known_at, Place}
 use Rattle.lrc_exact_states.specs.Runs.{Base}
-use Rattle.lrc_exact_states.proofs.Listed.{each_agree}
 use Rattle.lrc_exact_keys.specs.declared.run_places.SeenHistory.{SeenHistory}
 use Rattle.lrc_exact_keys.specs.Kept.{handed_time, time_seen}
 use Rattle.lrc_exact_keys.specs.Places.{IsPlaceOf, known_there}
 use Rattle.lrc_exact_keys.proofs.Changes.{last-agree}
+use Rattle.lrc_exact_keys.proofs.Each.{each_agree}
 
 -- so much is known there, and these are all intervals that were closed
 pub record IsSeen (nodes : ℕ) (made : List (Vec Made Global)) (time : List ℕ) (knows : Knowledge) : Type 0 where

@@ -8,4 +8,5 @@ pub mod gaps;
 pub mod kept_words;
 pub mod key;
 pub mod places;
+pub mod run_key;
 pub mod run_places;
