@@ -1,11 +1,11 @@
 // What is answered of a program, where it is asked whether every order can end.
 
-ghost use Rattle.std.specs.Prelude.{◌≡◌, ◌≢◌, ◌<◌, ◌≤◌, ◌↔◌, IfErr, IfOk, Err, true, false};
+ghost use Rattle.std.specs.Prelude.{◌≡◌, ◌≢◌, ◌<◌, ◌≤◌, ◌↔◌, ◌⊎◌, IfErr, IfOk, OnOk, Ok, Err, true, false};
 ghost use Rattle.lrc_exec.specs.Nodes.{AreNodes};
 ghost use Rattle.lrc_orders_table.specs.Rows.{row_count};
 ghost use Rattle.lrc_explore.specs.Answers.{AreAllExpanded, FitsSettled, IsEnd, IsFault, IsFaultOf, IsThrough, MetTooMany};
-ghost use Rattle.lrc_explore.specs.Met.{ComputesTooLong};
-ghost use Rattle.lrc_explore.specs.Reached.{AreFound, IsTask};
+ghost use Rattle.lrc_explore.specs.Met.{ComputesTooLong, FitsSought, IsMany, IsSought};
+ghost use Rattle.lrc_explore.specs.Reached.{AreFound, HasStart, IsTask};
 ghost use Rattle.lrc_explore.specs.declared.task.End.TheVariants.{Meeting};
 ghost use Rattle.lrc_explore_ends.specs.Answers.{AreEndFindings, GoesThrough, IsEndAnswer, IsTaskEndAnswer};
 
@@ -91,8 +91,50 @@ fn search(alloc: Global, task: &Task<'_>, races: bool) -> Result<EndVerdict, Exp
     ensures faults { IfErr result (IsFault task.now) }
 {
     let mut found = Found::none(alloc, task.flat.nodes as usize);
+    let sought = sought_from_start(alloc, task, &mut found, races)?;
+    answer_of(alloc, task, found, races, sought)
+}
+
+// Searches from the settled start on, where there are no states yet.
+fn sought_from_start(
+    alloc: Global,
+    task: &Task<'_>,
+    found: &mut Found,
+    races: bool,
+) -> Result<Sought, ExploreFault>
+    requires task { IsTask task.now }
+    requires found { AreFound task.now found.old }
+    requires none { row_count found.old.table.rows ≡ 0 }
+    ensures found { OnOk result (AreFound task.now found.new) }
+    ensures start { OnOk result (HasStart task.now found.new.table.rows) }
+    ensures some { OnOk result (0 < row_count found.new.table.rows) }
+    ensures sought { IfOk result (IsSought task.now found.new races) }
+    ensures fits { IfOk result (FitsSought task.now found.new) }
+    ensures faults { IfErr result (IsFault task.now) }
+{
     let traps = found.begin(alloc, task)?;
-    let sought = found.seek(alloc, task, races, traps)?;
+    found.seek(alloc, task, races, traps)
+}
+
+// What is answered where the search ended so.
+fn answer_of(
+    alloc: Global,
+    task: &Task<'_>,
+    found: Found,
+    races: bool,
+    sought: Sought,
+) -> Result<EndVerdict, ExploreFault>
+    requires task { IsTask task.now }
+    requires found { AreFound task.now found }
+    requires start { HasStart task.now found.table.rows }
+    requires some { 0 < row_count found.table.rows }
+    requires sought { IsSought task.now found races sought }
+    requires few { FitsSought task.now found sought }
+    ensures answer { IfOk result (IsTaskEndAnswer task.now races) }
+    ensures fits { IfOk result (λ verdict. GoesThrough verdict
+        → FitsSettled task.now.program.now task.now.flat.nodes task.now.most) }
+    ensures faults { IfErr result (IsFault task.now) }
+{
     match sought {
         Sought::Ended(end) => match end {
             End::Meeting { place, p, q } => race_of(alloc, task, &found, place, p, q),
@@ -101,11 +143,28 @@ fn search(alloc: Global, task: &Task<'_>, races: bool) -> Result<EndVerdict, Exp
                 Ok(EndVerdict::Through(ends))
             }
         },
-        Sought::Many { stuck, trap } => {
-            let met = found.met_told(alloc, task, races, stuck, trap)?;
-            Ok(EndVerdict::Many(met))
-        }
+        Sought::Many { stuck, trap } => many_of(alloc, task, &found, races, stuck, trap),
     }
+}
+
+// What was met where there are too many states.
+fn many_of(
+    alloc: Global,
+    task: &Task<'_>,
+    found: &Found,
+    races: bool,
+    stuck: Option<usize>,
+    trap: Option<Trapping>,
+) -> Result<EndVerdict, ExploreFault>
+    requires task { IsTask task.now }
+    requires found { AreFound task.now found.now }
+    requires many { IsMany task.now found.now.table.rows races stuck trap }
+    ensures answer { IfOk result (IsTaskEndAnswer task.now races) }
+    ensures many { IfOk result (λ verdict. ¬ GoesThrough verdict) }
+    ensures faults { IfErr result (IsFault task.now) }
+{
+    let met = found.met_told(alloc, task, races, stuck, trap)?;
+    Ok(EndVerdict::Many(met))
 }
 
 // An order that races.
@@ -146,7 +205,21 @@ fn through(
     ensures findings { IfOk result (AreEndFindings task.now.program.now task.now.flat.nodes) }
     ensures faults { IfErr result (IsFault task.now) }
 {
-    let besides = found.findings_told(alloc, task, stuck, trap)?;
-    let lost = lost_order(alloc, task, found)?;
+    let besides = found.findings_told(alloc, task, stuck, trap);
+    let lost = lost_order(alloc, task, found);
+    end_findings(besides, lost)
+}
+
+// Both findings, or why the first of them failed, else the second.
+fn end_findings(
+    besides: Result<Findings, ExploreFault>,
+    lost: Result<Option<Vec<usize>>, ExploreFault>,
+) -> Result<EndFindings, ExploreFault>
+    ensures besides { IfOk result (λ found. besides ≡ Ok found.besides) }
+    ensures lost { IfOk result (λ found. lost ≡ Ok found.lost) }
+    ensures fault { IfErr result (λ fault. (besides ≡ Err fault) ⊎ (lost ≡ Err fault)) }
+{
+    let besides = besides?;
+    let lost = lost?;
     Ok(EndFindings { besides, lost })
 }

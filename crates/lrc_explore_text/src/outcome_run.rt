@@ -97,10 +97,28 @@ fn run_of(alloc: Global, task: &Task<'_>, number: u64) -> Result<Option<Vec<Act>
     ensures faults { IfErr result (IsSearchFault task.now false) }
 {
     let ended = all_ended(alloc, task)?;
+    run_among(alloc, task, &ended, number)
+}
+
+// The same of what was found.
+fn run_among(
+    alloc: Global,
+    task: &Task<'_>,
+    ended: &Ended,
+    number: u64,
+) -> Result<Option<Vec<Act>>, ExploreFault>
+    requires task { IsTask task.now }
+    requires noting { task.now.noting ≡ true }
+    requires ended { AreEnded task.now ended.now }
+    requires number { 1 ≤ number }
+    ensures run { IfOk result (λ run. IsRunOfNumber task.now.program.now task.now.flat.nodes number
+        (option_map (λ acts. acts.items) run)) }
+    ensures faults { IfErr result (IsSearchFault task.now false) }
+{
     let place = place_of(alloc, task.flat.nodes, ended.outcomes.as_slice(), number)?;
     match place {
         Some(place) => {
-            let acts = run_at(alloc, task, &ended, place)?;
+            let acts = run_at(alloc, task, ended, place)?;
             Ok(Some(acts))
         }
         None => Ok(None),

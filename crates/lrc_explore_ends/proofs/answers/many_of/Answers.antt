@@ -1,0 +1,7 @@
+use Rattle.lrc_orders.proofs.Faults.{fault_up}
+use Rattle.lrc_explore.specs.Answers.{IsFault}
+use Rattle.lrc_explore_ends.proofs.answers.many_of.Goals as goal
+
+pub returns-in_err-met-clause-faults : goal.returns-in_err-met-clause-faults
+returns-in_err-met-clause-faults c =
+    fault_up c.from_residual.result c.in_err-met.field-0.0 (IsFault c.args.task.now) c.from_residual.ensures.1 c.in_err-met.ensures.faults
