@@ -22,7 +22,7 @@ use Rattle.lrc_orders_table.proofs.RowsApart.{row_apart}
 use Rattle.lrc_exec.specs.declared.spot.Spot.{Spot}
 use Rattle.lrc_exec.specs.declared.state.State.{State}
 use Rattle.lrc_orders.specs.declared.search.ExploreFault.{ExploreFault}
-use Rattle.lrc_orders.specs.declared.search.ExploreFault.TheVariants.{BadNodes, TooMany}
+use Rattle.lrc_orders.specs.declared.search.ExploreFault.TheVariants.{BadNodes, NoMemory, TooMany}
 use Rattle.lrc_exec.specs.Plain.{plain_start, thread_in}
 use Rattle.lrc_orders_settling.specs.Settling.{MakesFree}
 use Rattle.lrc_orders_laws.specs.Steps.{IsSettledOutcome}
@@ -365,6 +365,10 @@ pub cut_short : (task : Task) (found : Found) (races : Bool) → AreFound task f
     → (races ≡ true → AreCalm task found.table.rows (row_count found.table.rows)) → IsSearchFault task races TooMany
 cut_short task found races f (are_more many) calm = too_many_states task found races f many calm
 cut_short task found races f (is_longer place long) calm = record { nodes = λ e. cc; many = λ e. is_long (long_at task found place f long) }
+
+-- where there is no memory
+pub memory_fault : (task : Task) (fault : ExploreFault) → fault ≡ NoMemory → IsFault task fault
+memory_fault task fault is = subst (IsFault task) (sym is) (record { nodes = λ e. cc; many = λ e. cc })
 
 -- the fault of the start
 pub long_start : (task : Task) (state : State) → IsTask task → plain_at task.flat state ≡ machine_begun task.flat task.start

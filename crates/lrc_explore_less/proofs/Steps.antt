@@ -39,9 +39,7 @@ use Rattle.lrc_explore.specs.Told.{LeadTo}
 use Rattle.lrc_explore.proofs.Keys.{after_at_grown, has_after, start_grown}
 use Rattle.lrc_explore.proofs.Reaching.{gets_stuck}
 use Rattle.lrc_explore.proofs.Trapping.{node_traps, trap_grown}
-use Rattle.lrc_orders.specs.declared.search.ExploreFault.{ExploreFault}
-use Rattle.lrc_orders.specs.declared.search.ExploreFault.TheVariants.{NoMemory}
-use Rattle.lrc_explore.specs.Answers.{IsFault, IsLong}
+use Rattle.lrc_explore.specs.Answers.{IsLong}
 use Rattle.lrc_explore.proofs.Seeking.{long_at}
 use Rattle.lrc_explore_less.specs.declared.less.Less.{Less}
 use Rattle.lrc_explore_less.specs.declared.less.Pass.TheVariants as pass
@@ -473,6 +471,3 @@ long_opened task old new same is = subst (IsLongSome task) (sym same) is
 
 pub long_less : (task : Task) (less : Less) → IsSound task less → IsLongSome task less → IsLong task
 long_less task less sound is = long_at task less.found is.0 sound.found is.1
-
-pub memory_fault : (task : Task) (fault : ExploreFault) → fault ≡ NoMemory → IsFault task fault
-memory_fault task fault is = subst (IsFault task) (sym is) (record { nodes = λ e. cc; many = λ e. cc })

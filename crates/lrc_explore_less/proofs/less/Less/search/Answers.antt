@@ -1,6 +1,6 @@
 use Rattle.lrc_orders.proofs.Faults.{fault_says}
 use Rattle.lrc_explore.specs.Cut.{is_longer}
-use Rattle.lrc_explore_less.proofs.Steps.{memory_fault}
+use Rattle.lrc_explore.proofs.Seeking.{memory_fault}
 use Rattle.lrc_explore_less.proofs.less.Less.search.Goals as goal
 
 pub end_of_all-requires-clause-cut : goal.end_of_all-requires-clause-cut
