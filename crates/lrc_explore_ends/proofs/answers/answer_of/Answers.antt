@@ -44,8 +44,7 @@ through-requires-clause-through c =
 pub returns-in_ok-ends-in-Through-clause-answer : goal.returns-in_ok-ends-in-Through-clause-answer
 returns-in_ok-ends-in-Through-clause-answer c =
     let task = c.args.task.now in
-    let end = subst (IsEnd task c.args.found c.args.races) c.in-Through.is (subst (IsSought task c.args.found c.args.races) c.in-Ended.is c.requires.sought) in
-    (
+    let end = subst (IsEnd task c.args.found c.args.races) c.in-Through.is (subst (IsSought task c.args.found c.args.races) c.in-Ended.is c.requires.sought) in (
       λ looked. no_race task c.args.found.table.rows c.requires.found.reached c.requires.start end.expanded (end.calm looked),
       c.in_ok-ends-in-Through.ensures.findings,
     )
