@@ -67,7 +67,8 @@ module _ (task : Task) (found : Found) (races : Bool) (stuck : Option ℕ) (trap
       let long = items.long in
       let it = item_at items.list place (omega (arith, within, long)) in
       let copy = row_copy all place it.0 is.0 (items.at place it.0 it.1) is.1 in
-      longer_among place it.0 it.1 (subst (λ m. ComputesLong m task.looked) (sym (copy_same task.flat it.0.state is.0.state copy.state)) is.2)
+      let same = copy_same task.flat it.0.state is.0.state copy.state in
+      longer_among place it.0 it.1 (subst (λ m. ComputesLong m task.looked) (sym same) is.2)
 
   tells_stuck : (o : Option (List ℕ)) → TellsStuckAt task all o → TellsStuckMet task items.list o
   tells_stuck None nowhere = λ k key there. let at = items.at k key there in nowhere k key (row_within all k key at) at
@@ -125,9 +126,11 @@ both_found task most races met has e = record {
 -- ---- of a program
 
 -- why a search gives up that is cut short
-many_of : (task : Task) (races : Bool) (keys : List Noted) → AreSettledApart task keys races → IsCutAmong task task.most keys → IsTooMany task races
+many_of : (task : Task) (races : Bool) (keys : List Noted) → AreSettledApart task keys races
+    → IsCutAmong task task.most keys → IsTooMany task races
 many_of task races keys are (more_among more) = has_more (record { keys = keys; many = more; are = are })
-many_of task races keys are (longer_among k key there long) = is_long (settles_long (settles_from task key (are.each k key there) long))
+many_of task races keys are (longer_among k key there long) =
+    is_long (settles_long (settles_from task key (are.each k key there) long))
 
 pub gave_up : (task : Task) (program : Program) (nodes most : ℕ) → IsTask task → task.program.now ≡ program → IsFlatOf program nodes task.flat task.start
     → task.most ≡ most → task.looked ≡ looked_at most → task.noting ≡ false → (races : Bool) (met : Findings) → HasMet task task.most races met

@@ -189,16 +189,19 @@ trap_met task all index None so trapless = trapless refl
 trap_met task all index (Some there) so trapless = so
 
 -- where the search is cut short at the state at this place
-pub trap_cut : (task : Task) (old new : Rows) (place : ℕ) (o : Option Trapping) (t : Option Step) (key : Noted) → WidensRows old new → IsRowAt new place key
-    → IsTrapSoFar task old place o → (is_some o ≡ false → AreRowsTrapless task old) → KeepsTrapless task old new (is_some t)
+pub trap_cut : (task : Task) (old new : Rows) (place : ℕ) (o : Option Trapping) (t : Option Step) (key : Noted)
+    → WidensRows old new → IsRowAt new place key → IsTrapSoFar task old place o
+    → (is_some o ≡ false → AreRowsTrapless task old) → KeepsTrapless task old new (is_some t)
     → IsTrapStepAt task new place t → IsTrapMet task new (first_trap o t place)
 trap_cut task old new place (Some trapping.Start) t key w at so was keeps is = so
-trap_cut task old new place (Some (trapping.Step origin)) t key w at so was keeps is = (so.0, row_grown old new origin.parent so.0 w so.1, so.2)
+trap_cut task old new place (Some (trapping.Step origin)) t key w at so was keeps is =
+    (so.0, row_grown old new origin.parent so.0 w so.1, so.2)
 trap_cut task old new place None (Some taken) key w at so was keeps is = (key, at, is key at)
 trap_cut task old new place None None key w at so was keeps is = keeps refl (was refl)
 
-pub calm_cut : (task : Task) (old new : Found) (place : ℕ) (races : Bool) → AreFound task old → WidensRows old.table.rows new.table.rows
-    → place < row_count old.table.rows → (races ≡ true → AreCalm task old.table.rows place) → races ≡ true → AreCalm task new.table.rows place
+pub calm_cut : (task : Task) (old new : Found) (place : ℕ) (races : Bool) → AreFound task old
+    → WidensRows old.table.rows new.table.rows → place < row_count old.table.rows
+    → (races ≡ true → AreCalm task old.table.rows place) → races ≡ true → AreCalm task new.table.rows place
 calm_cut task old new place races f w within calm looked k key lt at =
     calm looked k key lt (was_there old.table.rows new.table.rows k key w f.reached.full (omega (arith, lt, within)) at)
 
@@ -299,11 +302,13 @@ bare_key task found place key f at =
     threads_of_row (λ (spot : Spot). forgot task.live.items spot ≡ spot) keys found.table.rows.nodes at.row.threads key.state.spots.items at.stands.threads
     (f.table (means_of task) (means_are task)).bare
 
-abbrev pub all_items : (task : Task) (found : Found) → AreFound task found → IsList IsRowAt row_count WidensRows IsNotedCopy row_store found.table.rows
+abbrev pub all_items : (task : Task) (found : Found) → AreFound task found
+    → IsList IsRowAt row_count WidensRows IsNotedCopy row_store found.table.rows
 all_items task found f = listed IsRowAt row_count WidensRows IsNotedCopy row_store found.table.rows f.reached.full
 
 pub settled_apart : (task : Task) (found : Found) (races : Bool) (f : AreFound task found)
-    → (races ≡ true → AreCalm task found.table.rows (row_count found.table.rows)) → AreSettledApart task (all_items task found f).list races
+    → (races ≡ true → AreCalm task found.table.rows (row_count found.table.rows))
+    → AreSettledApart task (all_items task found f).list races
 settled_apart task found races f calm =
     let all = found.table.rows in
     let reached = f.reached in
@@ -315,11 +320,16 @@ settled_apart task found races f calm =
       calm = λ looked k key there. let at = items.at k key there in calm looked k key (row_within all k key at) at;
     }
 
-has_more_settled : (task : Task) (found : Found) (most : ℕ) (races : Bool) → AreFound task found → most < row_count found.table.rows
-    → (races ≡ true → AreCalm task found.table.rows (row_count found.table.rows)) → HasMoreSettled task most races
+has_more_settled : (task : Task) (found : Found) (most : ℕ) (races : Bool) → AreFound task found
+    → most < row_count found.table.rows → (races ≡ true → AreCalm task found.table.rows (row_count found.table.rows))
+    → HasMoreSettled task most races
 has_more_settled task found most races f many calm =
     let items = all_items task found f in
-    record { keys = items.list; many = subst (λ n. most < n) (sym items.long) many; are = settled_apart task found races f calm }
+    record {
+      keys = items.list;
+      many = subst (λ n. most < n) (sym items.long) many;
+      are = settled_apart task found races f calm;
+    }
 
 pub too_many_states : (task : Task) (found : Found) (races : Bool) → AreFound task found → task.most < row_count found.table.rows
     → (races ≡ true → AreCalm task found.table.rows (row_count found.table.rows)) → IsSearchFault task races TooMany
@@ -342,8 +352,8 @@ calm_on task all place races key there before here looked k other lt at = elim (
 ]
 
 -- a node that computes too long
-pub settles_from : (task : Task) (key : Noted) → IsReached task key → ComputesLong (plain_at task.flat key.state) task.looked
-    → SettlesLong task.program.now task.flat.nodes task.looked
+pub settles_from : (task : Task) (key : Noted) → IsReached task key
+    → ComputesLong (plain_at task.flat key.state) task.looked → SettlesLong task.program.now task.flat.nodes task.looked
 settles_from task key r long = record {
   acts = r.acts;
   machine = r.machine;
@@ -353,7 +363,8 @@ settles_from task key r long = record {
   long = long;
 }
 
-pub long_at : (task : Task) (found : Found) (place : ℕ) → AreFound task found → IsLongAt task found.table.rows place → IsLong task
+pub long_at : (task : Task) (found : Found) (place : ℕ) → AreFound task found → IsLongAt task found.table.rows place
+    → IsLong task
 long_at task found place f is = settles_long (settles_from task is.0 (f.reached.each place is.0 is.1) is.2)
 
 -- a fault of a step
@@ -364,7 +375,8 @@ fault_of task key fault r f = record { nodes = f.nodes; many = λ e. settles_lon
 pub cut_short : (task : Task) (found : Found) (races : Bool) → AreFound task found → IsCut task found.table.rows
     → (races ≡ true → AreCalm task found.table.rows (row_count found.table.rows)) → IsSearchFault task races TooMany
 cut_short task found races f (are_more many) calm = too_many_states task found races f many calm
-cut_short task found races f (is_longer place long) calm = record { nodes = λ e. cc; many = λ e. is_long (long_at task found place f long) }
+cut_short task found races f (is_longer place long) calm =
+    record { nodes = λ e. cc; many = λ e. is_long (long_at task found place f long) }
 
 -- where there is no memory
 pub memory_fault : (task : Task) (fault : ExploreFault) → fault ≡ NoMemory → IsFault task fault

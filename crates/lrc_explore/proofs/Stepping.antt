@@ -172,7 +172,8 @@ module _ (task : Task) (means : Means) (old : Found) (new : Table) (place : ℕ)
   found_on (Err fault) known keeps = tt
 
   pub long_on : (r : Result (Option Led) ExploreFault)
-      → IfErr r (λ fault. (x : Noted) → IsTakenFrom means old.table row x → IsLongRowFault means x fault) → IfErr r (KeepsIfLong means old.table new)
+      → IfErr r (λ fault. (x : Noted) → IsTakenFrom means old.table row x → IsLongRowFault means x fault)
+      → IfErr r (KeepsIfLong means old.table new)
       → IfErr r (λ fault. fault ≡ TooMany → StaysLong task old (record { table = new; origins = old.origins }) place)
   long_on (Ok o) all kept = tt
   long_on (Err fault) all kept = λ e.
@@ -183,7 +184,8 @@ module _ (task : Task) (means : Means) (old : Found) (new : Table) (place : ℕ)
         long = (
           key,
           at_new k.1.widens,
-          subst (ComputesLong (plain_at task.flat key.state)) is.looked (subst (λ g. ComputesLong (plain_at g key.state) means.looked) is.flat (l.many e)),
+          subst (ComputesLong (plain_at task.flat key.state)) is.looked
+              (subst (λ g. ComputesLong (plain_at g key.state) means.looked) is.flat (l.many e)),
         );
         found = found_kept task means old later is f k.1 k.0 refl;
         more = record { rows = k.1.widens; origins = grows_not old.origins.items old.origins.items refl };

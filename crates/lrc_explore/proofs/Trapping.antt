@@ -86,8 +86,8 @@ among_on task old new place node None false w full so h = λ key at.
     )
 
 -- what is said where a step more is cut short
-pub among_named : (task : Task) (old new : Rows) (place node : ℕ) (trap : Option Step) → WidensRows old new → IsRowPlace old place
-    → IsTrapAmong task old place node trap → IsTrapStepAt task new place trap
+pub among_named : (task : Task) (old new : Rows) (place node : ℕ) (trap : Option Step) → WidensRows old new
+    → IsRowPlace old place → IsTrapAmong task old place node trap → IsTrapStepAt task new place trap
 among_named task old new place node None w full so = tt
 among_named task old new place node (Some step) w full so = λ key at. so key (was_at old new place key w full at)
 

@@ -57,9 +57,9 @@ pub record SettlesLong (program : Program) (nodes most : ℕ) : Type 0 where
   pub alike : AreLike machine like
   pub long : ComputesLong like most
 
--- No two of these states are equal, and each stands for a settled state of the program. What no longer matters is 0 in them: two that stand
--- for the same state differ in the place of the code where some node is, or in their notes. Where races are looked for, no two nodes meet
--- at any of them, so that no race was to be told.
+-- No two of these states are equal, and each stands for a settled state of the program. What no longer matters is 0 in
+-- them: two that stand for the same state differ in the place of the code where some node is, or in their notes. Where
+-- races are looked for, no two nodes meet at any of them, so that no race was to be told.
 pub record AreSettledApart (task : Task) (keys : List Noted) (races : Bool) : Type 0 where
   pub distinct : IsDistinct eq-value.it keys
   pub each : (k : ℕ) (key : Noted) → slice_get keys k ≡ Some key → IsReached task key
@@ -145,12 +145,14 @@ MeetAt task found races place p q = (key : Noted) × IsRowAt found.table.rows pl
 
 -- from the state at a place some node computes too long
 abbrev pub IsLongAt : Task → Rows → (place : ℕ) → Type 0
-IsLongAt task all place = (key : Noted) × IsRowAt all place key × ComputesLong (plain_at task.flat key.state) task.looked
+IsLongAt task all place =
+    (key : Noted) × IsRowAt all place key × ComputesLong (plain_at task.flat key.state) task.looked
 
 abbrev pub IsVisit : Task → Found → (place : ℕ) → (races : Bool) → Visit → Type 0
 IsVisit task found place races (visit.Meeting p q) = MeetAt task found races place p q
 IsVisit task found place races (visit.Past stuck trap) = IsSeen task found place races stuck trap
-IsVisit task found place races (visit.Cut trap) = IsLongAt task found.table.rows place × IsTrapStepAt task found.table.rows place trap
+IsVisit task found place races (visit.Cut trap) =
+    IsLongAt task found.table.rows place × IsTrapStepAt task found.table.rows place trap
 
 -- the first state that is stuck, where that at this place is next
 abbrev pub first_stuck : Option ℕ → (stuck : Bool) → (place : ℕ) → Option ℕ

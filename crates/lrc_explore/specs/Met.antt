@@ -38,8 +38,8 @@ abbrev pub IsTrapMet : Task → Rows → Option Trapping → Type 0
 IsTrapMet task all None = AreRowsTrapless task all
 IsTrapMet task all (Some there) = IsTrapping task all there
 
--- There are more states than may be, or from one of them some node computes too long; and no two nodes meet at one, if that is looked for. It
--- is said where the program is stuck, and where a node traps.
+-- There are more states than may be, or from one of them some node computes too long; and no two nodes meet at one, if
+-- that is looked for. It is said where the program is stuck, and where a node traps.
 pub record IsMany (task : Task) (all : Rows) (races : Bool) (stuck : Option ℕ) (trap : Option Trapping) : Type 0 where
   pub cut : IsCut task all
   pub calm : races ≡ true → AreCalm task all (row_count all)
@@ -100,7 +100,8 @@ pub record TellsMet (task : Task) (keys : List Noted) (met : Findings) : Type 0 
   pub stuck : TellsStuckMet task keys (option_map (λ order. order.items) met.stuck)
   pub trap : TellsTrapMet task keys (option_map (λ order. order.items) met.trap)
 
--- so it is of states that stand for settled states of the program: they are more than a bound, or some node computes too long from one of them
+-- so it is of states that stand for settled states of the program: they are more than a bound, or some node computes
+-- too long from one of them
 pub record HasMet (task : Task) (most : ℕ) (races : Bool) (met : Findings) : Type 0 where
   pub keys : List Noted
   pub are : AreSettledApart task keys races

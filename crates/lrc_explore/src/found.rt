@@ -235,7 +235,8 @@ impl Found {
     }
 
     /// Adds the states that a step leads to from that at a place, up to the first step in which some node computes too
-    /// long. Returns whether there is one, and the first step in which a node traps, if any. It fails if memory runs out.
+    /// long. Returns whether there is one, and the first step in which a node traps, if any. It fails if memory
+    /// runs out.
     pub fn expand(
         &mut self,
         alloc: Global,
@@ -266,8 +267,8 @@ impl Found {
         Ok(Steps::All(trap))
     }
 
-    // Adds the state that a step leads to from that at a place, if it can be taken: whether a node traps in it, or computes
-    // too long.
+    // Adds the state that a step leads to from that at a place, if it can be taken: whether a node traps in it, or
+    // computes too long.
     fn expand_step(
         &mut self,
         alloc: Global,

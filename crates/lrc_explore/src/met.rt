@@ -14,8 +14,8 @@ impl Found {
     ghost use Rattle.lrc_explore.specs.Reached.{AreFound, IsTask};
     ghost use Rattle.lrc_explore.specs.Traps.{IsTrapping};
 
-    /// Returns an order that gets stuck, if the program is stuck at a state that was found, and one in which a node traps,
-    /// if it is said where one does, where a search was cut short. It fails if memory runs out.
+    /// Returns an order that gets stuck, if the program is stuck at a state that was found, and one in which a node
+    /// traps, if it is said where one does, where a search was cut short. It fails if memory runs out.
     pub fn met_told(
         &self,
         alloc: Global,

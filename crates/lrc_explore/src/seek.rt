@@ -86,12 +86,12 @@ impl Found {
     ghost use Rattle.lrc_orders_table.specs.declared.known.Means.{Means as TheMeans};
     ghost use Rattle.lrc_orders_table.specs.Tables.{IsKnown, IsRowOf, IsTable};
 
-    /// Looks for a state where two nodes meet, if `races` is true. If there is none, all states are found, and the answer
-    /// tells the first of them at which the program is stuck, if any, and where a node traps first, if one does. `start`
-    /// says whether one traps as the start settles. Where there are too many states, or a node makes so many free acts that
-    /// the limit is reached, no two nodes meet at any of the states that were found, if `races` is true, and the answer
-    /// tells the first of them at which the program is stuck, and where a node traps on the way to them. It fails if memory
-    /// runs out.
+    /// Looks for a state where two nodes meet, if `races` is true. If there is none, all states are found, and the
+    /// answer tells the first of them at which the program is stuck, if any, and where a node traps first, if one does.
+    /// `start` says whether one traps as the start settles. Where there are too many states, or a node makes so many
+    /// free acts that the limit is reached, no two nodes meet at any of the states that were found, if `races` is true,
+    /// and the answer tells the first of them at which the program is stuck, and where a node traps on the way to them.
+    /// It fails if memory runs out.
     pub fn seek(
         &mut self,
         alloc: Global,
@@ -135,8 +135,8 @@ impl Found {
         Ok(Sought::Ended(End::Through { stuck, trap }))
     }
 
-    // Where a search ends that is cut short: at the first state found from this place on where two nodes meet, if that is
-    // looked for; or with what it met.
+    // Where a search ends that is cut short: at the first state found from this place on where two nodes meet, if that
+    // is looked for; or with what it met.
     fn end_from(&self, task: &Task<'_>, first: usize, races: bool, trap: Option<Trapping>) -> Sought
         requires found { AreFound task.now self.now }
         requires calm { races ≡ true → AreCalm task.now self.now.table.rows first }

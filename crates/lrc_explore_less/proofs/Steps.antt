@@ -466,7 +466,8 @@ trap_order task acts order led same = subst (NodeTraps task.program.now task.fla
 
 -- ---- where some node computes too long
 
-pub long_opened : (task : Task) (old new : Less) → new ≡ record old { opens = new.opens } → IsLongSome task old → IsLongSome task new
+pub long_opened : (task : Task) (old new : Less) → new ≡ record old { opens = new.opens } → IsLongSome task old
+    → IsLongSome task new
 long_opened task old new same is = subst (IsLongSome task) (sym same) is
 
 pub long_less : (task : Task) (less : Less) → IsSound task less → IsLongSome task less → IsLong task

@@ -172,8 +172,8 @@ impl Less {
         }
     }
 
-    /// Finds the states to which every step leads from that at a place. It fails if memory runs out, or if a node makes so
-    /// many free acts that the limit is reached.
+    /// Finds the states to which every step leads from that at a place. It fails if memory runs out, or if a node makes
+    /// so many free acts that the limit is reached.
     pub fn expand(
         &mut self,
         alloc: Global,
@@ -227,9 +227,9 @@ impl Less {
         Ok(())
     }
 
-    // From the last state: makes undisputed acts, up to a state of which none is known, or which was found before, or up
-    // to as many states as may be kept. The states from the first one on were passed just now. It fails if memory runs out,
-    // or if a node makes so many free acts that the limit is reached.
+    // From the last state: makes undisputed acts, up to a state of which none is known, or which was found before, or
+    // up to as many states as may be kept. The states from the first one on were passed just now. It fails if memory
+    // runs out, or if a node makes so many free acts that the limit is reached.
     fn advance(&mut self, alloc: Global, task: &Task<'_>, first: usize) -> Result<(), ExploreFault>
         requires task { IsTask task.now }
         requires passing { ArePassing task.now self.old first }

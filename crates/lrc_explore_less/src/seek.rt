@@ -60,8 +60,8 @@ impl Less {
     ghost use Rattle.lrc_explore_less.specs.Met.{IsSought};
     ghost use Rattle.lrc_explore_less.specs.Outcomes.{AreGathered, IsGatheredAt};
 
-    /// Searches as `seek` does, from the settled start on. There must be no states yet. It fails if memory runs out, or if a
-    /// node makes so many free acts as the start settles.
+    /// Searches as `seek` does, from the settled start on. There must be no states yet. It fails if memory runs out, or
+    /// if a node makes so many free acts as the start settles.
     pub fn search(
         &mut self,
         alloc: Global,
@@ -85,9 +85,9 @@ impl Less {
 
     /// Looks for a state where two nodes meet, if `races` is true. If there is none, enough states are found, and the
     /// answer tells the first of them at which the program is stuck, if any, and where a node traps first, if one does.
-    /// Where there are too many states, or a node makes so many free acts that the limit is reached, no two nodes meet at
-    /// any of the states that were found, if `races` is true, and the answer tells the first of them at which the program is
-    /// stuck, and where a node traps on the way to them. It fails if memory runs out.
+    /// Where there are too many states, or a node makes so many free acts that the limit is reached, no two nodes meet
+    /// at any of the states that were found, if `races` is true, and the answer tells the first of them at which the
+    /// program is stuck, and where a node traps on the way to them. It fails if memory runs out.
     pub fn seek(
         &mut self,
         alloc: Global,
@@ -132,8 +132,8 @@ impl Less {
         self.opens.len() > task.most || self.found.table.rows.len() > most_rows(task)
     }
 
-    // Where a search ends that is cut short: at the first state found where two nodes meet, if that is looked for; or with
-    // what it met.
+    // Where a search ends that is cut short: at the first state found where two nodes meet, if that is looked for; or
+    // with what it met.
     fn end_of_all(&self, task: &Task<'_>, races: bool) -> Sought
         requires sound { IsSound task.now self.now }
         requires cut { IsCut task.now self.now.found.table.rows }

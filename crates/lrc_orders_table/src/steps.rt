@@ -35,8 +35,8 @@ impl Table {
     ghost use Rattle.lrc_orders_table.specs.Going.{CanGo, HasAfter, HasGone, IsAskable, IsAskedSettled, IsLongAct, IsLongAsk};
 
     /// Returns the row that the step of one node leads to, and whether the node traps in it, or none if the node cannot
-    /// take one. It fails if memory runs out, or if a thread makes as many free acts as are looked at: then the rows stay
-    /// as they are.
+    /// take one. It fails if memory runs out, or if a thread makes as many free acts as are looked at: then the rows
+    /// stay as they are.
     pub fn alone(
         &mut self,
         alloc: Global,
@@ -82,8 +82,8 @@ impl Table {
     }
 
     /// Returns the row that the step of all nodes leads to, and whether one of them traps in it, or none if they cannot
-    /// take one. It fails if memory runs out, or if a thread makes as many free acts as are looked at: then the rows stay
-    /// as they are.
+    /// take one. It fails if memory runs out, or if a thread makes as many free acts as are looked at: then the rows
+    /// stay as they are.
     pub fn together(
         &mut self,
         alloc: Global,

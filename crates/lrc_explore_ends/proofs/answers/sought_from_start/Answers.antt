@@ -14,4 +14,5 @@ returns-clause-start c =
     c.seek.ensures.more
 
 pub returns-clause-faults : goal.returns-clause-faults
-returns-clause-faults c = fault_says c.seek.result (λ fault is. memory_fault c.args.task.now fault is) c.seek.ensures.faults
+returns-clause-faults c =
+    fault_says c.seek.result (λ fault is. memory_fault c.args.task.now fault is) c.seek.ensures.faults

@@ -26,10 +26,13 @@ loop-node-init c =
       more = e.more;
       all = s.0;
       each = λ k lt. absurd (omega (arith, lt));
-      trap = subst (IsTrapAmong task all place 0) (sym c.first_step-trap.ensures) (among_first task all place together s.1);
+      trap =
+          subst (IsTrapAmong task all place 0) (sym c.first_step-trap.ensures)
+          (among_first task all place together s.1);
       trapless =
           subst (λ t. KeepsTrapless task was all (is_some t)) (sym c.first_step-trap.ensures)
-          (keeps_first task was all together Together (subst (λ s. KeepsTrapless task was all (traps_in s)) c.in-Past.is e.trapless));
+          (keeps_first task was all together Together
+          (subst (λ s. KeepsTrapless task was all (traps_in s)) c.in-Past.is e.trapless));
     }
 
 pub loop-node-preserved : goal.loop-node-preserved
@@ -64,21 +67,24 @@ returns-clause-steps c =
     let i = c.loop-node.invariant in
     let task = c.args.task.now in
     let all = c.loop-node.self.table.rows in
+    let place = c.args.place in
     let node = c.loop-node.node in (
-      expanded_at task all c.args.place node i.found.reached (omega (arith, c.loop-node-test.false)) i.all i.each,
-      among_all task all c.args.place node c.loop-node.trap i.found.reached (omega (arith, c.loop-node-test.false)) i.trap,
+      expanded_at task all place node i.found.reached (omega (arith, c.loop-node-test.false)) i.all i.each,
+      among_all task all place node c.loop-node.trap i.found.reached (omega (arith, c.loop-node-test.false)) i.trap,
     )
 
 -- ---- where some node computes too long
 
 pub returns-in-Long-clause-steps : goal.returns-in-Long-clause-steps
 returns-in-Long-clause-steps c =
-    (subst (IsStepped c.args.task.now c.expand_step.new.self.table.rows c.args.place Together) c.in-Long.is c.in_ok-together.ensures.stepped, tt)
+    let all = c.expand_step.new.self.table.rows in
+    (subst (IsStepped c.args.task.now all c.args.place Together) c.in-Long.is c.in_ok-together.ensures.stepped, tt)
 
 pub returns-in-Long-clause-trapless : goal.returns-in-Long-clause-trapless
 returns-in-Long-clause-trapless c =
-    subst (λ s. KeepsTrapless c.args.task.now c.args.self.now.table.rows c.expand_step.new.self.table.rows (traps_in s)) c.in-Long.is
-    c.in_ok-together.ensures.trapless
+    let was = c.args.self.now.table.rows in
+    let all = c.expand_step.new.self.table.rows in
+    subst (λ s. KeepsTrapless c.args.task.now was all (traps_in s)) c.in-Long.is c.in_ok-together.ensures.trapless
 
 pub returns-in-Long-2-clause-more : goal.returns-in-Long-2-clause-more
 returns-in-Long-2-clause-more c = more_again c.loop-node.invariant.more c.in_ok-alone.ensures.more
@@ -91,7 +97,8 @@ returns-in-Long-2-clause-steps c =
     let new = c.expand_step-in-loop-node.new.self.table.rows in
     let place = c.args.place in
     let e = c.in_ok-alone.ensures in
-    let full = i.found.reached.full place (within_more task c.args.self.now old place c.requires.found i.more c.requires.within) in (
+    let within = within_more task c.args.self.now old place c.requires.found i.more c.requires.within in
+    let full = i.found.reached.full place within in (
       subst (IsStepped task new place (Alone c.loop-node.node)) c.in-Long-2.is e.stepped,
       among_named task old.table.rows new place c.loop-node.node c.loop-node.trap e.more.rows full i.trap,
     )

@@ -22,14 +22,16 @@ returns-clause-stepped c =
     let step = c.args.step in
     let mid = c.row_after.new.self in
     let all = mid.table.rows in
-    let P : Option Led → Type 0 = λ o. MatchOption o (CannotTakeAt task all place step) (λ led. LeadsTo task all place step led.row) in
+    let none = CannotTakeAt task all place step in
+    let P : Option Led → Type 0 = λ o. MatchOption o none (λ led. LeadsTo task all place step led.row) in
     let Q : Option Led → Type 0 = λ o. ShowsTrapAt task all place step (led_traps o) in
     let r = c.in-Ok.ensures in
+    let within = within_more task c.args.self.now mid place c.requires.found r.more c.requires.within in
     let n = subst P c.in-Some.is r.taken in
     let e = c.in_ok-_place.ensures in (
       has_after task all c.put.new.self.table.rows place step n.key n.from e.more.rows (e.has n.key n.stands),
       trap_grown task all c.put.new.self.table.rows place step c.in-Some.led.traps e.more.rows
-          (r.found.reached.full place (within_more task c.args.self.now mid place c.requires.found r.more c.requires.within)) (subst Q c.in-Some.is r.traps),
+          (r.found.reached.full place within) (subst Q c.in-Some.is r.traps),
     )
 
 pub returns-clause-more : goal.returns-clause-more
@@ -39,8 +41,11 @@ pub returns-in_default-clause-stepped : goal.returns-in_default-clause-stepped
 returns-in_default-clause-stepped c =
     let task = c.args.task.now in
     let all = c.row_after.new.self.table.rows in
-    let P : Option Led → Type 0 = λ o. MatchOption o (CannotTakeAt task all c.args.place c.args.step) (λ led. LeadsTo task all c.args.place c.args.step led.row) in
-    let Q : Option Led → Type 0 = λ o. ShowsTrapAt task all c.args.place c.args.step (led_traps o) in
+    let place = c.args.place in
+    let step = c.args.step in
+    let none = CannotTakeAt task all place step in
+    let P : Option Led → Type 0 = λ o. MatchOption o none (λ led. LeadsTo task all place step led.row) in
+    let Q : Option Led → Type 0 = λ o. ShowsTrapAt task all place step (led_traps o) in
     let cannot = subst P c.in_default.is c.in-Ok.ensures.taken in
     (λ key at acts after takes. absurd (cannot key at acts after takes), subst Q c.in_default.is c.in-Ok.ensures.traps)
 
@@ -80,5 +85,6 @@ returns-in-Err-TooMany-clause-stepped c = (c.in-Err-TooMany.ensures.long c.in-Er
 pub returns-in-Err-TooMany-clause-trapless : goal.returns-in-Err-TooMany-clause-trapless
 returns-in-Err-TooMany-clause-trapless c = λ no.
     let l = c.in-Err-TooMany.ensures.long c.in-Err-TooMany.field-0-is in
-    trapless_same c.args.task.now c.args.self.now.table.rows c.row_after.new.self.table.rows c.requires.found.reached l.keeps.widens
+    let new = c.row_after.new.self.table.rows in
+    trapless_same c.args.task.now c.args.self.now.table.rows new c.requires.found.reached l.keeps.widens
     (ap (λ l. length l) l.keeps.rows)

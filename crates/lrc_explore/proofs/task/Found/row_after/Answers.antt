@@ -109,12 +109,12 @@ pub returns-in-Alone-clause-long : goal.returns-in-Alone-clause-long
 returns-in-Alone-clause-long c =
     let r = c.requires in
     let e = c.alone.ensures in
-    long_on c.args.task.now c.means-means.result c.args.self.now c.alone.new.self c.args.place c.row-row.result (Alone c.in-Alone.node) c.means-means.ensures r.found
-    r.within c.row-row.ensures c.alone.result e.faults e.long
+    long_on c.args.task.now c.means-means.result c.args.self.now c.alone.new.self c.args.place c.row-row.result
+    (Alone c.in-Alone.node) c.means-means.ensures r.found r.within c.row-row.ensures c.alone.result e.faults e.long
 
 pub returns-in-Together-clause-long : goal.returns-in-Together-clause-long
 returns-in-Together-clause-long c =
     let r = c.requires in
     let e = c.together.ensures in
-    long_on c.args.task.now c.means-means.result c.args.self.now c.together.new.self c.args.place c.row-row.result Together c.means-means.ensures r.found
-    r.within c.row-row.ensures c.together.result e.faults e.long
+    long_on c.args.task.now c.means-means.result c.args.self.now c.together.new.self c.args.place c.row-row.result
+    Together c.means-means.ensures r.found r.within c.row-row.ensures c.together.result e.faults e.long

@@ -25,18 +25,20 @@ end_from-requires-clause-traps c =
 
 pub end_from-requires-in-Cut-clause-cut : goal.end_from-requires-in-Cut-clause-cut
 end_from-requires-in-Cut-clause-cut c =
-    let cut = subst (IsVisit c.args.task.now c.visit.new.self c.loop-place.place c.args.races) c.in-Cut.is c.in_ok-p.ensures.visit in
-    is_longer c.loop-place.place cut.0
+    let place = c.loop-place.place in
+    let cut = subst (IsVisit c.args.task.now c.visit.new.self place c.args.races) c.in-Cut.is c.in_ok-p.ensures.visit in
+    is_longer place cut.0
 
 pub end_from-requires-in-Cut-clause-calm : goal.end_from-requires-in-Cut-clause-calm
 end_from-requires-in-Cut-clause-calm c =
     let s = c.loop-place.invariant.0 in
-    calm_cut c.args.task.now c.loop-place.self c.visit.new.self c.loop-place.place c.args.races s.found c.in_ok-p.ensures.more.rows
-    (omega (arith, c.loop-place-test.true, c.len.ensures.len)) s.calm
+    calm_cut c.args.task.now c.loop-place.self c.visit.new.self c.loop-place.place c.args.races s.found
+    c.in_ok-p.ensures.more.rows (omega (arith, c.loop-place-test.true, c.len.ensures.len)) s.calm
 
 pub end_from-requires-in-Cut-clause-within : goal.end_from-requires-in-Cut-clause-within
 end_from-requires-in-Cut-clause-within c =
-    within_more c.args.task.now c.loop-place.self c.visit.new.self c.loop-place.place c.loop-place.invariant.0.found c.in_ok-p.ensures.more
+    let found = c.loop-place.invariant.0.found in
+    within_more c.args.task.now c.loop-place.self c.visit.new.self c.loop-place.place found c.in_ok-p.ensures.more
     (omega (arith, c.loop-place-test.true, c.len.ensures.len))
 
 pub end_from-requires-in-Cut-clause-traps : goal.end_from-requires-in-Cut-clause-traps
@@ -50,7 +52,8 @@ end_from-requires-in-Cut-clause-traps c =
     let cut = subst (IsVisit task new place c.args.races) c.in-Cut.is e.visit in
     let keeps = subst (VisitKeeps task old.table.rows new.table.rows) c.in-Cut.is e.keeps in
     subst (IsTrapMet task new.table.rows) (sym c.first_trap-met.ensures)
-    (trap_cut task old.table.rows new.table.rows place c.loop-place.trap c.in-Cut.step cut.0.0 e.more.rows cut.0.1 s.traps s.trapless keeps cut.1)
+    (trap_cut task old.table.rows new.table.rows place c.loop-place.trap c.in-Cut.step cut.0.0 e.more.rows cut.0.1
+    s.traps s.trapless keeps cut.1)
 
 pub returns-in-Cut-clause-more : goal.returns-in-Cut-clause-more
 returns-in-Cut-clause-more c = more_again c.loop-place.invariant.0.more c.in_ok-p.ensures.more

@@ -47,8 +47,10 @@ pub returns-in_ok-keep-clause-done : goal.returns-in_ok-keep-clause-done
 returns-in_ok-keep-clause-done c =
     let new = c.expand.new.self.table.rows in
     let key = c.in_ok-key.key in
+    let Q = AreSteps c.args.task.now new c.args.place in
+    let steps = subst Q c.in_ok-or_too_long.ensures c.in_ok-steps.ensures.steps in
     gathered_at c.args.task.now new new c.keep.new.outcomes.keys c.args.place key (rows_not new) c.in_ok-key.ensures
-    ((subst (AreSteps c.args.task.now new c.args.place) c.in_ok-or_too_long.ensures c.in_ok-steps.ensures.steps).0 key c.in_ok-key.ensures) (λ still. c.in_ok-keep.ensures.has)
+    (steps.0 key c.in_ok-key.ensures) (λ still. c.in_ok-keep.ensures.has)
 
 pub returns-else-still-clause-done : goal.returns-else-still-clause-done
 returns-else-still-clause-done c =
@@ -66,8 +68,9 @@ returns-else-still-clause-done c =
     let of = row_of task old place row f within there means (means_are task) in
     let e = c.in_ok-steps.ensures in
     let new = c.expand.new.self.table.rows in
+    let steps = subst (AreSteps task new place) c.in_ok-or_too_long.ensures e.steps in
     gathered_at task old.table.rows new c.args.outcomes.now.keys place key e.more.rows at
-    ((subst (AreSteps task new place) c.in_ok-or_too_long.ensures e.steps).0 key (row_grown old.table.rows new place key e.more.rows at))
+    (steps.0 key (row_grown old.table.rows new place key e.more.rows at))
     (λ still. let t = (c.is_still-still.ensures means key known of).1 still in let x : true ≡ false = sym t ∙ c.if-still.false in cc)
 
 pub returns-in_err-or_too_long-clause-faults : goal.returns-in_err-or_too_long-clause-faults
@@ -78,4 +81,7 @@ returns-in_err-or_too_long-clause-faults c =
     let fault = c.in_err-or_too_long.field-0.0 in
     let cut = subst (AreSteps task new.table.rows c.args.place) c.in_err-or_too_long.ensures.1 e.steps in
     fault_up c.from_residual-in_err-or_too_long.result fault (IsFault task) c.from_residual-in_err-or_too_long.ensures.1
-    (record { nodes = λ is. let x : TooMany ≡ BadNodes = sym c.in_err-or_too_long.ensures.0 ∙ is in cc; many = λ is. long_at task new c.args.place e.found cut.0 })
+    (record {
+      nodes = λ is. let x : TooMany ≡ BadNodes = sym c.in_err-or_too_long.ensures.0 ∙ is in cc;
+      many = λ is. long_at task new c.args.place e.found cut.0;
+    })

@@ -59,13 +59,19 @@ returns-in-All-clause-visit c =
 
 pub returns-in-All-clause-keeps : goal.returns-in-All-clause-keeps
 returns-in-All-clause-keeps c =
-    subst (λ s. KeepsTrapless c.args.task.now c.args.self.now.table.rows c.expand.new.self.table.rows (is_some (trap_among s))) c.in-All.is
+    let was = c.args.self.now.table.rows in
+    let new = c.expand.new.self.table.rows in
+    subst (λ s. KeepsTrapless c.args.task.now was new (is_some (trap_among s))) c.in-All.is
     c.in_ok-trap.ensures.trapless
 
 pub returns-in-Cut-clause-visit : goal.returns-in-Cut-clause-visit
-returns-in-Cut-clause-visit c = subst (AreSteps c.args.task.now c.expand.new.self.table.rows c.args.place) c.in-Cut.is c.in_ok-trap.ensures.steps
+returns-in-Cut-clause-visit c =
+    let new = c.expand.new.self.table.rows in
+    subst (AreSteps c.args.task.now new c.args.place) c.in-Cut.is c.in_ok-trap.ensures.steps
 
 pub returns-in-Cut-clause-keeps : goal.returns-in-Cut-clause-keeps
 returns-in-Cut-clause-keeps c =
-    subst (λ s. KeepsTrapless c.args.task.now c.args.self.now.table.rows c.expand.new.self.table.rows (is_some (trap_among s))) c.in-Cut.is
+    let was = c.args.self.now.table.rows in
+    let new = c.expand.new.self.table.rows in
+    subst (λ s. KeepsTrapless c.args.task.now was new (is_some (trap_among s))) c.in-Cut.is
     c.in_ok-trap.ensures.trapless

@@ -73,7 +73,9 @@ returns-in_ok-keep_open-in-Long-clause-long c = λ is.
     let p = subst (HasPassed task mid c.args.first) c.in-Long.is c.in_ok-pass.ensures.passed in
     record {
       less = opened_last task mid new c.args.first p.0 others opens;
-      widens = widens_again c.loop-alloc.invariant.widens (widens_again c.in_ok-pass.ensures.widens (widens_opened mid new _ others opens));
+      widens =
+          widens_again c.loop-alloc.invariant.widens
+          (widens_again c.in_ok-pass.ensures.widens (widens_opened mid new _ others opens));
       long = long_opened task mid new others p.1;
     }
 

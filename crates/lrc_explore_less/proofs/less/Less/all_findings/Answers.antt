@@ -20,7 +20,8 @@ findings_told-requires-clause-through c =
     (subst (IsEnd task new false) c.in-Through.is at).0
 
 pub met_told-requires-clause-many : goal.met_told-requires-clause-many
-met_told-requires-clause-many c = subst (IsSought c.args.task.now c.search.new.self false) c.in-Many.is c.in_ok-sought.ensures.sought
+met_told-requires-clause-many c =
+    subst (IsSought c.args.task.now c.search.new.self false) c.in-Many.is c.in_ok-sought.ensures.sought
 
 pub returns-in_ok-met-in-Many-clause-findings : goal.returns-in_ok-met-in-Many-clause-findings
 returns-in_ok-met-in-Many-clause-findings c =

@@ -16,4 +16,5 @@ returns-clause-exact c =
 pub returns-then-not-passes-clause-faults : goal.returns-then-not-passes-clause-faults
 returns-then-not-passes-clause-faults c =
     let e = c.in_ok-passes.ensures in
-    record { nodes = λ is. cc; many = λ is. is_long (long_less c.args.task.now c.begin.new.self e.less.sound (e.long c.if-not-passes.true)) }
+    let long = long_less c.args.task.now c.begin.new.self e.less.sound (e.long c.if-not-passes.true) in
+    record { nodes = λ is. cc; many = λ is. is_long long }

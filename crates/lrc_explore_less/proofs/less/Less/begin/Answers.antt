@@ -13,7 +13,8 @@ pub returns-in-Ok-clause-begun : goal.returns-in-Ok-clause-begun
 returns-in-Ok-clause-begun c =
     let task = c.args.task.now in
     let e = c.in_ok-traps.ensures in
-    begun_on task _ _ c.in-Ok.ensures.widens (has_begun task _ c.in_ok-traps.traps e.start e.traps c.start_trap-self.ensures)
+    begun_on task _ _ c.in-Ok.ensures.widens
+    (has_begun task _ c.in_ok-traps.traps e.start e.traps c.start_trap-self.ensures)
 
 -- ---- where some node computes too long
 
@@ -21,7 +22,8 @@ pub returns-in-Err-TooMany-clause-begun : goal.returns-in-Err-TooMany-clause-beg
 returns-in-Err-TooMany-clause-begun c =
     let task = c.args.task.now in
     let e = c.in_ok-traps.ensures in
-    begun_on task _ _ (c.in-Err-TooMany.ensures.long c.in-Err-TooMany.field-0-is).widens (has_begun task _ c.in_ok-traps.traps e.start e.traps c.start_trap-self.ensures)
+    begun_on task _ _ (c.in-Err-TooMany.ensures.long c.in-Err-TooMany.field-0-is).widens
+    (has_begun task _ c.in_ok-traps.traps e.start e.traps c.start_trap-self.ensures)
 
 pub returns-in-Err-TooMany-clause-less : goal.returns-in-Err-TooMany-clause-less
 returns-in-Err-TooMany-clause-less c = (c.in-Err-TooMany.ensures.long c.in-Err-TooMany.field-0-is).less

@@ -62,13 +62,18 @@ returns-clause-done c =
 
 pub returns-in_err-expand_step-clause-long : goal.returns-in_err-expand_step-clause-long
 returns-in_err-expand_step-clause-long c =
-    fault_up c.from_residual.result c.in_err-expand_step.field-0.0 (λ fault. fault ≡ TooMany → IsCutLess c.args.task.now c.args.self.now c.expand_step.new.self)
-    c.from_residual.ensures.1 c.in_err-expand_step.ensures.long
+    let task = c.args.task.now in
+    let new = c.expand_step.new.self in
+    fault_up c.from_residual.result c.in_err-expand_step.field-0.0
+    (λ fault. fault ≡ TooMany → IsCutLess task c.args.self.now new) c.from_residual.ensures.1
+    c.in_err-expand_step.ensures.long
 
 pub returns-in_err-expand_step-2-clause-long : goal.returns-in_err-expand_step-2-clause-long
 returns-in_err-expand_step-2-clause-long c =
+    let task = c.args.task.now in
     let new = c.expand_step-in-loop-node.new.self in
-    fault_up c.from_residual-in_err-expand_step-2.result c.in_err-expand_step-2.field-0.0 (λ fault. fault ≡ TooMany → IsCutLess c.args.task.now c.args.self.now new)
-    c.from_residual-in_err-expand_step-2.ensures.1 (λ is.
+    fault_up c.from_residual-in_err-expand_step-2.result c.in_err-expand_step-2.field-0.0
+    (λ fault. fault ≡ TooMany → IsCutLess task c.args.self.now new) c.from_residual-in_err-expand_step-2.ensures.1
+    (λ is.
     let l = c.in_err-expand_step-2.ensures.long is in
     record { less = l.less; widens = widens_again c.loop-node.invariant.widens l.widens; long = l.long })

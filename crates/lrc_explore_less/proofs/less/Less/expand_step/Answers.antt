@@ -113,14 +113,20 @@ returns-in_err-next-clause-long c =
     let task = c.args.task.now in
     let old = c.args.self.now in
     let new = c.take.new.self in
-    fault_up c.from_residual.result c.in_err-next.field-0.0 (λ fault. fault ≡ TooMany → IsCutLess task old new) c.from_residual.ensures.1 (λ is.
+    fault_up c.from_residual.result c.in_err-next.field-0.0 (λ fault. fault ≡ TooMany → IsCutLess task old new)
+    c.from_residual.ensures.1 (λ is.
     let l = c.in_err-next.ensures.long is in
-    record { less = still_less task old new c.requires.less l.sound l.widens l.opens l.rows; widens = l.widens; long = (c.args.place, l.long) })
+    record {
+      less = still_less task old new c.requires.less l.sound l.widens l.opens l.rows;
+      widens = l.widens;
+      long = (c.args.place, l.long);
+    })
 
 pub returns-in_err-advance-clause-long : goal.returns-in_err-advance-clause-long
 returns-in_err-advance-clause-long c =
     let task = c.args.task.now in
-    fault_up c.from_residual-in_err-advance.result c.in_err-advance.field-0.0 (λ fault. fault ≡ TooMany → IsCutLess task c.args.self.now c.advance.new.self)
-    c.from_residual-in_err-advance.ensures.1 (λ is.
+    let new = c.advance.new.self in
+    fault_up c.from_residual-in_err-advance.result c.in_err-advance.field-0.0
+    (λ fault. fault ≡ TooMany → IsCutLess task c.args.self.now new) c.from_residual-in_err-advance.ensures.1 (λ is.
     let l = c.in_err-advance.ensures.long is in
     record { less = l.less; widens = widens_again c.in_ok-next.ensures.widens l.widens; long = l.long })

@@ -46,8 +46,12 @@ returns-clause-on c = λ is.
 
 pub returns-in-Err-TooMany-clause-passed : goal.returns-in-Err-TooMany-clause-passed
 returns-in-Err-TooMany-clause-passed c =
-    let l = c.in-Err-TooMany.ensures.long c.in-Err-TooMany.field-0-is in
-    (still_passing c.args.task.now c.args.self.now c.take.new.self c.args.first c.requires.passing l.sound l.widens l.opens l.rows, (c.args.last, l.long))
+    let task = c.args.task.now in
+    let old = c.args.self.now in
+    let l = c.in-Err-TooMany.ensures.long c.in-Err-TooMany.field-0-is in (
+      still_passing task old c.take.new.self c.args.first c.requires.passing l.sound l.widens l.opens l.rows,
+      (c.args.last, l.long),
+    )
 
 pub returns-in-Err-TooMany-clause-widens : goal.returns-in-Err-TooMany-clause-widens
 returns-in-Err-TooMany-clause-widens c = (c.in-Err-TooMany.ensures.long c.in-Err-TooMany.field-0-is).widens

@@ -9,4 +9,5 @@ end_of_all-requires-clause-cut c =
     is_longer long.0 long.1
 
 pub returns-then-passes-clause-faults : goal.returns-then-passes-clause-faults
-returns-then-passes-clause-faults c = fault_says c.seek.result (λ fault is. memory_fault c.args.task.now fault is) c.seek.ensures.faults
+returns-then-passes-clause-faults c =
+    fault_says c.seek.result (λ fault is. memory_fault c.args.task.now fault is) c.seek.ensures.faults

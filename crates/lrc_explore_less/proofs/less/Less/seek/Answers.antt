@@ -20,7 +20,9 @@ end_of_all-requires-in-Cut-clause-cut c =
     is_longer long.0 long.1
 
 pub returns-in-Cut-clause-begun : goal.returns-in-Cut-clause-begun
-returns-in-Cut-clause-begun c = begun_on c.args.task.now c.loop-index.self c.visit.new.self c.in_ok-p.ensures.widens c.loop-index.invariant.0.begun
+returns-in-Cut-clause-begun c =
+    let begun = c.loop-index.invariant.0.begun in
+    begun_on c.args.task.now c.loop-index.self c.visit.new.self c.in_ok-p.ensures.widens begun
 
 pub visit-requires-clause-within : goal.visit-requires-clause-within
 visit-requires-clause-within c =

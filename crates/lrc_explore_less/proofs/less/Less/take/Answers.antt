@@ -61,14 +61,17 @@ returns-in_err-led-clause-long c =
     let old = c.args.self.now in
     let mid = c.row_after.new.found in
     let new : Less = record old { found = mid } in
-    fault_up c.from_residual.result c.in_err-led.field-0.0 (λ fault. fault ≡ TooMany → HasStayed task old new c.args.place) c.from_residual.ensures.1
-    (λ is.
+    let s = c.requires.sound in
+    fault_up c.from_residual.result c.in_err-led.field-0.0
+    (λ fault. fault ≡ TooMany → HasStayed task old new c.args.place) c.from_residual.ensures.1 (λ is.
     let l = c.in_err-led.ensures.long is in
     let same = ap (λ l. length l) l.keeps.rows in
+    let was = old.found.table.rows in
+    let now = mid.table.rows in
     record {
-      sound = sound_taken task old new mid old.trap c.requires.sound l.keeps.widens refl l.found (rows_not mid.table.rows)
-          (trap_more task old.found.table.rows mid.table.rows old.trap l.keeps.widens c.requires.sound.trap)
-          (λ none. trapless_same task old.found.table.rows mid.table.rows c.requires.sound.found.reached l.keeps.widens same (c.requires.sound.trapless none));
+      sound = sound_taken task old new mid old.trap s l.keeps.widens refl l.found (rows_not now)
+          (trap_more task was now old.trap l.keeps.widens s.trap)
+          (λ none. trapless_same task was now s.found.reached l.keeps.widens same (s.trapless none));
       widens = widens_same old new l.more refl refl;
       opens = refl;
       rows = same;

@@ -60,5 +60,5 @@ returns-clause-taken c = λ key from.
 
 pub returns-in_err-led-clause-long : goal.returns-in_err-led-clause-long
 returns-in_err-led-clause-long c =
-    fault_up c.from_residual.result c.in_err-led.field-0.0 (KeepsIfLong c.args.means.now c.args.self.now c.gone.new.self) c.from_residual.ensures.1
-    c.in_err-led.ensures.long
+    fault_up c.from_residual.result c.in_err-led.field-0.0
+    (KeepsIfLong c.args.means.now c.args.self.now c.gone.new.self) c.from_residual.ensures.1 c.in_err-led.ensures.long

@@ -184,5 +184,6 @@ returns-in_err-place-clause-faults c =
 
 pub returns-in_err-place-clause-long : goal.returns-in_err-place-clause-long
 returns-in_err-place-clause-long c =
-    fault_up c.from_residual.result c.in_err-place.field-0.0 (KeepsIfLong c.args.means.now c.args.self.now c.after.new.self) c.from_residual.ensures.1
+    fault_up c.from_residual.result c.in_err-place.field-0.0
+    (KeepsIfLong c.args.means.now c.args.self.now c.after.new.self) c.from_residual.ensures.1
     c.in_err-place.ensures.long

@@ -95,5 +95,6 @@ returns-then-not-all_wait-clause-taken c = λ key from acts after takes.
 
 pub returns-in_err-led-clause-long : goal.returns-in_err-led-clause-long
 returns-in_err-led-clause-long c =
-    fault_up c.from_residual.result c.in_err-led.field-0.0 (KeepsIfLong c.args.means.now c.args.self.now c.gone.new.self) c.from_residual.ensures.1
+    fault_up c.from_residual.result c.in_err-led.field-0.0
+    (KeepsIfLong c.args.means.now c.args.self.now c.gone.new.self) c.from_residual.ensures.1
     (λ e. let kept = c.in_err-led.ensures.long e in (kept.0, keeps_again c.loop-node.invariant.keeps kept.1))
