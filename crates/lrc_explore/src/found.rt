@@ -1,7 +1,7 @@
 // States that were found, and how.
 
 ghost use Rattle.std.specs.Prelude.{◌≡◌, ◌++◌, [], IfOk, IfErr, OnOk, MatchOption, MatchResult, true, false};
-ghost use Rattle.lrc_orders.specs.declared.search.ExploreFault.TheVariants.{NoMemory, TooMany};
+ghost use Rattle.lrc_orders.specs.declared.search.ExploreFault.TheVariants.{TooMany};
 ghost use Rattle.lrc_exec.specs.States.{plain_at, IsStateOf};
 ghost use Rattle.lrc_orders_laws.specs.Settling.{IsSettled};
 ghost use Rattle.lrc_orders_settling.specs.declared.step.Step.TheVariants.{Alone, Together};
