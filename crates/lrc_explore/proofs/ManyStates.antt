@@ -12,7 +12,7 @@ use Rattle.lrc_orders.specs.Stuck.{IsStuck}
 use Rattle.lrc_orders.specs.Verdict.{AreFindings, TellsStuck, TellsTrap}
 use Rattle.lrc_orders.proofs.Keeping.{item_at}
 use Rattle.lrc_orders.proofs.Searching.{copy_same}
-use Rattle.lrc_orders.proofs.Stores.{IsList, listed}
+use Rattle.lrc_orders.proofs.Stores.{IsList}
 use Rattle.lrc_orders.proofs.Ways.{IsNotedCopy}
 use Rattle.lrc_orders_settling.specs.Taking.{ComputesLong}
 use Rattle.lrc_orders_table.specs.declared.rows.Rows.{Rows}
@@ -21,10 +21,11 @@ use Rattle.lrc_orders_table.proofs.RowLaws.{row_copy, row_store, row_within}
 use Rattle.lrc_explore.specs.declared.task.Found.{Found}
 use Rattle.lrc_explore.specs.declared.task.Task.{Task}
 use Rattle.lrc_explore.specs.declared.task.Trapping.{Trapping}
-use Rattle.lrc_explore.specs.Answers.{IsLong, SettlesLong, has_more, looked_at, settles_long, starts_long}
+use Rattle.lrc_explore.specs.Answers.{AreSettledApart, IsLong, IsTooMany, SettlesLong, has_more, is_long, looked_at, settles_long, starts_long}
+use Rattle.lrc_explore.specs.Cut.{IsCut, IsCutAmong, are_more, is_longer, longer_among, more_among}
 use Rattle.lrc_explore.specs.Met.{ComputesTooLong, GaveUp, HasMet, IsMany, IsStuckAmong, IsStuckAt, IsStuckOrder, IsTrapOrder, TellsStuckAt, TellsStuckMet, TellsTrapAt, TellsTrapMet, settles_too_long, starts_too_long, tells_both}
 use Rattle.lrc_explore.specs.Reached.{AreFound, AreNowhereStuck, IsTask}
-use Rattle.lrc_explore.proofs.Seeking.{has_more_settled}
+use Rattle.lrc_explore.proofs.Seeking.{all_items, settled_apart, settles_from}
 
 -- one more state at which the program is not stuck
 pub nowhere_on : (task : Task) (all : Rows) (place : ℕ) (key : Noted) → IsRowAt all place key → AreNowhereStuck task all place → (stuck : Bool)
@@ -44,7 +45,7 @@ module _ (task : Task) (found : Found) (races : Bool) (stuck : Option ℕ) (trap
   all = found.table.rows
 
   abbrev items : IsList IsRowAt row_count WidensRows IsNotedCopy row_store all
-  items = listed IsRowAt row_count WidensRows IsNotedCopy row_store all f.reached.full
+  items = all_items task found f
 
   stuck_among : (place : ℕ) → IsStuckAt task all place → IsStuckAmong task items.list
   stuck_among place is =
@@ -59,6 +60,16 @@ module _ (task : Task) (found : Found) (races : Bool) (stuck : Option ℕ) (trap
         stuck = subst IsStuck (sym (copy_same task.flat it.0.state is.0.state copy.state)) is.2;
       }
 
+  cut_among : IsCut task all → IsCutAmong task task.most items.list
+  cut_among (are_more more) = more_among (subst (λ n. task.most < n) (sym items.long) more)
+  cut_among (is_longer place is) =
+      let within = row_within all place is.0 is.1 in
+      let long = items.long in
+      let it = item_at items.list place (omega (arith, within, long)) in
+      let copy = row_copy all place it.0 is.0 (items.at place it.0 it.1) is.1 in
+      let same = copy_same task.flat it.0.state is.0.state copy.state in
+      longer_among place it.0 it.1 (subst (λ m. ComputesLong m task.looked) (sym same) is.2)
+
   tells_stuck : (o : Option (List ℕ)) → TellsStuckAt task all o → TellsStuckMet task items.list o
   tells_stuck None nowhere = λ k key there. let at = items.at k key there in nowhere k key (row_within all k key at) at
   tells_stuck (Some order) is = (stuck_among is.0.0 is.0.1, is.1)
@@ -70,7 +81,9 @@ module _ (task : Task) (found : Found) (races : Bool) (stuck : Option ℕ) (trap
   pub has_met : (met : Findings) → TellsStuckAt task all (option_map (λ order. order.items) met.stuck)
       → TellsTrapAt task all (option_map (λ order. order.items) met.trap) → HasMet task task.most races met
   has_met met stuck_is trap_is = record {
-    more = has_more_settled task found task.most races f many.many many.calm;
+    keys = items.list;
+    are = settled_apart task found races f many.calm;
+    cut = cut_among many.cut;
     tells = record {
       stuck = tells_stuck (option_map (λ order. order.items) met.stuck) stuck_is;
       trap = tells_trap (option_map (λ order. order.items) met.trap) trap_is;
@@ -104,13 +117,20 @@ trap_told task keys (Some order) e tells = tells
 pub both_found : (task : Task) (most : ℕ) (races : Bool) (met : Findings) → HasMet task most races met → tells_both met ≡ true
     → AreFindings task.program.now task.flat.nodes met
 both_found task most races met has e = record {
-  stuck = stuck_told task has.more.keys (option_map (λ order. order.items) met.stuck)
+  stuck = stuck_told task has.keys (option_map (λ order. order.items) met.stuck)
       (some_mapped (λ order. order.items) met.stuck (both_first (is_some met.stuck) (is_some met.trap) e)) has.tells.stuck;
-  trap = trap_told task has.more.keys (option_map (λ order. order.items) met.trap)
+  trap = trap_told task has.keys (option_map (λ order. order.items) met.trap)
       (some_mapped (λ order. order.items) met.trap (both_second (is_some met.stuck) (is_some met.trap) e)) has.tells.trap;
 }
 
 -- ---- of a program
+
+-- why a search gives up that is cut short
+many_of : (task : Task) (races : Bool) (keys : List Noted) → AreSettledApart task keys races
+    → IsCutAmong task task.most keys → IsTooMany task races
+many_of task races keys are (more_among more) = has_more (record { keys = keys; many = more; are = are })
+many_of task races keys are (longer_among k key there long) =
+    is_long (settles_long (settles_from task key (are.each k key there) long))
 
 pub gave_up : (task : Task) (program : Program) (nodes most : ℕ) → IsTask task → task.program.now ≡ program → IsFlatOf program nodes task.flat task.start
     → task.most ≡ most → task.looked ≡ looked_at most → task.noting ≡ false → (races : Bool) (met : Findings) → HasMet task task.most races met
@@ -127,19 +147,19 @@ gave_up task program nodes most is p flat m l n races met has = record {
     most_is = m;
     looked_is = l;
     noting_is = n;
-    many = has_more has.more;
+    many = many_of task races has.keys has.are has.cut;
   };
   has = subst (λ k. HasMet task k races met) m has;
 }
 
 -- what is told of it is so of the program
 module _ (program : Program) (nodes most : ℕ) (races : Bool) (met : Findings) (gave : GaveUp program nodes most races met) where
-  stuck_so : (o : Option (List ℕ)) → TellsStuckMet gave.search.task gave.has.more.keys o
+  stuck_so : (o : Option (List ℕ)) → TellsStuckMet gave.search.task gave.has.keys o
       → IsStuckOrder gave.search.task.program.now gave.search.task.flat.nodes o
   stuck_so None tells = tt
   stuck_so (Some order) tells = tells.1
 
-  trap_so : (o : Option (List ℕ)) → TellsTrapMet gave.search.task gave.has.more.keys o
+  trap_so : (o : Option (List ℕ)) → TellsTrapMet gave.search.task gave.has.keys o
       → IsTrapOrder gave.search.task.program.now gave.search.task.flat.nodes o
   trap_so None tells = tt
   trap_so (Some order) tells = tells

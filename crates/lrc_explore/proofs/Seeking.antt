@@ -15,14 +15,14 @@ use Rattle.lrc_exec.specs.States.{machine_begun, plain_at}
 use Rattle.lrc_orders.specs.Stuck.{IsAtRest, IsStuck}
 use Rattle.lrc_orders.proofs.Keeping.{grows_not, stands_on}
 use Rattle.lrc_orders.proofs.Searching.{copy_same}
-use Rattle.lrc_orders.proofs.Stores.{before, listed, listed_apart}
+use Rattle.lrc_orders.proofs.Stores.{IsList, before, listed, listed_apart}
 use Rattle.lrc_orders.proofs.Ways.{IsNotedCopy}
 use Rattle.lrc_orders_table.proofs.RowLaws.{row_copy, row_grown, row_store, row_within, rows_not}
 use Rattle.lrc_orders_table.proofs.RowsApart.{row_apart}
 use Rattle.lrc_exec.specs.declared.spot.Spot.{Spot}
 use Rattle.lrc_exec.specs.declared.state.State.{State}
 use Rattle.lrc_orders.specs.declared.search.ExploreFault.{ExploreFault}
-use Rattle.lrc_orders.specs.declared.search.ExploreFault.TheVariants.{BadNodes, TooMany}
+use Rattle.lrc_orders.specs.declared.search.ExploreFault.TheVariants.{BadNodes, NoMemory, TooMany}
 use Rattle.lrc_exec.specs.Plain.{plain_start, thread_in}
 use Rattle.lrc_orders_settling.specs.Settling.{MakesFree}
 use Rattle.lrc_orders_laws.specs.Steps.{IsSettledOutcome}
@@ -31,13 +31,14 @@ use Rattle.lrc_orders_laws.proofs.Settled.{outcomes}
 use Rattle.lrc_explore.specs.declared.task.Task.{Task}
 use Rattle.lrc_explore.specs.declared.task.Found.{Found}
 use Rattle.lrc_explore.specs.Reached.{AreCalm, AreExpanded, AreFound, AreNowhereStuck, AreReached, HasStart, IsExpanded, IsMore, IsReached, IsTask}
-use Rattle.lrc_explore.specs.Answers.{AddsOnly, AreGathered, AreSound, HasMoreSettled, IsFault, IsLongFault, IsSearchFault, starts_long, settles_long, is_long, has_more, IsGathered, IsGatheredAt, IsSeen, IsStuckFirst, IsThrough, first_stuck}
+use Rattle.lrc_explore.specs.Answers.{AddsOnly, AreGathered, AreSettledApart, AreSound, HasMoreSettled, IsFault, IsLong, IsLongAt, IsLongFault, IsSearchFault, SettlesLong, starts_long, settles_long, is_long, has_more, IsGathered, IsGatheredAt, IsSeen, IsStuckFirst, IsThrough, first_stuck}
+use Rattle.lrc_explore.specs.Cut.{IsCut, are_more, is_longer}
 use Rattle.lrc_explore.specs.Met.{IsTrapMet}
-use Rattle.lrc_explore.specs.Traps.{AreRowsTrapless, IsStepTrap, IsTrapSoFar, KeepsTrapless, ShowsStartTrap, first_trap, start_trap}
+use Rattle.lrc_explore.specs.Traps.{AreRowsTrapless, IsStepTrap, IsTrapSoFar, IsTrapStepAt, KeepsTrapless, ShowsStartTrap, first_trap, start_trap}
 use Rattle.lrc_explore.specs.declared.task.Trapping.{Trapping}
 use Rattle.lrc_explore.specs.declared.task.Trapping.TheVariants as trapping
 use Rattle.lrc_orders_settling.specs.declared.step.Step.{Step}
-use Rattle.lrc_orders_settling.specs.Taking.{Takes}
+use Rattle.lrc_orders_settling.specs.Taking.{ComputesLong, Takes}
 use Rattle.lrc_orders_live.specs.Live.{forgot}
 use Rattle.lrc_orders_live.proofs.Like.{like_back, rest_like}
 use Rattle.lrc_orders_table.proofs.Forgotten.{threads_of_row}
@@ -187,6 +188,23 @@ pub trap_met : (task : Task) (all : Rows) (index : ℕ) (o : Option Trapping) �
 trap_met task all index None so trapless = trapless refl
 trap_met task all index (Some there) so trapless = so
 
+-- where the search is cut short at the state at this place
+pub trap_cut : (task : Task) (old new : Rows) (place : ℕ) (o : Option Trapping) (t : Option Step) (key : Noted)
+    → WidensRows old new → IsRowAt new place key → IsTrapSoFar task old place o
+    → (is_some o ≡ false → AreRowsTrapless task old) → KeepsTrapless task old new (is_some t)
+    → IsTrapStepAt task new place t → IsTrapMet task new (first_trap o t place)
+trap_cut task old new place (Some trapping.Start) t key w at so was keeps is = so
+trap_cut task old new place (Some (trapping.Step origin)) t key w at so was keeps is =
+    (so.0, row_grown old new origin.parent so.0 w so.1, so.2)
+trap_cut task old new place None (Some taken) key w at so was keeps is = (key, at, is key at)
+trap_cut task old new place None None key w at so was keeps is = keeps refl (was refl)
+
+pub calm_cut : (task : Task) (old new : Found) (place : ℕ) (races : Bool) → AreFound task old
+    → WidensRows old.table.rows new.table.rows → place < row_count old.table.rows
+    → (races ≡ true → AreCalm task old.table.rows place) → races ≡ true → AreCalm task new.table.rows place
+calm_cut task old new place races f w within calm looked k key lt at =
+    calm looked k key lt (was_there old.table.rows new.table.rows k key w f.reached.full (omega (arith, lt, within)) at)
+
 pub through : (task : Task) (first now : Found) (place : ℕ) (races : Bool) (stuck : Option ℕ) (trap : Option Trapping)
     → Seeking task first now place races stuck trap → row_count now.table.rows ≤ place → IsThrough task now races stuck trap
 through task first now place races stuck trap s past = record {
@@ -284,19 +302,33 @@ bare_key task found place key f at =
     threads_of_row (λ (spot : Spot). forgot task.live.items spot ≡ spot) keys found.table.rows.nodes at.row.threads key.state.spots.items at.stands.threads
     (f.table (means_of task) (means_are task)).bare
 
-abbrev pub has_more_settled : (task : Task) (found : Found) (most : ℕ) (races : Bool) → AreFound task found → most < row_count found.table.rows
-    → (races ≡ true → AreCalm task found.table.rows (row_count found.table.rows)) → HasMoreSettled task most races
-has_more_settled task found most races f many calm =
+abbrev pub all_items : (task : Task) (found : Found) → AreFound task found
+    → IsList IsRowAt row_count WidensRows IsNotedCopy row_store found.table.rows
+all_items task found f = listed IsRowAt row_count WidensRows IsNotedCopy row_store found.table.rows f.reached.full
+
+pub settled_apart : (task : Task) (found : Found) (races : Bool) (f : AreFound task found)
+    → (races ≡ true → AreCalm task found.table.rows (row_count found.table.rows))
+    → AreSettledApart task (all_items task found f).list races
+settled_apart task found races f calm =
     let all = found.table.rows in
     let reached = f.reached in
-    let items = listed IsRowAt row_count WidensRows IsNotedCopy row_store all reached.full in
+    let items = all_items task found f in
     record {
-      keys = items.list;
-      many = subst (λ n. most < n) (sym items.long) many;
       distinct = listed_apart IsRowAt row_count WidensRows IsNotedCopy row_store noted_eq.it all (row_apart all reached.distinct) items;
       each = λ k key there. reached.each k key (items.at k key there);
       bare = λ k key there. bare_key task found k key f (items.at k key there);
       calm = λ looked k key there. let at = items.at k key there in calm looked k key (row_within all k key at) at;
+    }
+
+has_more_settled : (task : Task) (found : Found) (most : ℕ) (races : Bool) → AreFound task found
+    → most < row_count found.table.rows → (races ≡ true → AreCalm task found.table.rows (row_count found.table.rows))
+    → HasMoreSettled task most races
+has_more_settled task found most races f many calm =
+    let items = all_items task found f in
+    record {
+      keys = items.list;
+      many = subst (λ n. most < n) (sym items.long) many;
+      are = settled_apart task found races f calm;
     }
 
 pub too_many_states : (task : Task) (found : Found) (races : Bool) → AreFound task found → task.most < row_count found.table.rows
@@ -319,19 +351,36 @@ calm_on task all place races key there before here looked k other lt at = elim (
   | inr apart ↦ before looked k other (omega (arith, lt, apart)) at
 ]
 
+-- a node that computes too long
+pub settles_from : (task : Task) (key : Noted) → IsReached task key
+    → ComputesLong (plain_at task.flat key.state) task.looked → SettlesLong task.program.now task.flat.nodes task.looked
+settles_from task key r long = record {
+  acts = r.acts;
+  machine = r.machine;
+  led = r.led;
+  like = plain_at task.flat key.state;
+  alike = r.alike;
+  long = long;
+}
+
+pub long_at : (task : Task) (found : Found) (place : ℕ) → AreFound task found → IsLongAt task found.table.rows place
+    → IsLong task
+long_at task found place f is = settles_long (settles_from task is.0 (f.reached.each place is.0 is.1) is.2)
+
 -- a fault of a step
 pub fault_of : (task : Task) (key : Noted) (fault : ExploreFault) → IsReached task key → IsLongFault task key.state fault → IsFault task fault
-fault_of task key fault r f = record {
-  nodes = f.nodes;
-  many = λ e. settles_long (record {
-    acts = r.acts;
-    machine = r.machine;
-    led = r.led;
-    like = plain_at task.flat key.state;
-    alike = r.alike;
-    long = f.many e;
-  });
-}
+fault_of task key fault r f = record { nodes = f.nodes; many = λ e. settles_long (settles_from task key r (f.many e)) }
+
+-- a search that is cut short
+pub cut_short : (task : Task) (found : Found) (races : Bool) → AreFound task found → IsCut task found.table.rows
+    → (races ≡ true → AreCalm task found.table.rows (row_count found.table.rows)) → IsSearchFault task races TooMany
+cut_short task found races f (are_more many) calm = too_many_states task found races f many calm
+cut_short task found races f (is_longer place long) calm =
+    record { nodes = λ e. cc; many = λ e. is_long (long_at task found place f long) }
+
+-- where there is no memory
+pub memory_fault : (task : Task) (fault : ExploreFault) → fault ≡ NoMemory → IsFault task fault
+memory_fault task fault is = subst (IsFault task) (sym is) (record { nodes = λ e. cc; many = λ e. cc })
 
 -- the fault of the start
 pub long_start : (task : Task) (state : State) → IsTask task → plain_at task.flat state ≡ machine_begun task.flat task.start

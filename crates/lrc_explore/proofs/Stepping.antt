@@ -5,7 +5,9 @@ use Rattle.std.proofs.lemmas.Bool.{true≢false}
 use Rattle.lrc_exec.specs.States.{plain_at, IsStateOf}
 use Rattle.lrc_orders.specs.declared.noted.Noted.{Noted}
 use Rattle.lrc_orders.specs.declared.search.ExploreFault.{ExploreFault}
+use Rattle.lrc_orders.specs.declared.search.ExploreFault.TheVariants.{TooMany}
 use Rattle.lrc_orders.specs.Traps.{has_trap}
+use Rattle.lrc_orders.proofs.Keeping.{grows_not}
 use Rattle.lrc_orders.proofs.Searching.{copy_same}
 use Rattle.lrc_orders.proofs.Stores.{before}
 use Rattle.lrc_orders.proofs.Ways.{IsNotedCopy}
@@ -20,10 +22,11 @@ use Rattle.lrc_orders_table.proofs.RowLaws.{row_copy, row_grown, row_store, row_
 use Rattle.lrc_orders_table.specs.declared.known.Means.{Means}
 use Rattle.lrc_orders_table.specs.declared.table.Led.{Led}
 use Rattle.lrc_orders_table.specs.declared.table.Table.{Table}
-use Rattle.lrc_orders_table.specs.Tables.{CannotTakeFrom, IsKnown, IsLongFault as IsLongRowFault, IsRowOf, IsTable, IsTakenFrom, KeepsRows, LeadsToRow}
+use Rattle.lrc_orders_table.specs.Tables.{CannotTakeFrom, IsKnown, IsLongFault as IsLongRowFault, IsRowOf, IsTable, IsTakenFrom, KeepsIfLong, KeepsRows, LeadsToRow}
 use Rattle.lrc_explore.specs.declared.task.Task.{Task}
 use Rattle.lrc_explore.specs.declared.task.Found.{Found}
 use Rattle.lrc_explore.specs.Answers.{IsFault}
+use Rattle.lrc_explore.specs.Cut.{StaysLong}
 use Rattle.lrc_explore.specs.Traps.{ShowsTrapAt, led_traps}
 use Rattle.lrc_explore.specs.Reached.{AreFound, CannotTakeAt, IsFound, IsMeansOf, IsReached, LeadsTo}
 use Rattle.lrc_explore.proofs.Keys.{from_grown, next_reached}
@@ -167,6 +170,27 @@ module _ (task : Task) (means : Means) (old : Found) (new : Table) (place : ℕ)
       → OnOk r (AreFound task (record { table = new; origins = old.origins }))
   found_on (Ok o) known keeps = let later : Found = record { table = new; origins = old.origins } in found_kept task means old later is f keeps known refl
   found_on (Err fault) known keeps = tt
+
+  pub long_on : (r : Result (Option Led) ExploreFault)
+      → IfErr r (λ fault. (x : Noted) → IsTakenFrom means old.table row x → IsLongRowFault means x fault)
+      → IfErr r (KeepsIfLong means old.table new)
+      → IfErr r (λ fault. fault ≡ TooMany → StaysLong task old (record { table = new; origins = old.origins }) place)
+  long_on (Ok o) all kept = tt
+  long_on (Err fault) all kept = λ e.
+      let l = all key (taken_from task old place row f within there means is) in
+      let k = kept e in
+      let later : Found = record { table = new; origins = old.origins } in
+      record {
+        long = (
+          key,
+          at_new k.1.widens,
+          subst (ComputesLong (plain_at task.flat key.state)) is.looked
+              (subst (λ g. ComputesLong (plain_at g key.state) means.looked) is.flat (l.many e)),
+        );
+        found = found_kept task means old later is f k.1 k.0 refl;
+        more = record { rows = k.1.widens; origins = grows_not old.origins.items old.origins.items refl };
+        keeps = k.1;
+      }
 
   pub faults_on : (r : Result (Option Led) ExploreFault)
       → IfErr r (λ fault. (x : Noted) → IsTakenFrom means old.table row x → IsLongRowFault means x fault) → IfErr r (IsFault task)

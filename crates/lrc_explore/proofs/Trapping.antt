@@ -32,7 +32,7 @@ use Rattle.lrc_explore.specs.declared.task.Found.{Found}
 use Rattle.lrc_explore.specs.declared.task.Trapping.TheVariants as trapping
 use Rattle.lrc_explore.specs.Reached.{AreExpanded, AreFound, AreReached, CannotTake, HasStart, HasTakenTo, SettlesStart}
 use Rattle.lrc_explore.specs.Told.{LeadTo}
-use Rattle.lrc_explore.specs.Traps.{IsStepTrapAt, IsTrapping, LeadIntoTrap, NowhereTraps, ShowsStartTrap, ShowsTrap, ShowsTrapAt, StartTraps, StepTraps, first_step}
+use Rattle.lrc_explore.specs.Traps.{IsStepTrapAt, IsTrapStepAt, IsTrapping, LeadIntoTrap, NowhereTraps, ShowsStartTrap, ShowsTrap, ShowsTrapAt, StartTraps, StepTraps, first_step}
 use Rattle.lrc_explore.proofs.Keys.{no_node}
 use Rattle.lrc_explore.proofs.Reaching.{all_reached, fine_key, further}
 
@@ -84,6 +84,12 @@ among_on task old new place node None false w full so h = λ key at.
         | inr apart ↦ o.1 k (omega (arith, lt, apart))
       ],
     )
+
+-- what is said where a step more is cut short
+pub among_named : (task : Task) (old new : Rows) (place node : ℕ) (trap : Option Step) → WidensRows old new
+    → IsRowPlace old place → IsTrapAmong task old place node trap → IsTrapStepAt task new place trap
+among_named task old new place node None w full so = tt
+among_named task old new place node (Some step) w full so = λ key at. so key (was_at old new place key w full at)
 
 pub among_all : (task : Task) (all : Rows) (place last : ℕ) (trap : Option Step) → AreReached task all → task.flat.nodes ≤ last
     → IsTrapAmong task all place last trap → IsStepTrapAt task all place trap

@@ -36,7 +36,7 @@ use Rattle.lrc_orders_live.specs.Live.{forgot}
 use Rattle.lrc_explore.specs.declared.task.Trapping.{Trapping}
 use Rattle.lrc_orders_settling.specs.declared.step.Step.{Step}
 use Rattle.lrc_explore.specs.Reached.{AreCalm, AreExpanded, AreNowhereStuck, HasStart, IsExpanded, IsReached, IsTask}
-use Rattle.lrc_explore.specs.Traps.{IsStepTrap, IsTrapSoFar}
+use Rattle.lrc_explore.specs.Traps.{IsStepTrap, IsTrapSoFar, IsTrapStepAt}
 
 -- so many free acts are looked at where there may be so many states
 abbrev pub looked_at : ℕ → ℕ
@@ -57,16 +57,20 @@ pub record SettlesLong (program : Program) (nodes most : ℕ) : Type 0 where
   pub alike : AreLike machine like
   pub long : ComputesLong like most
 
--- More states than a bound, no two of them equal, each of which stands for a settled state of the program. What no longer matters is 0 in
--- them: two that stand for the same state differ in the place of the code where some node is, or in their notes. Where races are looked
--- for, no two nodes meet at any of them, so that no race was to be told.
-pub record HasMoreSettled (task : Task) (most : ℕ) (races : Bool) : Type 0 where
-  pub keys : List Noted
-  pub many : most < length keys
+-- No two of these states are equal, and each stands for a settled state of the program. What no longer matters is 0 in
+-- them: two that stand for the same state differ in the place of the code where some node is, or in their notes. Where
+-- races are looked for, no two nodes meet at any of them, so that no race was to be told.
+pub record AreSettledApart (task : Task) (keys : List Noted) (races : Bool) : Type 0 where
   pub distinct : IsDistinct eq-value.it keys
   pub each : (k : ℕ) (key : Noted) → slice_get keys k ≡ Some key → IsReached task key
   pub bare : (k : ℕ) (key : Noted) → slice_get keys k ≡ Some key → All (λ spot. forgot task.live.items spot ≡ spot) key.state.spots.items
   pub calm : races ≡ true → (k : ℕ) (key : Noted) → slice_get keys k ≡ Some key → IsCalm (plain_at task.flat key.state)
+
+-- such states, more of them than a bound
+pub record HasMoreSettled (task : Task) (most : ℕ) (races : Bool) : Type 0 where
+  pub keys : List Noted
+  pub many : most < length keys
+  pub are : AreSettledApart task keys races
 
 -- each settled state of the program is one of so many, but for how often nodes have arrived and for private values that nothing depends
 -- on any more
@@ -139,9 +143,16 @@ pub record IsSeen (task : Task) (found : Found) (place : ℕ) (races stuck : Boo
 abbrev pub MeetAt : Task → Found → (races : Bool) → (place p q : ℕ) → Type 0
 MeetAt task found races place p q = (key : Noted) × IsRowAt found.table.rows place key × Meet (plain_at task.flat key.state) p q × (races ≡ true)
 
+-- from the state at a place some node computes too long
+abbrev pub IsLongAt : Task → Rows → (place : ℕ) → Type 0
+IsLongAt task all place =
+    (key : Noted) × IsRowAt all place key × ComputesLong (plain_at task.flat key.state) task.looked
+
 abbrev pub IsVisit : Task → Found → (place : ℕ) → (races : Bool) → Visit → Type 0
 IsVisit task found place races (visit.Meeting p q) = MeetAt task found races place p q
 IsVisit task found place races (visit.Past stuck trap) = IsSeen task found place races stuck trap
+IsVisit task found place races (visit.Cut trap) =
+    IsLongAt task found.table.rows place × IsTrapStepAt task found.table.rows place trap
 
 -- the first state that is stuck, where that at this place is next
 abbrev pub first_stuck : Option ℕ → (stuck : Bool) → (place : ℕ) → Option ℕ

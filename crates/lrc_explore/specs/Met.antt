@@ -1,4 +1,4 @@
--- A search that gives up among too many states tells what it met.
+-- A search that is cut short tells what it met.
 use Rattle.std.specs.Prelude.{◌≡◌, ◌&&◌, ℕ, ◌<◌, ◌≤◌, Bool, true, false, is_some, List, Option, Some, None, option_map, slice_get}
 use Rattle.lrc_program.specs.declared.Program.{Program}
 use Rattle.lrc_exec.specs.Plain.{plain_start}
@@ -17,7 +17,8 @@ use Rattle.lrc_explore.specs.declared.task.Task.{Task}
 use Rattle.lrc_explore.specs.declared.task.Trapping.{Trapping}
 use Rattle.lrc_explore.specs.declared.task.Visit.{Visit}
 use Rattle.lrc_explore.specs.declared.task.Visit.TheVariants as visit
-use Rattle.lrc_explore.specs.Answers.{FitsEnd, HasMoreSettled, IsEnd, MetTooMany, SettlesLong, looked_at}
+use Rattle.lrc_explore.specs.Answers.{AreSettledApart, FitsEnd, IsEnd, MetTooMany, SettlesLong, looked_at}
+use Rattle.lrc_explore.specs.Cut.{IsCut, IsCutAmong}
 use Rattle.lrc_explore.specs.Reached.{AreCalm, AreNowhereStuck}
 use Rattle.lrc_explore.specs.Traps.{AreRowsTrapless, IsReachedTrapless, IsTrapping, KeepsTrapless}
 
@@ -37,10 +38,10 @@ abbrev pub IsTrapMet : Task → Rows → Option Trapping → Type 0
 IsTrapMet task all None = AreRowsTrapless task all
 IsTrapMet task all (Some there) = IsTrapping task all there
 
--- There are more states than may be, and no two nodes meet at one, if that is looked for. It is said where the program is stuck, and where a
--- node traps.
+-- There are more states than may be, or from one of them some node computes too long; and no two nodes meet at one, if
+-- that is looked for. It is said where the program is stuck, and where a node traps.
 pub record IsMany (task : Task) (all : Rows) (races : Bool) (stuck : Option ℕ) (trap : Option Trapping) : Type 0 where
-  pub many : task.most < row_count all
+  pub cut : IsCut task all
   pub calm : races ≡ true → AreCalm task all (row_count all)
   pub halted : IsStuckMet task all stuck
   pub traps : IsTrapMet task all trap
@@ -59,6 +60,7 @@ FitsSought task found (sought.Many stuck trap) = Unit {0}
 abbrev pub VisitKeeps : Task → (old new : Rows) → Visit → Type 0
 VisitKeeps task old new (visit.Meeting p q) = Unit {0}
 VisitKeeps task old new (visit.Past stuck trap) = KeepsTrapless task old new (is_some trap)
+VisitKeeps task old new (visit.Cut trap) = KeepsTrapless task old new (is_some trap)
 
 -- what stands behind those before is at this place
 abbrev pub IsOnlyNew : (was now place : ℕ) → Type 0
@@ -98,12 +100,15 @@ pub record TellsMet (task : Task) (keys : List Noted) (met : Findings) : Type 0 
   pub stuck : TellsStuckMet task keys (option_map (λ order. order.items) met.stuck)
   pub trap : TellsTrapMet task keys (option_map (λ order. order.items) met.trap)
 
--- so it is of more states than a bound, which stand for settled states of the program
+-- so it is of states that stand for settled states of the program: they are more than a bound, or some node computes
+-- too long from one of them
 pub record HasMet (task : Task) (most : ℕ) (races : Bool) (met : Findings) : Type 0 where
-  pub more : HasMoreSettled task most races
-  pub tells : TellsMet task more.keys met
+  pub keys : List Noted
+  pub are : AreSettledApart task keys races
+  pub cut : IsCutAmong task most keys
+  pub tells : TellsMet task keys met
 
--- so it is of a program, of which a search met too many states
+-- so it is of a program, of which a search was cut short
 pub record GaveUp (program : Program) (nodes most : ℕ) (races : Bool) (met : Findings) : Type 0 where
   pub search : MetTooMany program nodes most false races
   pub has : HasMet search.task most races met

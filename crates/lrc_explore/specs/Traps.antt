@@ -68,6 +68,11 @@ IsStepTrap task key (Some step) = StepTraps task key step
 abbrev pub IsStepTrapAt : Task → Rows → (place : ℕ) → Option Step → Type 0
 IsStepTrapAt task all place trap = (key : Noted) → IsRowAt all place key → IsStepTrap task key trap
 
+-- a node traps in this step from the state at a place, if one is named
+abbrev pub IsTrapStepAt : Task → Rows → (place : ℕ) → Option Step → Type 0
+IsTrapStepAt task all place None = Unit {0}
+IsTrapStepAt task all place (Some step) = (key : Noted) → IsRowAt all place key → StepTraps task key step
+
 -- where a node traps first, if it does as the start settles, and where this step from the state at this place is next
 abbrev pub start_trap : Bool → Option Trapping
 start_trap true = Some trapping.Start

@@ -12,7 +12,7 @@ ghost use Rattle.lrc_explore.specs.Answers.{IsFault, IsLongFault};
 ghost use Rattle.lrc_explore.specs.Traps.{first_step};
 
 use crate::notes::notes_of;
-use crate::task::{Found, Origin, Task};
+use crate::task::{Found, Origin, Stepped, Steps, Task};
 use lrc_exec::state::State;
 use lrc_orders::noted::Noted;
 use lrc_orders::search::ExploreFault;
@@ -173,11 +173,12 @@ impl Found {
     ghost use Rattle.lrc_orders.specs.declared.noted.Noted.{Noted as Key};
     ghost use Rattle.lrc_orders_table.specs.Rows.{IsRowAt, StandsFor, row_count};
     ghost use Rattle.lrc_explore.specs.declared.task.Task.{Task as TheTask};
-    ghost use Rattle.lrc_explore.specs.Reached.{AreFound, CannotTakeAt, HasAfterAt, HasStart, IsExpandedAt, IsFirstKey, IsKept, IsMore, IsNext, IsReached, IsStepOf, IsTask, LeadsTo};
+    ghost use Rattle.lrc_explore.specs.Reached.{AreFound, CannotTakeAt, HasStart, IsFirstKey, IsKept, IsMore, IsNext, IsReached, IsStepOf, IsTask, LeadsTo};
     ghost use Rattle.lrc_explore.specs.Answers.{IsFault};
     ghost use Rattle.lrc_orders_table.specs.Tables.{KeepsRows};
+    ghost use Rattle.lrc_explore.specs.Cut.{AreSteps, IsStepped, StaysLong, trap_among, traps_in};
     ghost use Rattle.lrc_explore.specs.Met.{IsOnlyNew};
-    ghost use Rattle.lrc_explore.specs.Traps.{AreRowsTrapless, IsStepTrapAt, KeepsTrapless, ShowsStartTrap, ShowsTrapAt, led_traps};
+    ghost use Rattle.lrc_explore.specs.Traps.{AreRowsTrapless, KeepsTrapless, ShowsStartTrap, ShowsTrapAt, led_traps};
 
     /// Makes a list without states, for this many nodes.
     pub fn none(alloc: Global, nodes: usize) -> Found
@@ -233,63 +234,74 @@ impl Found {
         Ok(())
     }
 
-    /// Adds the states that a step leads to from that at a place. Returns the first step in which a node traps, if any.
+    /// Adds the states that a step leads to from that at a place, up to the first step in which some node computes too
+    /// long. Returns whether there is one, and the first step in which a node traps, if any. It fails if memory
+    /// runs out.
     pub fn expand(
         &mut self,
         alloc: Global,
         task: &Task<'_>,
         place: usize,
-    ) -> Result<Option<Step>, ExploreFault>
+    ) -> Result<Steps, ExploreFault>
         requires task { IsTask task.now }
         requires found { AreFound task.now self.old }
         requires within { place < row_count self.old.table.rows }
         ensures found { OnOk result (AreFound task.now self.new) }
         ensures more { OnOk result (IsMore self.old self.new) }
-        ensures expanded { OnOk result (IsExpandedAt task.now self.new.table.rows place) }
-        ensures trap { IfOk result (IsStepTrapAt task.now self.new.table.rows place) }
-        ensures trapless { IfOk result (λ trap. KeepsTrapless task.now self.old.table.rows
-            self.new.table.rows (is_some trap)) }
-        ensures faults { IfErr result (IsFault task.now) }
+        ensures steps { IfOk result (AreSteps task.now self.new.table.rows place) }
+        ensures trapless { IfOk result (λ steps. KeepsTrapless task.now self.old.table.rows
+            self.new.table.rows (is_some (trap_among steps))) }
+        ensures faults { IfErr result (λ fault. fault ≡ ExploreFault.NoMemory) }
     {
-        let together = self.expand_step(alloc, task, place, Step::Together)?;
-        let first = first_step(None, together, Step::Together);
-        let mut trap = first;
-        for node in 0..task.flat.nodes {
-            let alone = self.expand_step(alloc, task, place, Step::Alone(node))?;
-            trap = first_step(trap, alone, Step::Alone(node));
+        let mut trap = None;
+        match self.expand_step(alloc, task, place, Step::Together)? {
+            Stepped::Past(together) => trap = first_step(None, together, Step::Together),
+            Stepped::Long => return Ok(Steps::Cut(None)),
         }
-        Ok(trap)
+        for node in 0..task.flat.nodes {
+            match self.expand_step(alloc, task, place, Step::Alone(node))? {
+                Stepped::Past(alone) => trap = first_step(trap, alone, Step::Alone(node)),
+                Stepped::Long => return Ok(Steps::Cut(trap)),
+            }
+        }
+        Ok(Steps::All(trap))
     }
 
-    // Adds the state that a step leads to from that at a place, if it can be taken: whether a node traps in it.
+    // Adds the state that a step leads to from that at a place, if it can be taken: whether a node traps in it, or
+    // computes too long.
     fn expand_step(
         &mut self,
         alloc: Global,
         task: &Task<'_>,
         place: usize,
         step: Step,
-    ) -> Result<bool, ExploreFault>
+    ) -> Result<Stepped, ExploreFault>
         requires task { IsTask task.now }
         requires found { AreFound task.now self.old }
         requires within { place < row_count self.old.table.rows }
         requires step { IsStepOf task.now step }
         ensures found { OnOk result (AreFound task.now self.new) }
         ensures more { OnOk result (IsMore self.old self.new) }
-        ensures after { OnOk result (HasAfterAt task.now self.new.table.rows place step) }
-        ensures traps { IfOk result (ShowsTrapAt task.now self.new.table.rows place step) }
-        ensures trapless { IfOk result (KeepsTrapless task.now self.old.table.rows
-            self.new.table.rows) }
-        ensures faults { IfErr result (IsFault task.now) }
+        ensures stepped { IfOk result (IsStepped task.now self.new.table.rows place step) }
+        ensures trapless { IfOk result (λ stepped. KeepsTrapless task.now self.old.table.rows
+            self.new.table.rows (traps_in stepped)) }
+        ensures faults { IfErr result (λ fault. fault ≡ ExploreFault.NoMemory) }
     {
-        let Some(led) = self.row_after(alloc, task, place, step)? else {
-            return Ok(false);
+        let after = match self.row_after(alloc, task, place, step) {
+            Ok(after) => after,
+            Err(ExploreFault::TooMany) => return Ok(Stepped::Long),
+            // The only other fault of a step.
+            Err(_) => return Err(ExploreFault::NoMemory),
+        };
+        let Some(led) = after else {
+            return Ok(Stepped::Past(false));
         };
         let origin = Origin {
             parent: place,
             step,
         };
         let _place = self.put(task, led.row, origin)?;
-        Ok(led.traps)
+        Ok(Stepped::Past(led.traps))
     }
 
     /// Returns the row that a step leads to from that at a place, and whether a node traps in it, if it can be taken. It
@@ -313,6 +325,8 @@ impl Found {
             (λ led. LeadsTo task.now self.new.table.rows place step led.row)) }
         ensures traps { IfOk result (λ led. ShowsTrapAt task.now self.new.table.rows place step
             (led_traps led)) }
+        ensures long { IfErr result (λ fault. fault ≡ ExploreFault.TooMany
+            → StaysLong task.now self.old self.new place) }
         ensures faults { IfErr result (IsFault task.now) }
     {
         let row = self.table.rows.row(place);

@@ -1,4 +1,4 @@
-// What a search met that gives up among too many states.
+// What a search met that was cut short.
 
 use crate::answers::order_of;
 use crate::task::{Found, Task, Trapping};
@@ -14,8 +14,8 @@ impl Found {
     ghost use Rattle.lrc_explore.specs.Reached.{AreFound, IsTask};
     ghost use Rattle.lrc_explore.specs.Traps.{IsTrapping};
 
-    /// Returns an order that gets stuck, if the program is stuck at a state that was found, and one in which a node traps,
-    /// if it is said where one does, where more states were found than may be. It fails if memory runs out.
+    /// Returns an order that gets stuck, if the program is stuck at a state that was found, and one in which a node
+    /// traps, if it is said where one does, where a search was cut short. It fails if memory runs out.
     pub fn met_told(
         &self,
         alloc: Global,

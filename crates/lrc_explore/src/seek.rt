@@ -1,12 +1,14 @@
 // The search, from the settled start through all states.
 
-ghost use Rattle.std.specs.Prelude.{◌≡◌, OnOk};
+ghost use Rattle.std.specs.Prelude.{◌≡◌, MatchResult, OnOk};
 ghost use Rattle.lrc_orders.specs.Kept.{Grows};
 ghost use Rattle.lrc_orders.specs.Outcome.{HasOutcome};
 ghost use Rattle.lrc_explore.specs.Answers.{AddsOnly, first_stuck};
+ghost use Rattle.lrc_explore.specs.Cut.{trap_among};
+ghost use Rattle.lrc_explore.specs.declared.task.Steps.TheVariants.{All, Cut};
 ghost use Rattle.lrc_explore.specs.Traps.{first_trap, start_trap};
 
-use crate::task::{End, Found, Origin, Sought, Task, Trapping, Visit};
+use crate::task::{End, Found, Origin, Sought, Steps, Task, Trapping, Visit};
 use indexmap::IndexSet;
 use lrc_orders::outcomes::Outcome;
 use lrc_orders::search::ExploreFault;
@@ -58,12 +60,24 @@ fn keep(outcomes: &mut IndexSet<Outcome>, notes: Vec<Act>) -> Result<(), AllocEr
     Ok(())
 }
 
+// Says no where some node computes too long.
+fn or_too_long(steps: &Steps) -> Result<(), ExploreFault>
+    ensures { MatchResult result (λ _. steps.now ≡ All (trap_among steps.now))
+        (λ fault. (fault ≡ ExploreFault.TooMany) × (steps.now ≡ Cut (trap_among steps.now))) }
+{
+    match steps {
+        Steps::All(_) => Ok(()),
+        Steps::Cut(_) => Err(ExploreFault::TooMany),
+    }
+}
+
 impl Found {
     ghost use Rattle.std.specs.Prelude.{◌≡◌, ◌<◌, ◌≤◌, IfOk, IfErr, OnOk, MatchOption, [], true, false};
     ghost use Rattle.lrc_orders_table.specs.Rows.{row_count, WidensRows};
     ghost use Rattle.lrc_orders.specs.Kept.{Grows};
     ghost use Rattle.lrc_explore.specs.Reached.{AreCalm, AreExpanded, AreFound, IsExpandedAt, IsMore, IsTask};
     ghost use Rattle.lrc_explore.specs.Answers.{AreGathered, AreSound, IsFault, IsGatheredAt, IsSearchFault, IsVisit, MeetAt};
+    ghost use Rattle.lrc_explore.specs.Cut.{IsCut};
     ghost use Rattle.lrc_explore.specs.Met.{FitsSought, IsSought, IsStuckMet, IsTrapMet, VisitKeeps};
     ghost use Rattle.lrc_explore.specs.Traps.{AreRowsTrapless, ShowsStartTrap};
     ghost use Rattle.lrc_exec.specs.States.{plain_at};
@@ -72,11 +86,12 @@ impl Found {
     ghost use Rattle.lrc_orders_table.specs.declared.known.Means.{Means as TheMeans};
     ghost use Rattle.lrc_orders_table.specs.Tables.{IsKnown, IsRowOf, IsTable};
 
-    /// Looks for a state where two nodes meet, if `races` is true. If there is none, all states are found, and the answer
-    /// tells the first of them at which the program is stuck, if any, and where a node traps first, if one does. `start`
-    /// says whether one traps as the start settles. Where there are too many states, no two nodes meet at any of those that
-    /// were found, if `races` is true, and the answer tells the first of them at which the program is stuck. It fails if a
-    /// node makes so many free acts that the limit is reached, or if memory runs out.
+    /// Looks for a state where two nodes meet, if `races` is true. If there is none, all states are found, and the
+    /// answer tells the first of them at which the program is stuck, if any, and where a node traps first, if one does.
+    /// `start` says whether one traps as the start settles. Where there are too many states, or a node makes so many
+    /// free acts that the limit is reached, no two nodes meet at any of the states that were found, if `races` is true,
+    /// and the answer tells the first of them at which the program is stuck, and where a node traps on the way to them.
+    /// It fails if memory runs out.
     pub fn seek(
         &mut self,
         alloc: Global,
@@ -92,7 +107,7 @@ impl Found {
         ensures more { OnOk result (IsMore self.old self.new) }
         ensures sought { IfOk result (IsSought task.now self.new races) }
         ensures fits { IfOk result (FitsSought task.now self.new) }
-        ensures faults { IfErr result (IsFault task.now) }
+        ensures faults { IfErr result (λ fault. fault ≡ ExploreFault.NoMemory) }
     {
         let mut stuck = None;
         let mut trap = start_trap(start);
@@ -110,19 +125,23 @@ impl Found {
                     stuck = first_stuck(stuck, halts, place);
                     trap = first_trap(trap, step, place);
                 }
+                Visit::Cut { trap: step } => {
+                    let met = first_trap(trap, step, place);
+                    return Ok(self.end_from(task, place, races, met));
+                }
             }
             place += 1;
         }
         Ok(Sought::Ended(End::Through { stuck, trap }))
     }
 
-    // Where a search ends that has found more states than may be: at the first from this place on where two nodes meet, if
-    // that is looked for; or with what it met at them.
+    // Where a search ends that is cut short: at the first state found from this place on where two nodes meet, if that
+    // is looked for; or with what it met.
     fn end_from(&self, task: &Task<'_>, first: usize, races: bool, trap: Option<Trapping>) -> Sought
         requires found { AreFound task.now self.now }
         requires calm { races ≡ true → AreCalm task.now self.now.table.rows first }
         requires within { first < row_count self.now.table.rows }
-        requires many { task.now.most < row_count self.now.table.rows }
+        requires cut { IsCut task.now self.now.table.rows }
         requires traps { IsTrapMet task.now self.now.table.rows trap }
         ensures sought { IsSought task.now self.now races result }
         ensures fits { FitsSought task.now self.now result }
@@ -195,15 +214,17 @@ impl Found {
         ensures more { OnOk result (IsMore self.old self.new) }
         ensures visit { IfOk result (IsVisit task.now self.new place races) }
         ensures keeps { IfOk result (VisitKeeps task.now self.old.table.rows self.new.table.rows) }
-        ensures faults { IfErr result (IsFault task.now) }
+        ensures faults { IfErr result (λ fault. fault ≡ ExploreFault.NoMemory) }
     {
         let row = self.table.rows.row(place);
         if let Some((p, q)) = self.meeting(&row, races) {
             return Ok(Visit::Meeting(p, q));
         }
         let stuck = self.table.is_stuck(&row);
-        let trap = self.expand(alloc, task, place)?;
-        Ok(Visit::Past { stuck, trap })
+        match self.expand(alloc, task, place)? {
+            Steps::All(trap) => Ok(Visit::Past { stuck, trap }),
+            Steps::Cut(trap) => Ok(Visit::Cut { trap }),
+        }
     }
 
     // The least two nodes that meet, if that is looked for.
@@ -267,7 +288,8 @@ impl Found {
     {
         let row = self.table.rows.row(place);
         let still = self.table.is_still(&row);
-        let _trap = self.expand(alloc, task, place)?;
+        let steps = self.expand(alloc, task, place)?;
+        or_too_long(&steps)?;
         if still {
             let key = self.table.rows.noted(alloc, place)?;
             keep(outcomes, key.notes)?;

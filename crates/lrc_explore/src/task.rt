@@ -72,8 +72,9 @@ pub enum End {
     },
 }
 
-/// Where a search ended: as `End` says; or with more states than may be, where it tells the first of those found at which
-/// the program is stuck, if any, and where a node traps first on the way to them, if one does.
+/// Where a search ended: as `End` says; or with more states than may be or where some node computes too long, and then
+/// it tells the first of the states found at which the program is stuck, if any, and where a node traps first on the
+/// way to them, if one does.
 #[derive(Clone, Copy)]
 pub enum Sought {
     Ended(End),
@@ -83,10 +84,27 @@ pub enum Sought {
     },
 }
 
-/// What a visit to a state saw: two nodes that meet; or whether the program is stuck there, and the first step from it in
+/// What came of a step from a state: whether a node traps in it, if it can be taken; or some node computes too long.
+#[derive(Clone, Copy)]
+pub enum Stepped {
+    Past(bool),
+    Long,
+}
+
+/// What came of the steps from a state: all were looked at, or in one of them some node computes too long; and the
+/// first before it in which a node traps, if any.
+#[derive(Clone, Copy)]
+pub enum Steps {
+    All(Option<Step>),
+    Cut(Option<Step>),
+}
+
+/// What a visit to a state saw: two nodes that meet; or whether the program is stuck there, and the first step from it
+/// in which a node traps, if any; or that in a step from it some node computes too long, and the first before it in
 /// which a node traps, if any.
 #[derive(Clone, Copy)]
 pub enum Visit {
     Meeting(usize, usize),
     Past { stuck: bool, trap: Option<Step> },
+    Cut { trap: Option<Step> },
 }

@@ -33,15 +33,17 @@ pub enum EndVerdict {
     Through(EndFindings),
     /// The last two acts of the order given race.
     Racy { order: Vec<usize> },
-    /// There are more states to tell apart than may be, and no two nodes meet at those that were met, if that was looked
-    /// for. These are the findings at them: an order that gets stuck exactly if the program is stuck at one of them, and an
-    /// order in which a node traps if one traps on the way to them.
+    /// There are more states to tell apart than may be, or from one that was met a thread makes too many free acts; and
+    /// no two nodes meet at those that were met, if that was looked for. These are the findings at them: an order that
+    /// gets stuck exactly if the program is stuck at one of them, and an order in which a node traps if one traps on
+    /// the way to them.
     Many(Findings),
 }
 
-/// Searches the settled states of a program on this many nodes. It tells whether an order races, if `races` is true, and
-/// if none does, whether one gets stuck, whether a node traps in one, and whether every order can end. If there are more
-/// states to tell apart than `most`, it tells what it met at them. It fails as `explore` of `lrc_explore_less` does.
+/// Searches the settled states of a program on this many nodes. It tells whether an order races, if `races` is true,
+/// and if none does, whether one gets stuck, whether a node traps in one, and whether every order can end. If there are
+/// more states to tell apart than `most`, or if from one a thread makes 1,000,000 + 20 * `most` free acts one after
+/// another, it tells what it met at them. It fails as `explore` of `lrc_explore_less` does.
 pub fn explore_ends(
     alloc: Global,
     program: &Program,
@@ -147,7 +149,7 @@ fn answer_of(
     }
 }
 
-// What was met where there are too many states.
+// What was met where the search was cut short.
 fn many_of(
     alloc: Global,
     task: &Task<'_>,

@@ -39,9 +39,11 @@ use Rattle.lrc_explore.specs.Told.{LeadTo}
 use Rattle.lrc_explore.proofs.Keys.{after_at_grown, has_after, start_grown}
 use Rattle.lrc_explore.proofs.Reaching.{gets_stuck}
 use Rattle.lrc_explore.proofs.Trapping.{node_traps, trap_grown}
+use Rattle.lrc_explore.specs.Answers.{IsLong}
+use Rattle.lrc_explore.proofs.Seeking.{long_at}
 use Rattle.lrc_explore_less.specs.declared.less.Less.{Less}
 use Rattle.lrc_explore_less.specs.declared.less.Pass.TheVariants as pass
-use Rattle.lrc_explore_less.specs.Passing.{AreFirst, AreLess, ArePassing, HasPassed, HasTaken, IsSound, IsTrap, LeadsOpen, Passes, Reaches, Way, Widens, stays, pass_of, trap_then}
+use Rattle.lrc_explore_less.specs.Passing.{AreFirst, AreLess, ArePassing, HasPassed, HasTaken, IsLongSome, IsSound, IsTrap, LeadsOpen, Passes, Reaches, Way, Widens, stays, pass_of, trap_then}
 use Rattle.lrc_explore_less.specs.Enough.{HasBegun, IsStartTrapless}
 use Rattle.lrc_explore_less.proofs.Ways.{leads_grown, was_at, way_grown, way_on, way_open, widens_not}
 
@@ -461,3 +463,12 @@ stuck_order task found place key acts order f at is led same =
 pub trap_order : (task : Task) (acts : List Act) (order : List ℕ) → LeadIntoTrap task acts → order ≡ nodes_of_acts acts
     → NodeTraps task.program.now task.flat.nodes order
 trap_order task acts order led same = subst (NodeTraps task.program.now task.flat.nodes) (sym same) (node_traps task acts led)
+
+-- ---- where some node computes too long
+
+pub long_opened : (task : Task) (old new : Less) → new ≡ record old { opens = new.opens } → IsLongSome task old
+    → IsLongSome task new
+long_opened task old new same is = subst (IsLongSome task) (sym same) is
+
+pub long_less : (task : Task) (less : Less) → IsSound task less → IsLongSome task less → IsLong task
+long_less task less sound is = long_at task less.found is.0 sound.found is.1

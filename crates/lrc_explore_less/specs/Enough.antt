@@ -21,7 +21,7 @@ use Rattle.lrc_explore.specs.Traps.{ShowsTrapAt}
 use Rattle.lrc_explore_less.specs.declared.less.Less.{Less}
 use Rattle.lrc_explore_less.specs.declared.seek.Visit.{Visit}
 use Rattle.lrc_explore_less.specs.declared.seek.Visit.TheVariants as visit
-use Rattle.lrc_explore_less.specs.Passing.{AreLess}
+use Rattle.lrc_explore_less.specs.Passing.{AreLess, IsLongSome}
 
 -- no node traps in a step from the state at a place
 abbrev pub IsTraplessAt : Task → Rows → (place : ℕ) → Type 0
@@ -90,3 +90,4 @@ pub record IsPast (task : Task) (less : Less) (place : ℕ) (races stuck : Bool)
 abbrev pub IsVisit : Task → Less → (place : ℕ) → (races : Bool) → Visit → Type 0
 IsVisit task less place races (visit.Meeting p q) = MeetAt task less.found races place p q
 IsVisit task less place races (visit.Past stuck) = IsPast task less place races stuck
+IsVisit task less place races visit.Cut = IsLongSome task less

@@ -1,4 +1,4 @@
--- What a search answers, where it may give up among too many states.
+-- What a search answers, where it may be cut short.
 use Rattle.std.specs.Prelude.{◌≡◌, ℕ, Bool, true, false, if◌then◌else◌}
 use Rattle.lrc_program.specs.declared.Program.{Program}
 use Rattle.lrc_orders.specs.declared.search.Findings.{Findings}
@@ -24,12 +24,12 @@ IsSought task less races (sought.Many stuck trap) = IsMany task less.found.table
 abbrev pub searched_of : (both : Bool) → Findings → Searched
 searched_of both met = if both then searched.All met else searched.Many met
 
--- the answer of a search for races: a verdict, or what was met among too many states
+-- the answer of a search for races: a verdict, or what was met where it is cut short
 abbrev pub IsExplored : Program → (nodes most : ℕ) → Explored → Type 0
 IsExplored program nodes most (explored.Told verdict) = IsAnswer program nodes verdict
 IsExplored program nodes most (explored.Many met) = GaveUp program nodes most true met
 
--- of one that looks for no races: what there is, or what was met among too many states, where that leaves something open
+-- of one that looks for no races: what there is, or what was met where it is cut short, and that leaves something open
 abbrev pub IsSearched : Program → (nodes most : ℕ) → Searched → Type 0
 IsSearched program nodes most (searched.All found) = AreFindings program nodes found
 IsSearched program nodes most (searched.Many met) = GaveUp program nodes most false met × (tells_both met ≡ false)

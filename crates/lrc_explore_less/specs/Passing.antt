@@ -17,6 +17,7 @@ use Rattle.lrc_explore.specs.declared.task.Origin.{Origin}
 use Rattle.lrc_explore.specs.declared.task.Task.{Task}
 use Rattle.lrc_explore.specs.declared.task.Trapping.{Trapping}
 use Rattle.lrc_explore.specs.declared.task.Trapping.TheVariants as trapping
+use Rattle.lrc_explore.specs.Answers.{IsLongAt}
 use Rattle.lrc_explore.specs.Reached.{AreFound, CannotTakeAt, IsMore}
 use Rattle.lrc_explore.specs.Traps.{AreRowsTrapless, IsTrapping}
 use Rattle.lrc_explore_less.specs.declared.less.Less.{Less}
@@ -111,11 +112,22 @@ pub record Widens (old new : Less) : Type 0 where
 abbrev pub AreFirst : List ℕ → (count : ℕ) → Type 0
 AreFirst opens count = (length opens ≡ count) × ((index place : ℕ) → slice_get opens index ≡ Some place → place ≡ index)
 
+-- some node computes too long from one of the states
+abbrev pub IsLongSome : Task → Less → Type 0
+IsLongSome task less = (place : ℕ) × IsLongAt task less.found.table.rows place
+
+-- so it is, and what was found stays
+pub record IsCutLess (task : Task) (old new : Less) : Type 0 where
+  pub less : AreLess task new
+  pub widens : Widens old new
+  pub long : IsLongSome task new
+
 -- what became of passing on
 abbrev pub HasPassed : Task → Less → (first : ℕ) → Pass → Type 0
 HasPassed task less first pass.Open = ArePassing task less first
 HasPassed task less first pass.Joined = AreLess task less
 HasPassed task less first pass.On = ArePassing task less first
+HasPassed task less first pass.Long = ArePassing task less first × IsLongSome task less
 
 -- a step was taken to a state at this place, which was added or not
 pub record HasTaken (task : Task) (old new : Less) (place : ℕ) (step : Step) (put : ℕ × Bool) : Type 0 where
@@ -129,6 +141,14 @@ pub record HasNotTaken (task : Task) (old new : Less) (place : ℕ) (step : Step
   pub cannot : CannotTakeAt task new.found.table.rows place step
   pub rows : row_count new.found.table.rows ≡ row_count old.found.table.rows
   pub trap : new.trap ≡ old.trap
+
+-- or some node computes too long in it
+pub record HasStayed (task : Task) (old new : Less) (place : ℕ) : Type 0 where
+  pub sound : IsSound task new
+  pub widens : Widens old new
+  pub opens : new.opens.items ≡ old.opens.items
+  pub rows : row_count new.found.table.rows ≡ row_count old.found.table.rows
+  pub long : IsLongAt task new.found.table.rows place
 
 abbrev pub IsTaken : Task → (old new : Less) → (place : ℕ) → Step → Option (ℕ × Bool) → Type 0
 IsTaken task old new place step None = HasNotTaken task old new place step

@@ -32,9 +32,9 @@ use std::alloc::{AllocError, Global};
 pub enum Explored {
     /// The verdict on the program.
     Told(Verdict),
-    /// There are more states to tell apart than may be, and no two nodes meet at those that were met. These are the
-    /// findings at them: an order that gets stuck exactly if the program is stuck at one of them, and an order in which a
-    /// node traps if one traps on the way to them.
+    /// There are more states to tell apart than may be, or from one that was met a thread makes too many free acts; and
+    /// no two nodes meet at those that were met. These are the findings at them: an order that gets stuck exactly if
+    /// the program is stuck at one of them, and an order in which a node traps if one traps on the way to them.
     Many(Findings),
 }
 
@@ -43,16 +43,18 @@ pub enum Explored {
 pub enum Searched {
     /// The findings of all orders.
     All(Findings),
-    /// There are more states to tell apart than may be. These are the findings at those that were met, as in `Explored`.
+    /// There are more states to tell apart than may be, or from one that was met a thread makes too many free acts.
+    /// These are the findings at those that were met, as in `Explored`.
     Many(Findings),
 }
 
 /// Searches the settled states of a program on this many nodes, and makes undisputed acts at once. It tells whether an
-/// order races, and if none does, whether one gets stuck and whether a node traps in one. If there is something to tell,
-/// the order told is that of the search that makes no undisputed acts, unless that one gives up with `TooMany`. It fails
-/// with `BadNodes` exactly if the number of nodes is not 1 to 16. If there are more states to tell apart than `most`, at
-/// none of which two nodes meet, it tells what it met at them, by any order that shows it. It gives up with `TooMany` only
-/// if a thread makes 1,000,000 + 20 * `most` free acts one after another. It fails if memory runs out.
+/// order races, and if none does, whether one gets stuck and whether a node traps in one. If there is something to
+/// tell, the order told is that of the search that makes no undisputed acts, unless that one gives up with `TooMany`.
+/// It fails with `BadNodes` exactly if the number of nodes is not 1 to 16. If there are more states to tell apart than
+/// `most`, at none of which two nodes meet, it tells what it met at them, by any order that shows it; so too if from a
+/// state that was met a thread makes 1,000,000 + 20 * `most` free acts one after another. It gives up with `TooMany`
+/// only if a thread makes so many. It fails if memory runs out.
 pub fn explore(
     alloc: Global,
     program: &Program,
@@ -119,9 +121,9 @@ fn explore_code(
     less.answer(alloc, &task)
 }
 
-/// Searches as `explore` does, whether or not an order races, and tells whether one gets stuck and whether a node traps in
-/// one. Two nodes may meet at its states. If there are more than `most`, but the program was stuck at one that was met, and
-/// a node traps on the way to one, then these are all findings that there are. It fails as `explore` does.
+/// Searches as `explore` does, whether or not an order races, and tells whether one gets stuck and whether a node traps
+/// in one. Two nodes may meet at its states. If it is cut short as `explore` is, but the program was stuck at one that
+/// was met, and a node traps on the way to one, then these are all findings that there are. It fails as `explore` does.
 pub fn findings(
     alloc: Global,
     program: &Program,
@@ -210,7 +212,7 @@ fn outcomes_of(
     Ok(ended.outcomes)
 }
 
-// Whether no other order is to be told: the verdict names none, or there are too many states.
+// Whether no other order is to be told: the verdict names none, or the search was cut short.
 fn is_last(explored: &Explored) -> bool {
     match explored {
         Explored::Told(Verdict::RaceFree(found)) => found.stuck.is_none() && found.trap.is_none(),
@@ -227,7 +229,7 @@ fn are_last(searched: &Searched) -> bool {
     }
 }
 
-// What was met among too many states, as an answer: if both are told, nothing else is to be found.
+// What was met where a search is cut short, as an answer: if both are told, nothing else is to be found.
 fn searched_of(met: Findings) -> Searched
     ensures { result ≡ searched_of (tells_both met) met }
 {
@@ -279,8 +281,7 @@ impl Less {
         ensures answer { IfOk result (IsTaskExplored task.now) }
         ensures faults { IfErr result (IsFault task.now) }
     {
-        self.begin(alloc, task)?;
-        let sought = self.seek(alloc, task, true)?;
+        let sought = self.search(alloc, task, true)?;
         match sought {
             Sought::Ended(end) => {
                 let verdict = self.verdict(alloc, task, end)?;
@@ -300,8 +301,7 @@ impl Less {
         ensures findings { IfOk result (IsTaskSearched task.now) }
         ensures faults { IfErr result (IsFault task.now) }
     {
-        self.begin(alloc, task)?;
-        let sought = self.seek(alloc, task, false)?;
+        let sought = self.search(alloc, task, false)?;
         match sought {
             Sought::Ended(end) => match end {
                 End::Meeting { .. } => unreachable!(),

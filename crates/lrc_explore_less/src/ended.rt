@@ -75,7 +75,10 @@ impl Less {
             ↔ IsOutcome task.now.program.now task.now.flat.nodes notes)) }
         ensures faults { IfErr result (IsSearchFault task.now false) }
     {
-        self.begin(alloc, task)?;
+        let passes = self.begin(alloc, task)?;
+        if !passes {
+            return Err(ExploreFault::TooMany);
+        }
         self.gather(alloc, task, outcomes)?;
         Ok(())
     }

@@ -4,6 +4,7 @@ ghost use Rattle.std.specs.Prelude.{◌≡◌, ◌+◌, ◌<◌, ◌≤◌, [], 
 ghost use Rattle.lrc_orders_table.specs.Rows.{row_count};
 ghost use Rattle.lrc_orders_table.specs.Tables.{KeepsRows};
 ghost use Rattle.lrc_explore.specs.Answers.{IsFault};
+ghost use Rattle.lrc_explore.specs.Cut.{StaysLong};
 ghost use Rattle.lrc_explore.specs.Reached.{AreFound, CannotTakeAt, IsMeansOf, IsStepOf, IsTask, LeadsTo};
 ghost use Rattle.lrc_explore.specs.Traps.{ShowsTrapAt, led_traps, start_trap};
 ghost use Rattle.lrc_explore_less.specs.Passing.{AreFirst, pass_of, trap_then};
@@ -28,12 +29,13 @@ pub struct Less {
 }
 
 /// Where the undisputed act of a state leads: nowhere, since none is known, or since it would lead back to a state that
-/// was passed just now; to a state that was found earlier; or to a new one.
+/// was passed just now; to a state that was found earlier; or to a new one. Or some node computes too long in it.
 #[derive(Clone, Copy)]
 pub enum Pass {
     Open,
     Joined,
     On,
+    Long,
 }
 
 // Where a node traps first, where one does in this step or not.
@@ -110,6 +112,8 @@ fn row_after(
         (λ led. LeadsTo task.now found.new.table.rows place step led.row)) }
     ensures traps { IfOk result (λ led. ShowsTrapAt task.now found.new.table.rows place step
         (led_traps led)) }
+    ensures long { IfErr result (λ fault. fault ≡ ExploreFault.TooMany
+        → StaysLong task.now found.old found.new place) }
     ensures faults { IfErr result (IsFault task.now) }
 {
     let row = found.table.rows.row(place);
@@ -131,7 +135,7 @@ impl Less {
     ghost use Rattle.lrc_explore.specs.Reached.{AreFound, HasAfterAt, IsMore, IsNext, IsStepOf, IsTask};
     ghost use Rattle.lrc_explore.specs.Traps.{ShowsTrapAt};
     ghost use Rattle.lrc_explore_less.specs.declared.less.Pass.TheVariants.{On};
-    ghost use Rattle.lrc_explore_less.specs.Passing.{AreLess, ArePassing, HasPassed, IsNone, IsSound, IsTaken, Widens};
+    ghost use Rattle.lrc_explore_less.specs.Passing.{AreLess, ArePassing, HasPassed, HasStayed, IsCutLess, IsLongSome, IsNone, IsSound, IsTaken, Widens};
     ghost use Rattle.lrc_explore_less.specs.Enough.{HasBegun, IsDoneAt};
 
     /// Makes a list without states, for this many nodes.
@@ -146,24 +150,30 @@ impl Less {
         }
     }
 
-    /// Finds the settled start, and passes on from it. There must be no states yet. It fails if memory runs out, or if a
-    /// node makes so many free acts that the limit is reached.
-    pub fn begin(&mut self, alloc: Global, task: &Task<'_>) -> Result<(), ExploreFault>
+    /// Finds the settled start, and passes on from it, up to an act after which a node makes so many free acts that the
+    /// limit is reached: then it returns false. There must be no states yet. It fails if memory runs out, or if a node
+    /// makes so many free acts as the start settles.
+    pub fn begin(&mut self, alloc: Global, task: &Task<'_>) -> Result<bool, ExploreFault>
         requires task { IsTask task.now }
         requires none { IsNone task.now self.old }
         ensures less { OnOk result (AreLess task.now self.new) }
         ensures begun { OnOk result (HasBegun task.now self.new) }
+        ensures long { IfOk result (λ passes. passes ≡ false → IsLongSome task.now self.new) }
         ensures faults { IfErr result (IsFault task.now) }
     {
         let traps = self.found.begin(alloc, task)?;
         self.trap = start_trap(traps);
         let last = self.found.table.rows.len() - 1;
         first_places(&mut self.opens, last)?;
-        self.advance(alloc, task, last)?;
-        Ok(())
+        match self.advance(alloc, task, last) {
+            Ok(()) => Ok(true),
+            Err(ExploreFault::TooMany) => Ok(false),
+            Err(fault) => Err(fault),
+        }
     }
 
-    /// Finds the states to which every step leads from that at a place.
+    /// Finds the states to which every step leads from that at a place. It fails if memory runs out, or if a node makes
+    /// so many free acts that the limit is reached.
     pub fn expand(
         &mut self,
         alloc: Global,
@@ -176,6 +186,8 @@ impl Less {
         ensures less { OnOk result (AreLess task.now self.new) }
         ensures widens { OnOk result (Widens self.old self.new) }
         ensures done { OnOk result (IsDoneAt task.now self.new.found.table.rows (is_none self.new.trap) place) }
+        ensures long { IfErr result (λ fault. fault ≡ ExploreFault.TooMany
+            → IsCutLess task.now self.old self.new) }
         ensures faults { IfErr result (IsFault task.now) }
     {
         self.expand_step(alloc, task, place, Step::Together)?;
@@ -202,6 +214,8 @@ impl Less {
         ensures after { OnOk result (HasAfterAt task.now self.new.found.table.rows place step) }
         ensures shows { OnOk result (is_none self.new.trap ≡ true
             → ShowsTrapAt task.now self.new.found.table.rows place step false) }
+        ensures long { IfErr result (λ fault. fault ≡ ExploreFault.TooMany
+            → IsCutLess task.now self.old self.new) }
         ensures faults { IfErr result (IsFault task.now) }
     {
         let Some((next, added)) = self.take(alloc, task, place, step)? else {
@@ -213,13 +227,16 @@ impl Less {
         Ok(())
     }
 
-    // From the last state: makes undisputed acts, up to a state of which none is known, or which was found before, or up
-    // to as many states as may be kept. The states from the first one on were passed just now.
+    // From the last state: makes undisputed acts, up to a state of which none is known, or which was found before, or
+    // up to as many states as may be kept. The states from the first one on were passed just now. It fails if memory
+    // runs out, or if a node makes so many free acts that the limit is reached.
     fn advance(&mut self, alloc: Global, task: &Task<'_>, first: usize) -> Result<(), ExploreFault>
         requires task { IsTask task.now }
         requires passing { ArePassing task.now self.old first }
         ensures less { OnOk result (AreLess task.now self.new) }
         ensures widens { OnOk result (Widens self.old self.new) }
+        ensures long { IfErr result (λ fault. fault ≡ ExploreFault.TooMany
+            → IsCutLess task.now self.old self.new) }
         ensures faults { IfErr result (IsFault task.now) }
     {
         let most = most_rows(task);
@@ -228,6 +245,10 @@ impl Less {
                 Pass::On => {}
                 Pass::Joined => return Ok(()),
                 Pass::Open => return Ok(self.keep_open()?),
+                Pass::Long => {
+                    self.keep_open()?;
+                    return Err(ExploreFault::TooMany);
+                }
             }
         }
         Ok(self.keep_open()?)
@@ -241,7 +262,7 @@ impl Less {
         ensures on { IfOk result (λ pass. pass ≡ On
             → row_count self.new.found.table.rows ≡ row_count self.old.found.table.rows + 1) }
         ensures widens { OnOk result (Widens self.old self.new) }
-        ensures faults { IfErr result (IsFault task.now) }
+        ensures faults { IfErr result (λ fault. fault ≡ ExploreFault.NoMemory) }
     {
         let last = self.found.table.rows.len() - 1;
         let Some(node) = self.undisputed(alloc, task, last)? else {
@@ -270,9 +291,15 @@ impl Less {
         ensures on { IfOk result (λ pass. pass ≡ On
             → row_count self.new.found.table.rows ≡ row_count self.old.found.table.rows + 1) }
         ensures widens { OnOk result (Widens self.old self.new) }
-        ensures faults { IfErr result (IsFault task.now) }
+        ensures faults { IfErr result (λ fault. fault ≡ ExploreFault.NoMemory) }
     {
-        let Some((next, added)) = self.take(alloc, task, last, Step::Alone(node))? else {
+        let taken = match self.take(alloc, task, last, Step::Alone(node)) {
+            Ok(taken) => taken,
+            Err(ExploreFault::TooMany) => return Ok(Pass::Long),
+            // The only other fault of a step.
+            Err(_) => return Err(ExploreFault::NoMemory),
+        };
+        let Some((next, added)) = taken else {
             return Ok(Pass::Open);
         };
         Ok(pass_of(next, added, first))
@@ -325,6 +352,8 @@ impl Less {
         ensures widens { OnOk result (Widens self.old self.new) }
         ensures opens { OnOk result (self.new.opens.items ≡ self.old.opens.items) }
         ensures taken { IfOk result (IsTaken task.now self.old self.new place step) }
+        ensures long { IfErr result (λ fault. fault ≡ ExploreFault.TooMany
+            → HasStayed task.now self.old self.new place) }
         ensures faults { IfErr result (IsFault task.now) }
     {
         let Some(led) = row_after(&mut self.found, alloc, task, place, step)? else {

@@ -14,11 +14,13 @@ use lrc_orders_table::rows::Row;
 use lrc_trace::act::Act;
 use std::alloc::{AllocError, Global};
 
-/// What a visit to a state saw: two nodes that meet; or whether the program is stuck there.
+/// What a visit to a state saw: two nodes that meet; or whether the program is stuck there; or that some node computes
+/// too long.
 #[derive(Clone, Copy)]
 pub enum Visit {
     Meeting(usize, usize),
     Past { stuck: bool },
+    Cut,
 }
 
 // The first state at which the program is stuck, where that at this place is next.
@@ -51,17 +53,41 @@ impl Less {
     ghost use Rattle.lrc_orders_table.specs.Rows.{row_count};
     ghost use Rattle.lrc_orders_table.specs.Tables.{IsKnown, IsRowOf, IsTable};
     ghost use Rattle.lrc_explore.specs.Answers.{AreSound, IsFault, IsSearchFault};
+    ghost use Rattle.lrc_explore.specs.Cut.{IsCut};
     ghost use Rattle.lrc_explore.specs.Reached.{AreCalm, AreFound, IsTask};
-    ghost use Rattle.lrc_explore_less.specs.Passing.{AreLess, IsSound, Widens};
+    ghost use Rattle.lrc_explore_less.specs.Passing.{AreLess, IsNone, IsSound, Widens};
     ghost use Rattle.lrc_explore_less.specs.Enough.{HasBegun, IsEnd, IsVisit};
     ghost use Rattle.lrc_explore_less.specs.Met.{IsSought};
     ghost use Rattle.lrc_explore_less.specs.Outcomes.{AreGathered, IsGatheredAt};
 
+    /// Searches as `seek` does, from the settled start on. There must be no states yet. It fails if memory runs out, or
+    /// if a node makes so many free acts as the start settles.
+    pub fn search(
+        &mut self,
+        alloc: Global,
+        task: &Task<'_>,
+        races: bool,
+    ) -> Result<Sought, ExploreFault>
+        requires task { IsTask task.now }
+        requires none { IsNone task.now self.old }
+        ensures less { OnOk result (AreLess task.now self.new) }
+        ensures begun { OnOk result (HasBegun task.now self.new) }
+        ensures sought { IfOk result (IsSought task.now self.new races) }
+        ensures faults { IfErr result (IsFault task.now) }
+    {
+        let passes = self.begin(alloc, task)?;
+        if passes {
+            self.seek(alloc, task, races)
+        } else {
+            Ok(self.end_of_all(task, races))
+        }
+    }
+
     /// Looks for a state where two nodes meet, if `races` is true. If there is none, enough states are found, and the
     /// answer tells the first of them at which the program is stuck, if any, and where a node traps first, if one does.
-    /// Where there are too many states, no two nodes meet at any of those that were found, if `races` is true, and the
-    /// answer tells the first of them at which the program is stuck. It fails if a node makes so many free acts that the
-    /// limit is reached, or if memory runs out.
+    /// Where there are too many states, or a node makes so many free acts that the limit is reached, no two nodes meet
+    /// at any of the states that were found, if `races` is true, and the answer tells the first of them at which the
+    /// program is stuck, and where a node traps on the way to them. It fails if memory runs out.
     pub fn seek(
         &mut self,
         alloc: Global,
@@ -74,7 +100,7 @@ impl Less {
         ensures less { OnOk result (AreLess task.now self.new) }
         ensures begun { OnOk result (HasBegun task.now self.new) }
         ensures sought { IfOk result (IsSought task.now self.new races) }
-        ensures faults { IfErr result (IsFault task.now) }
+        ensures faults { IfErr result (λ fault. fault ≡ ExploreFault.NoMemory) }
     {
         let mut stuck = None;
         let mut index = 0;
@@ -87,6 +113,7 @@ impl Less {
             match self.visit(alloc, task, place, races)? {
                 Visit::Meeting(p, q) => return Ok(Sought::Ended(End::Meeting { place, p, q })),
                 Visit::Past { stuck: halts } => stuck = first_stuck(stuck, halts, place),
+                Visit::Cut => return Ok(self.end_of_all(task, races)),
             }
             index += 1;
         }
@@ -105,11 +132,11 @@ impl Less {
         self.opens.len() > task.most || self.found.table.rows.len() > most_rows(task)
     }
 
-    // Where a search ends that has found more states than may be: at the first where two nodes meet, if that is looked
-    // for; or with what it met at them.
+    // Where a search ends that is cut short: at the first state found where two nodes meet, if that is looked for; or
+    // with what it met.
     fn end_of_all(&self, task: &Task<'_>, races: bool) -> Sought
         requires sound { IsSound task.now self.now }
-        requires many { task.now.most < row_count self.now.found.table.rows }
+        requires cut { IsCut task.now self.now.found.table.rows }
         ensures { IsSought task.now self.now races result }
     {
         match self.meeting_of_all(task, races) {
@@ -154,15 +181,19 @@ impl Less {
         ensures less { OnOk result (AreLess task.now self.new) }
         ensures widens { OnOk result (Widens self.old self.new) }
         ensures visit { IfOk result (IsVisit task.now self.new place races) }
-        ensures faults { IfErr result (IsFault task.now) }
+        ensures faults { IfErr result (λ fault. fault ≡ ExploreFault.NoMemory) }
     {
         let row = self.found.table.rows.row(place);
         if let Some((p, q)) = self.meeting(&row, races) {
             return Ok(Visit::Meeting(p, q));
         }
         let stuck = self.found.table.is_stuck(&row);
-        self.expand(alloc, task, place)?;
-        Ok(Visit::Past { stuck })
+        match self.expand(alloc, task, place) {
+            Ok(()) => Ok(Visit::Past { stuck }),
+            Err(ExploreFault::TooMany) => Ok(Visit::Cut),
+            // The only other fault of a step.
+            Err(_) => Err(ExploreFault::NoMemory),
+        }
     }
 
     // The least two nodes that meet, if that is looked for.

@@ -128,3 +128,7 @@ pub record LeadsToRow (means : Means) (table : Table) (key : Noted) (step : Step
 pub record IsLongFault (means : Means) (key : Noted) (fault : ExploreFault) : Type 0 where
   pub nodes : fault ≢ BadNodes
   pub many : fault ≡ TooMany → ComputesLong (plain_at means.flat key.state) means.looked
+
+-- where a thread makes as many free acts as may be looked at, the table is still one, and its rows are the same
+abbrev pub KeepsIfLong : Means → (old new : Table) → ExploreFault → Type 0
+KeepsIfLong means old new fault = fault ≡ TooMany → IsTable means new × KeepsRows old new

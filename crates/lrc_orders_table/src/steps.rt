@@ -31,11 +31,12 @@ impl Table {
     ghost use Rattle.lrc_orders_table.specs.Shared.{given};
     ghost use Rattle.indexmap.specs.IndexMap.{get};
     ghost use Rattle.lrc_orders_table.specs.contracts.table.AskedPartialEq.TheImpl.{eq-value as asked_eq};
-    ghost use Rattle.lrc_orders_table.specs.Tables.{AreMeans, CannotTakeFrom, IsKnown, IsLongFault, IsRowOf, IsTable, IsTakenFrom, IsTakenFromSome, KeepsRows, LeadsToRow, next_at};
+    ghost use Rattle.lrc_orders_table.specs.Tables.{AreMeans, CannotTakeFrom, IsKnown, IsLongFault, IsRowOf, IsTable, IsTakenFrom, IsTakenFromSome, KeepsIfLong, KeepsRows, LeadsToRow, next_at};
     ghost use Rattle.lrc_orders_table.specs.Going.{CanGo, HasAfter, HasGone, IsAskable, IsAskedSettled, IsLongAct, IsLongAsk};
 
     /// Returns the row that the step of one node leads to, and whether the node traps in it, or none if the node cannot
-    /// take one. It fails if memory runs out, or if a thread makes as many free acts as are looked at.
+    /// take one. It fails if memory runs out, or if a thread makes as many free acts as are looked at: then the rows
+    /// stay as they are.
     pub fn alone(
         &mut self,
         alloc: Global,
@@ -55,6 +56,7 @@ impl Table {
             (LeadsToRow means.now self.new key (Alone node))) }
         ensures faults { IfErr result (λ fault. (key : Key)
             → IsTakenFrom means.now self.old row.now key → IsLongFault means.now key fault) }
+        ensures long { IfErr result (KeepsIfLong means.now self.old self.new) }
     {
         let Some(value) = self.given(row, node) else {
             return Ok(None);
@@ -80,7 +82,8 @@ impl Table {
     }
 
     /// Returns the row that the step of all nodes leads to, and whether one of them traps in it, or none if they cannot
-    /// take one. It fails if memory runs out, or if a thread makes as many free acts as are looked at.
+    /// take one. It fails if memory runs out, or if a thread makes as many free acts as are looked at: then the rows
+    /// stay as they are.
     pub fn together(
         &mut self,
         alloc: Global,
@@ -98,6 +101,7 @@ impl Table {
             (LeadsToRow means.now self.new key Together)) }
         ensures faults { IfErr result (λ fault. (key : Key)
             → IsTakenFrom means.now self.old row.now key → IsLongFault means.now key fault) }
+        ensures long { IfErr result (KeepsIfLong means.now self.old self.new) }
     {
         if !self.all_wait(row) {
             return Ok(None);
@@ -131,6 +135,7 @@ impl Table {
         ensures faults { IfErr result (λ fault. (key : Key)
             → IsRowOf means.now self.old row.now key
             → IsLongAct means.now key node value fault) }
+        ensures long { IfErr result (KeepsIfLong means.now self.old self.new) }
     {
         let next = self.next(row, node);
         let asked = Asked {
@@ -201,6 +206,7 @@ impl Table {
         ensures keeps { OnOk result (KeepsRows self.old self.new) }
         ensures there { IfOk result (HasAfter self.new asked) }
         ensures faults { IfErr result (IsLongAsk means.now self.old asked) }
+        ensures long { IfErr result (KeepsIfLong means.now self.old self.new) }
     {
         if let Some(place) = self.afters.get_index_of(&asked) {
             return Ok(place);

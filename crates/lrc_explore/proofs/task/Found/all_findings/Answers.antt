@@ -4,7 +4,7 @@ use Rattle.lrc_explore.specs.Answers.{FitsEnd, FitsSettled, IsEnd}
 use Rattle.lrc_explore.specs.Met.{FitsSought, IsSought}
 use Rattle.lrc_explore.proofs.Fitting.{fits_settled, ok_all}
 use Rattle.lrc_explore.proofs.Keys.{start_grown}
-use Rattle.lrc_explore.proofs.Seeking.{too_many_states}
+use Rattle.lrc_explore.proofs.Seeking.{cut_short}
 use Rattle.lrc_explore.proofs.task.Found.all_findings.Goals as goal
 
 pub findings_told-requires-clause-all : goal.findings_told-requires-clause-all
@@ -53,4 +53,4 @@ returns-in-Through-clause-fits c =
 pub returns-in-Many-clause-faults : goal.returns-in-Many-clause-faults
 returns-in-Many-clause-faults c =
     let many = subst (IsSought c.args.task.now c.seek.new.self false) c.in-Many.is c.in_ok-sought.ensures.sought in
-    too_many_states c.args.task.now c.seek.new.self false c.in_ok-sought.ensures.found many.many many.calm
+    cut_short c.args.task.now c.seek.new.self false c.in_ok-sought.ensures.found many.cut many.calm

@@ -1,7 +1,7 @@
 use Rattle.std.proofs.Common.{true, subst}
 use Rattle.lrc_explore.specs.Met.{FitsSought, IsSought}
 use Rattle.lrc_explore.proofs.Keys.{start_grown}
-use Rattle.lrc_explore.proofs.Seeking.{too_many_states}
+use Rattle.lrc_explore.proofs.Seeking.{cut_short}
 use Rattle.lrc_explore.proofs.task.Found.answer.Goals as goal
 
 pub verdict-requires-clause-start : goal.verdict-requires-clause-start
@@ -17,4 +17,4 @@ verdict-requires-clause-few c = subst (FitsSought c.args.task.now c.seek.new.sel
 pub returns-in-Many-clause-faults : goal.returns-in-Many-clause-faults
 returns-in-Many-clause-faults c =
     let many = subst (IsSought c.args.task.now c.seek.new.self true) c.in-Many.is c.in_ok-sought.ensures.sought in
-    too_many_states c.args.task.now c.seek.new.self true c.in_ok-sought.ensures.found many.many many.calm
+    cut_short c.args.task.now c.seek.new.self true c.in_ok-sought.ensures.found many.cut many.calm

@@ -13,38 +13,45 @@ put-requires-clause-next c =
     let task = c.args.task.now in
     let all = c.row_after.new.self.table.rows in
     let P : Option Led → Type 0 = λ o. MatchOption o (CannotTakeAt task all c.args.place c.args.step) (λ led. LeadsTo task all c.args.place c.args.step led.row) in
-    subst P c.in-Some.is c.in_ok-led.ensures.taken
+    subst P c.in-Some.is c.in-Ok.ensures.taken
 
-pub returns-clause-after : goal.returns-clause-after
-returns-clause-after c =
-    let task = c.args.task.now in
-    let all = c.row_after.new.self.table.rows in
-    let P : Option Led → Type 0 = λ o. MatchOption o (CannotTakeAt task all c.args.place c.args.step) (λ led. LeadsTo task all c.args.place c.args.step led.row) in
-    let n = subst P c.in-Some.is c.in_ok-led.ensures.taken in
-    let e = c.in_ok-_place.ensures in
-    has_after task all c.put.new.self.table.rows c.args.place c.args.step n.key n.from e.more.rows (e.has n.key n.stands)
-
-pub returns-clause-more : goal.returns-clause-more
-returns-clause-more c = more_again c.in_ok-led.ensures.more c.in_ok-_place.ensures.more
-
-pub returns-in_default-clause-traps : goal.returns-in_default-clause-traps
-returns-in_default-clause-traps c =
-    let P : Option Led → Type 0 = λ o. ShowsTrapAt c.args.task.now c.row_after.new.self.table.rows c.args.place c.args.step (led_traps o) in
-    subst P c.in_default.is c.in_ok-led.ensures.traps
-
-pub returns-clause-traps : goal.returns-clause-traps
-returns-clause-traps c =
+pub returns-clause-stepped : goal.returns-clause-stepped
+returns-clause-stepped c =
     let task = c.args.task.now in
     let place = c.args.place in
+    let step = c.args.step in
     let mid = c.row_after.new.self in
-    let e = c.in_ok-led.ensures in
-    let P : Option Led → Type 0 = λ o. ShowsTrapAt task mid.table.rows place c.args.step (led_traps o) in
-    trap_grown task mid.table.rows c.put.new.self.table.rows place c.args.step c.in-Some.led.traps c.in_ok-_place.ensures.more.rows
-    (e.found.reached.full place (within_more task c.args.self.now mid place c.requires.found e.more c.requires.within)) (subst P c.in-Some.is e.traps)
+    let all = mid.table.rows in
+    let none = CannotTakeAt task all place step in
+    let P : Option Led → Type 0 = λ o. MatchOption o none (λ led. LeadsTo task all place step led.row) in
+    let Q : Option Led → Type 0 = λ o. ShowsTrapAt task all place step (led_traps o) in
+    let r = c.in-Ok.ensures in
+    let within = within_more task c.args.self.now mid place c.requires.found r.more c.requires.within in
+    let n = subst P c.in-Some.is r.taken in
+    let e = c.in_ok-_place.ensures in (
+      has_after task all c.put.new.self.table.rows place step n.key n.from e.more.rows (e.has n.key n.stands),
+      trap_grown task all c.put.new.self.table.rows place step c.in-Some.led.traps e.more.rows
+          (r.found.reached.full place within) (subst Q c.in-Some.is r.traps),
+    )
+
+pub returns-clause-more : goal.returns-clause-more
+returns-clause-more c = more_again c.in-Ok.ensures.more c.in_ok-_place.ensures.more
+
+pub returns-in_default-clause-stepped : goal.returns-in_default-clause-stepped
+returns-in_default-clause-stepped c =
+    let task = c.args.task.now in
+    let all = c.row_after.new.self.table.rows in
+    let place = c.args.place in
+    let step = c.args.step in
+    let none = CannotTakeAt task all place step in
+    let P : Option Led → Type 0 = λ o. MatchOption o none (λ led. LeadsTo task all place step led.row) in
+    let Q : Option Led → Type 0 = λ o. ShowsTrapAt task all place step (led_traps o) in
+    let cannot = subst P c.in_default.is c.in-Ok.ensures.taken in
+    (λ key at acts after takes. absurd (cannot key at acts after takes), subst Q c.in_default.is c.in-Ok.ensures.traps)
 
 pub returns-in_default-clause-trapless : goal.returns-in_default-clause-trapless
 returns-in_default-clause-trapless c = λ no.
-    let e = c.in_ok-led.ensures in
+    let e = c.in-Ok.ensures in
     trapless_same c.args.task.now c.args.self.now.table.rows c.row_after.new.self.table.rows c.requires.found.reached e.keeps.widens
     (ap (λ l. length l) e.keeps.rows)
 
@@ -54,7 +61,7 @@ returns-clause-trapless c = λ no calm.
     let place = c.args.place in
     let step = c.args.step in
     let mid = c.row_after.new.self.table.rows in
-    let e = c.in_ok-led.ensures in
+    let e = c.in-Ok.ensures in
     let p = c.in_ok-_place.ensures in
     let P : Option Led → Type 0 = λ o. MatchOption o (CannotTakeAt task mid place step) (λ led. LeadsTo task mid place step led.row) in
     let Q : Option Led → Type 0 = λ o. ShowsTrapAt task mid place step (led_traps o) in
@@ -63,3 +70,21 @@ returns-clause-trapless c = λ no calm.
     let was = trapless_same task c.args.self.now.table.rows mid c.requires.found.reached e.keeps.widens (ap (λ l. length l) e.keeps.rows) calm in
     trapless_put task mid c.put.new.self.table.rows place c.in_ok-_place._place step c.in-Some.led.row e.found.reached p.more.rows p.only n shows
     (p.there n.key n.stands) was
+
+-- ---- where some node computes too long
+
+pub returns-in-Err-TooMany-clause-found : goal.returns-in-Err-TooMany-clause-found
+returns-in-Err-TooMany-clause-found c = (c.in-Err-TooMany.ensures.long c.in-Err-TooMany.field-0-is).found
+
+pub returns-in-Err-TooMany-clause-more : goal.returns-in-Err-TooMany-clause-more
+returns-in-Err-TooMany-clause-more c = (c.in-Err-TooMany.ensures.long c.in-Err-TooMany.field-0-is).more
+
+pub returns-in-Err-TooMany-clause-stepped : goal.returns-in-Err-TooMany-clause-stepped
+returns-in-Err-TooMany-clause-stepped c = (c.in-Err-TooMany.ensures.long c.in-Err-TooMany.field-0-is).long
+
+pub returns-in-Err-TooMany-clause-trapless : goal.returns-in-Err-TooMany-clause-trapless
+returns-in-Err-TooMany-clause-trapless c = λ no.
+    let l = c.in-Err-TooMany.ensures.long c.in-Err-TooMany.field-0-is in
+    let new = c.row_after.new.self.table.rows in
+    trapless_same c.args.task.now c.args.self.now.table.rows new c.requires.found.reached l.keeps.widens
+    (ap (λ l. length l) l.keeps.rows)

@@ -4,7 +4,7 @@ use Rattle.lrc_orders_settling.specs.declared.step.Step.{Step}
 use Rattle.lrc_orders_settling.specs.declared.step.Step.TheVariants.{Alone, Together}
 use Rattle.lrc_explore.specs.Reached.{CannotTakeAt, LeadsTo}
 use Rattle.lrc_explore.specs.Traps.{ShowsTrapAt, led_traps}
-use Rattle.lrc_explore.proofs.Stepping.{faults_on, found_on, key_at, taken_from, taken_on, traps_on}
+use Rattle.lrc_explore.proofs.Stepping.{faults_on, found_on, key_at, long_on, taken_from, taken_on, traps_on}
 use Rattle.lrc_explore.proofs.task.Found.row_after.Goals as goal
 
 pub alone-requires-clause-table : goal.alone-requires-clause-table
@@ -104,3 +104,17 @@ returns-in-Together-clause-faults c =
     let e = c.together.ensures in
     faults_on c.args.task.now c.means-means.result c.args.self.now c.together.new.self c.args.place c.row-row.result Together c.means-means.ensures r.found
     r.within c.row-row.ensures c.together.result e.faults
+
+pub returns-in-Alone-clause-long : goal.returns-in-Alone-clause-long
+returns-in-Alone-clause-long c =
+    let r = c.requires in
+    let e = c.alone.ensures in
+    long_on c.args.task.now c.means-means.result c.args.self.now c.alone.new.self c.args.place c.row-row.result
+    (Alone c.in-Alone.node) c.means-means.ensures r.found r.within c.row-row.ensures c.alone.result e.faults e.long
+
+pub returns-in-Together-clause-long : goal.returns-in-Together-clause-long
+returns-in-Together-clause-long c =
+    let r = c.requires in
+    let e = c.together.ensures in
+    long_on c.args.task.now c.means-means.result c.args.self.now c.together.new.self c.args.place c.row-row.result
+    Together c.means-means.ensures r.found r.within c.row-row.ensures c.together.result e.faults e.long

@@ -1,6 +1,6 @@
 use Rattle.std.proofs.Common.{subst, arith}
 use Rattle.lrc_explore_less.specs.Passing.{HasPassed}
-use Rattle.lrc_explore_less.proofs.Steps.{opened_last, widens_opened}
+use Rattle.lrc_explore_less.proofs.Steps.{long_less, long_opened, opened_last, widens_opened}
 use Rattle.lrc_explore_less.proofs.Ways.{widens_again, widens_not}
 use Rattle.lrc_explore_less.proofs.less.Less.advance.Goals as goal
 
@@ -55,3 +55,32 @@ pub returns-clause-widens : goal.returns-clause-widens
 returns-clause-widens c =
     widens_again c.loop-alloc.invariant.widens
     (widens_opened c.loop-alloc.self c.keep_open-2.new.self _ c.keep_open-2.ensures.others c.in_ok-keep_open.ensures.opens)
+
+-- ---- where some node computes too long
+
+pub keep_open-requires-in-Long : goal.keep_open-requires-in-Long
+keep_open-requires-in-Long c =
+    let p = subst (HasPassed c.args.task.now c.pass.new.self c.args.first) c.in-Long.is c.in_ok-pass.ensures.passed in
+    let some = p.0.some in omega (arith, some)
+
+pub returns-in_ok-keep_open-in-Long-clause-long : goal.returns-in_ok-keep_open-in-Long-clause-long
+returns-in_ok-keep_open-in-Long-clause-long c = λ is.
+    let task = c.args.task.now in
+    let mid = c.pass.new.self in
+    let new = c.keep_open-in-Long.new.self in
+    let others = c.keep_open-in-Long.ensures.others in
+    let opens = c.in_ok-keep_open-in-Long.ensures.opens in
+    let p = subst (HasPassed task mid c.args.first) c.in-Long.is c.in_ok-pass.ensures.passed in
+    record {
+      less = opened_last task mid new c.args.first p.0 others opens;
+      widens =
+          widens_again c.loop-alloc.invariant.widens
+          (widens_again c.in_ok-pass.ensures.widens (widens_opened mid new _ others opens));
+      long = long_opened task mid new others p.1;
+    }
+
+pub returns-in_ok-keep_open-in-Long-clause-faults : goal.returns-in_ok-keep_open-in-Long-clause-faults
+returns-in_ok-keep_open-in-Long-clause-faults c =
+    let task = c.args.task.now in
+    let p = subst (HasPassed task c.pass.new.self c.args.first) c.in-Long.is c.in_ok-pass.ensures.passed in
+    record { nodes = λ is. cc; many = λ is. long_less task c.pass.new.self p.0.sound p.1 }

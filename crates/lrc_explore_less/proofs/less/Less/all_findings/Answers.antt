@@ -8,19 +8,20 @@ use Rattle.lrc_explore_less.proofs.less.Less.all_findings.Goals as goal
 pub unreachable-requires : goal.unreachable-requires
 unreachable-requires c =
     let task = c.args.task.now in
-    let new = c.seek.new.self in
+    let new = c.search.new.self in
     let at = subst (IsSought task new false) c.in-Ended.is c.in_ok-sought.ensures.sought in
     true≢false (sym (subst (IsEnd task new false) c.in-Meeting.is at).3)
 
 pub findings_told-requires-clause-through : goal.findings_told-requires-clause-through
 findings_told-requires-clause-through c =
     let task = c.args.task.now in
-    let new = c.seek.new.self in
+    let new = c.search.new.self in
     let at = subst (IsSought task new false) c.in-Ended.is c.in_ok-sought.ensures.sought in
     (subst (IsEnd task new false) c.in-Through.is at).0
 
 pub met_told-requires-clause-many : goal.met_told-requires-clause-many
-met_told-requires-clause-many c = subst (IsSought c.args.task.now c.seek.new.self false) c.in-Many.is c.in_ok-sought.ensures.sought
+met_told-requires-clause-many c =
+    subst (IsSought c.args.task.now c.search.new.self false) c.in-Many.is c.in_ok-sought.ensures.sought
 
 pub returns-in_ok-met-in-Many-clause-findings : goal.returns-in_ok-met-in-Many-clause-findings
 returns-in_ok-met-in-Many-clause-findings c =

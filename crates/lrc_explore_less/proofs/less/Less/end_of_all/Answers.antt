@@ -6,7 +6,7 @@ returns-in-None c =
     let less = c.args.self.now in
     let s = c.requires.sound in
     record {
-      many = c.requires.many;
+      cut = c.requires.cut;
       calm = c.in-None.ensures;
       halted = c.stuck_of_all-stuck.ensures;
       traps = trap_met c.args.task.now less.found.table.rows less.trap s.trap s.trapless;

@@ -1,6 +1,9 @@
-use Rattle.std.proofs.Common.{arith}
+use Rattle.std.proofs.Common.{◌≡◌, arith}
+use Rattle.lrc_orders.specs.declared.search.ExploreFault.TheVariants.{TooMany}
+use Rattle.lrc_orders.proofs.Faults.{fault_up}
 use Rattle.lrc_orders_settling.specs.declared.step.Step.TheVariants.{Together}
 use Rattle.lrc_explore.proofs.Keys.{after_at_grown, each_more, expanded_at, within_more}
+use Rattle.lrc_explore_less.specs.Passing.{IsCutLess}
 use Rattle.lrc_explore_less.proofs.Expanding.{trapless_all, trapless_first, trapless_more}
 use Rattle.lrc_explore_less.proofs.Ways.{widens_again}
 use Rattle.lrc_explore_less.proofs.less.Less.expand.Goals as goal
@@ -54,3 +57,23 @@ returns-clause-done c =
       expanded = expanded_at task all place last reached (omega (arith, c.loop-node-test.false)) i.all i.each;
       trapless = λ calm. let t = i.trapless calm in trapless_all task all place last reached (omega (arith, c.loop-node-test.false)) t.0 t.1;
     }
+
+-- ---- where some node computes too long
+
+pub returns-in_err-expand_step-clause-long : goal.returns-in_err-expand_step-clause-long
+returns-in_err-expand_step-clause-long c =
+    let task = c.args.task.now in
+    let new = c.expand_step.new.self in
+    fault_up c.from_residual.result c.in_err-expand_step.field-0.0
+    (λ fault. fault ≡ TooMany → IsCutLess task c.args.self.now new) c.from_residual.ensures.1
+    c.in_err-expand_step.ensures.long
+
+pub returns-in_err-expand_step-2-clause-long : goal.returns-in_err-expand_step-2-clause-long
+returns-in_err-expand_step-2-clause-long c =
+    let task = c.args.task.now in
+    let new = c.expand_step-in-loop-node.new.self in
+    fault_up c.from_residual-in_err-expand_step-2.result c.in_err-expand_step-2.field-0.0
+    (λ fault. fault ≡ TooMany → IsCutLess task c.args.self.now new) c.from_residual-in_err-expand_step-2.ensures.1
+    (λ is.
+    let l = c.in_err-expand_step-2.ensures.long is in
+    record { less = l.less; widens = widens_again c.loop-node.invariant.widens l.widens; long = l.long })

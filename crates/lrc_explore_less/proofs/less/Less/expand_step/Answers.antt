@@ -1,8 +1,10 @@
-use Rattle.std.proofs.Common.{subst, arith}
+use Rattle.std.proofs.Common.{◌≡◌, subst, arith}
+use Rattle.lrc_orders.specs.declared.search.ExploreFault.TheVariants.{TooMany}
 use Rattle.lrc_orders.specs.Kept.{IsAddedAt}
+use Rattle.lrc_orders.proofs.Faults.{fault_up}
 use Rattle.lrc_orders_table.specs.Rows.{row_count}
 use Rattle.lrc_explore.proofs.Keys.{within_more}
-use Rattle.lrc_explore_less.specs.Passing.{IsTaken}
+use Rattle.lrc_explore_less.specs.Passing.{IsCutLess, IsTaken}
 use Rattle.lrc_explore_less.proofs.Steps.{after_advanced, after_none, begun_passing, shown_advanced, shown_none, still_less}
 use Rattle.lrc_explore_less.proofs.Ways.{widens_again, widens_not}
 use Rattle.lrc_explore_less.proofs.less.Less.expand_step.Goals as goal
@@ -103,3 +105,28 @@ returns-else-added-clause-shows c =
     let full = e.sound.found.reached.full c.args.place
     (within_more task old.found new.found c.args.place c.requires.less.sound.found e.widens.found c.requires.within) in
     shown_advanced task old new new c.args.place c.args.step (c.in-Some.next, c.in-Some.added) t full (widens_not new)
+
+-- ---- where some node computes too long
+
+pub returns-in_err-next-clause-long : goal.returns-in_err-next-clause-long
+returns-in_err-next-clause-long c =
+    let task = c.args.task.now in
+    let old = c.args.self.now in
+    let new = c.take.new.self in
+    fault_up c.from_residual.result c.in_err-next.field-0.0 (λ fault. fault ≡ TooMany → IsCutLess task old new)
+    c.from_residual.ensures.1 (λ is.
+    let l = c.in_err-next.ensures.long is in
+    record {
+      less = still_less task old new c.requires.less l.sound l.widens l.opens l.rows;
+      widens = l.widens;
+      long = (c.args.place, l.long);
+    })
+
+pub returns-in_err-advance-clause-long : goal.returns-in_err-advance-clause-long
+returns-in_err-advance-clause-long c =
+    let task = c.args.task.now in
+    let new = c.advance.new.self in
+    fault_up c.from_residual-in_err-advance.result c.in_err-advance.field-0.0
+    (λ fault. fault ≡ TooMany → IsCutLess task c.args.self.now new) c.from_residual-in_err-advance.ensures.1 (λ is.
+    let l = c.in_err-advance.ensures.long is in
+    record { less = l.less; widens = widens_again c.in_ok-next.ensures.widens l.widens; long = l.long })

@@ -13,7 +13,7 @@ returns-in_default-clause-passed c =
     let task = c.args.task.now in
     let old = c.args.self.now in
     let new = c.take.new.self in
-    let e = c.in_ok-next.ensures in
+    let e = c.in-Ok.ensures in
     still_passing task old new c.args.first c.requires.passing e.sound e.widens e.opens
     (subst (IsTaken task old new c.args.last (Alone c.args.node)) c.in_default.is e.taken).rows
 
@@ -22,7 +22,7 @@ returns-clause-passed c =
     let task = c.args.task.now in
     let old = c.args.self.now in
     let new = c.take.new.self in
-    let e = c.in_ok-next.ensures in
+    let e = c.in-Ok.ensures in
     let last = c.args.last in
     let node = c.args.node in
     let p = c.requires.passing in
@@ -37,7 +37,21 @@ returns-clause-on c = λ is.
     let task = c.args.task.now in
     let old = c.args.self.now in
     let new = c.take.new.self in
-    let e = c.in_ok-next.ensures in
+    let e = c.in-Ok.ensures in
     let t = subst (IsTaken task old new c.args.last (Alone c.args.node)) c.in-Some.is e.taken in
     on_added (row_count old.found.table.rows) (row_count new.found.table.rows) (c.in-Some.next, c.in-Some.added) c.args.first t.added
     (sym c.pass_of.ensures ∙ is)
+
+-- ---- where some node computes too long
+
+pub returns-in-Err-TooMany-clause-passed : goal.returns-in-Err-TooMany-clause-passed
+returns-in-Err-TooMany-clause-passed c =
+    let task = c.args.task.now in
+    let old = c.args.self.now in
+    let l = c.in-Err-TooMany.ensures.long c.in-Err-TooMany.field-0-is in (
+      still_passing task old c.take.new.self c.args.first c.requires.passing l.sound l.widens l.opens l.rows,
+      (c.args.last, l.long),
+    )
+
+pub returns-in-Err-TooMany-clause-widens : goal.returns-in-Err-TooMany-clause-widens
+returns-in-Err-TooMany-clause-widens c = (c.in-Err-TooMany.ensures.long c.in-Err-TooMany.field-0-is).widens

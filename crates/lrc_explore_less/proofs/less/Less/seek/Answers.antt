@@ -2,6 +2,7 @@ use Rattle.std.proofs.Common.{◌+◌, ◌<◌, ◌∙◌, ap, length, sym, subs
 use Rattle.std.specs.Prelude.{Some}
 use Rattle.std.proofs.lemmas.Option.{slice_get-get_or}
 use Rattle.lrc_orders.proofs.Keeping.{stands_on}
+use Rattle.lrc_explore.specs.Cut.{are_more, is_longer}
 use Rattle.lrc_explore_less.specs.Enough.{IsVisit}
 use Rattle.lrc_explore_less.proofs.Seeking.{Seeking, no_shorter, seeking_first, seeking_grown, seeking_more, through}
 use Rattle.lrc_explore_less.proofs.Steps.{begun_on}
@@ -10,8 +11,18 @@ use Rattle.lrc_explore_less.proofs.less.Less.seek.Goals as goal
 pub loop-index-init : goal.loop-index-init
 loop-index-init c = (seeking_first c.args.task.now c.args.self.now c.args.races c.requires.less c.requires.begun, omega arith)
 
-pub end_of_all-requires-clause-many : goal.end_of_all-requires-clause-many
-end_of_all-requires-clause-many c = c.are_too_many-many.ensures.many c.if-many.true
+pub end_of_all-requires-clause-cut : goal.end_of_all-requires-clause-cut
+end_of_all-requires-clause-cut c = are_more (c.are_too_many-many.ensures.many c.if-many.true)
+
+pub end_of_all-requires-in-Cut-clause-cut : goal.end_of_all-requires-in-Cut-clause-cut
+end_of_all-requires-in-Cut-clause-cut c =
+    let long = subst (IsVisit c.args.task.now c.visit.new.self _ c.args.races) c.in-Cut.is c.in_ok-p.ensures.visit in
+    is_longer long.0 long.1
+
+pub returns-in-Cut-clause-begun : goal.returns-in-Cut-clause-begun
+returns-in-Cut-clause-begun c =
+    let begun = c.loop-index.invariant.0.begun in
+    begun_on c.args.task.now c.loop-index.self c.visit.new.self c.in_ok-p.ensures.widens begun
 
 pub visit-requires-clause-within : goal.visit-requires-clause-within
 visit-requires-clause-within c =

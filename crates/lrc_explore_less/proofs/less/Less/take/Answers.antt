@@ -1,6 +1,8 @@
-use Rattle.std.proofs.Common.{◌<◌, refl, sym, ap, ◌∙◌, subst, length}
+use Rattle.std.proofs.Common.{◌≡◌, ◌<◌, refl, sym, ap, ◌∙◌, subst, length}
 use Rattle.std.specs.Prelude.{MatchOption, Option, is_none}
 use Rattle.lrc_orders.specs.Kept.{IsAddedAt}
+use Rattle.lrc_orders.specs.declared.search.ExploreFault.TheVariants.{TooMany}
+use Rattle.lrc_orders.proofs.Faults.{fault_up}
 use Rattle.lrc_orders.proofs.Keeping.{grows_not}
 use Rattle.lrc_orders_table.specs.declared.table.Led.{Led}
 use Rattle.lrc_orders_table.specs.Rows.{row_count}
@@ -10,7 +12,7 @@ use Rattle.lrc_explore.specs.Traps.{ShowsTrapAt, led_traps}
 use Rattle.lrc_explore.proofs.Keys.{more_again}
 use Rattle.lrc_explore_less.specs.declared.less.Less.{Less}
 use Rattle.lrc_explore.proofs.Trapless.{added_only, trapless_put, trapless_same}
-use Rattle.lrc_explore_less.specs.Passing.{IsTrap}
+use Rattle.lrc_explore_less.specs.Passing.{HasStayed, IsTrap}
 use Rattle.lrc_explore_less.proofs.Steps.{reaches_of, sound_taken, trap_calm, trap_more, trap_taken, widens_put, widens_same}
 use Rattle.lrc_explore_less.proofs.less.Less.take.Goals as goal
 
@@ -50,6 +52,31 @@ returns-in_default-clause-taken c =
     let all = c.row_after.new.found.table.rows in
     let P : Option Led → Type 0 = λ o. MatchOption o (CannotTakeAt task all c.args.place c.args.step) (λ led. LeadsTo task all c.args.place c.args.step led.row) in
     record { cannot = subst P c.in_default.is c.in_ok-led.ensures.taken; rows = ap (λ l. length l) c.in_ok-led.ensures.keeps.rows; trap = refl }
+
+-- ---- where some node computes too long
+
+pub returns-in_err-led-clause-long : goal.returns-in_err-led-clause-long
+returns-in_err-led-clause-long c =
+    let task = c.args.task.now in
+    let old = c.args.self.now in
+    let mid = c.row_after.new.found in
+    let new : Less = record old { found = mid } in
+    let s = c.requires.sound in
+    fault_up c.from_residual.result c.in_err-led.field-0.0
+    (λ fault. fault ≡ TooMany → HasStayed task old new c.args.place) c.from_residual.ensures.1 (λ is.
+    let l = c.in_err-led.ensures.long is in
+    let same = ap (λ l. length l) l.keeps.rows in
+    let was = old.found.table.rows in
+    let now = mid.table.rows in
+    record {
+      sound = sound_taken task old new mid old.trap s l.keeps.widens refl l.found (rows_not now)
+          (trap_more task was now old.trap l.keeps.widens s.trap)
+          (λ none. trapless_same task was now s.found.reached l.keeps.widens same (s.trapless none));
+      widens = widens_same old new l.more refl refl;
+      opens = refl;
+      rows = same;
+      long = l.long;
+    })
 
 -- ---- where it is
 

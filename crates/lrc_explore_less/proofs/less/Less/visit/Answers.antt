@@ -26,8 +26,8 @@ returns-in-Some-clause-visit c =
     let met = c.in-Some.ensures means key (f.table means (means_are task)) of in
     (key, row_at task old place row f within there, met.1, met.0)
 
-pub returns-clause-visit : goal.returns-clause-visit
-returns-clause-visit c =
+pub returns-in-Ok-clause-visit : goal.returns-in-Ok-clause-visit
+returns-in-Ok-clause-visit c =
     let task = c.args.task.now in
     let old = c.args.self.now.found in
     let place = c.args.place in
@@ -39,7 +39,7 @@ returns-clause-visit c =
     let means = means_of task in
     let known = f.table means (means_are task) in
     let of = row_of task old place row f within there means (means_are task) in
-    let e = c.in_ok-expand.ensures in
+    let e = c.in-Ok.ensures in
     record {
       key = key;
       there = row_grown old.table.rows c.expand.new.self.found.table.rows place key e.widens.found.rows (row_at task old place row f within there);
@@ -47,3 +47,12 @@ returns-clause-visit c =
       halted = c.is_stuck-stuck.ensures means key known of;
       done = e.done;
     }
+
+pub returns-in-Err-TooMany-clause-less : goal.returns-in-Err-TooMany-clause-less
+returns-in-Err-TooMany-clause-less c = (c.in-Err-TooMany.ensures.long c.in-Err-TooMany.field-0-is).less
+
+pub returns-in-Err-TooMany-clause-widens : goal.returns-in-Err-TooMany-clause-widens
+returns-in-Err-TooMany-clause-widens c = (c.in-Err-TooMany.ensures.long c.in-Err-TooMany.field-0-is).widens
+
+pub returns-in-Err-TooMany-clause-visit : goal.returns-in-Err-TooMany-clause-visit
+returns-in-Err-TooMany-clause-visit c = (c.in-Err-TooMany.ensures.long c.in-Err-TooMany.field-0-is).long

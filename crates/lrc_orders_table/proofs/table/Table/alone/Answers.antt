@@ -1,7 +1,7 @@
 use Rattle.std.proofs.Common.{◌∙◌, sym}
 use Rattle.lrc_orders.specs.declared.noted.Noted.{Noted}
 use Rattle.lrc_orders.proofs.Faults.{fault_up}
-use Rattle.lrc_orders_table.specs.Tables.{IsLongFault, IsTakenFrom}
+use Rattle.lrc_orders_table.specs.Tables.{IsLongFault, IsTakenFrom, KeepsIfLong}
 use Rattle.lrc_orders_table.proofs.Alone.{cannot_alone, leads_alone, long_from, makes, makes_on}
 use Rattle.lrc_orders_table.proofs.RowNodes.{node_at}
 use Rattle.lrc_orders_table.proofs.Seeing.{given_there}
@@ -57,3 +57,8 @@ returns-clause-taken c = λ key from.
     let g = c.in_ok-led.ensures.gone key from.of in
     leads_alone means c.requires.means c.gone.new.self c.in_ok-led.led key c.args.node c.in-Some.value g
     (given_there means table row key c.requires.table from.of c.args.node g.spot g.here ∙ sym (c.given.ensures key.state.memory.items key.state.holders.items from.of.stands.shared) ∙ c.in-Some.is) from.settled
+
+pub returns-in_err-led-clause-long : goal.returns-in_err-led-clause-long
+returns-in_err-led-clause-long c =
+    fault_up c.from_residual.result c.in_err-led.field-0.0
+    (KeepsIfLong c.args.means.now c.args.self.now c.gone.new.self) c.from_residual.ensures.1 c.in_err-led.ensures.long

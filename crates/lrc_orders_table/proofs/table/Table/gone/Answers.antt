@@ -10,7 +10,7 @@ use Rattle.lrc_orders_table.specs.declared.table.After.{After}
 use Rattle.lrc_orders_table.specs.declared.table.Table.{Table}
 use Rattle.lrc_orders_table.specs.Going.{IsLongAct}
 use Rattle.lrc_orders_table.specs.Shared.{Fits}
-use Rattle.lrc_orders_table.specs.Tables.{IsRowOf, IsTable, KeepsRows}
+use Rattle.lrc_orders_table.specs.Tables.{IsRowOf, IsTable, KeepsIfLong, KeepsRows}
 use Rattle.lrc_orders_table.proofs.Acting.{fits_here, has_gone, me_at}
 use Rattle.lrc_orders_table.proofs.Entries.{value_at}
 use Rattle.lrc_orders_table.proofs.Linking.{notes_grown}
@@ -181,3 +181,9 @@ returns-in_err-place-clause-faults c =
     (λ key of.
     let long = c.in_err-place.ensures.faults in
     record { nodes = long.nodes; many = λ e spot here. long.many e spot (node_there old row key node spot of.stands here) })
+
+pub returns-in_err-place-clause-long : goal.returns-in_err-place-clause-long
+returns-in_err-place-clause-long c =
+    fault_up c.from_residual.result c.in_err-place.field-0.0
+    (KeepsIfLong c.args.means.now c.args.self.now c.after.new.self) c.from_residual.ensures.1
+    c.in_err-place.ensures.long

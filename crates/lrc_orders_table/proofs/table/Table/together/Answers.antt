@@ -3,7 +3,7 @@ use Rattle.std.proofs.lemmas.Bool.{true≢false}
 use Rattle.lrc_exec.specs.States.{plain_at}
 use Rattle.lrc_orders.specs.declared.noted.Noted.{Noted}
 use Rattle.lrc_orders.proofs.Faults.{fault_up}
-use Rattle.lrc_orders_table.specs.Tables.{IsLongFault, IsTakenFrom}
+use Rattle.lrc_orders_table.specs.Tables.{IsLongFault, IsTakenFrom, KeepsIfLong}
 use Rattle.lrc_orders_table.proofs.Keeping.{keeps_again, keeps_same}
 use Rattle.lrc_orders_table.proofs.RowNodes.{node_at}
 use Rattle.lrc_orders_table.proofs.Seeing.{spots_count}
@@ -92,3 +92,9 @@ returns-then-not-all_wait-clause-taken c = λ key from acts after takes.
     let means = c.args.means.now in
     let all = taken_waits (plain_at means.flat key.state) after acts takes in
     absurd (true≢false (sym ((c.all_wait.ensures means key c.requires.table from.of).1 all) ∙ c.if-not-all_wait.true))
+
+pub returns-in_err-led-clause-long : goal.returns-in_err-led-clause-long
+returns-in_err-led-clause-long c =
+    fault_up c.from_residual.result c.in_err-led.field-0.0
+    (KeepsIfLong c.args.means.now c.args.self.now c.gone.new.self) c.from_residual.ensures.1
+    (λ e. let kept = c.in_err-led.ensures.long e in (kept.0, keeps_again c.loop-node.invariant.keeps kept.1))
