@@ -63,8 +63,8 @@ keep_open-requires-in-Long c =
     let p = subst (HasPassed c.args.task.now c.pass.new.self c.args.first) c.in-Long.is c.in_ok-pass.ensures.passed in
     let some = p.0.some in omega (arith, some)
 
-pub returns-in_ok-keep_open-in-Long-clause-long : goal.returns-in_ok-keep_open-in-Long-clause-long
-returns-in_ok-keep_open-in-Long-clause-long c = λ is.
+pub returns-in-Long-clause-long : goal.returns-in-Long-clause-long
+returns-in-Long-clause-long c = λ is.
     let task = c.args.task.now in
     let mid = c.pass.new.self in
     let new = c.keep_open-in-Long.new.self in
@@ -79,8 +79,8 @@ returns-in_ok-keep_open-in-Long-clause-long c = λ is.
       long = long_opened task mid new others p.1;
     }
 
-pub returns-in_ok-keep_open-in-Long-clause-faults : goal.returns-in_ok-keep_open-in-Long-clause-faults
-returns-in_ok-keep_open-in-Long-clause-faults c =
+pub returns-in-Long-clause-faults : goal.returns-in-Long-clause-faults
+returns-in-Long-clause-faults c =
     let task = c.args.task.now in
     let p = subst (HasPassed task c.pass.new.self c.args.first) c.in-Long.is c.in_ok-pass.ensures.passed in
     record { nodes = λ is. cc; many = λ is. long_less task c.pass.new.self p.0.sound p.1 }
