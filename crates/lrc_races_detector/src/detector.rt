@@ -3,7 +3,7 @@ ghost use Rattle.std.specs.Prelude.{◌≡◌, ◌≢◌, ℕ, ◌+◌, ◌^◌,
 ghost use Rattle.lrc_races_trace.specs.declared.event.Event.{Event};
 ghost use Rattle.lrc_races_trace.specs.Trace.{At};
 ghost use Rattle.lrc_races_trace.specs.Races.{AreTold, AreToldAt};
-ghost use Rattle.lrc_races_detector.specs.Clocks.{row, IsGained};
+ghost use Rattle.lrc_races_detector.specs.Clocks.{row, IsGained, IsLevelled};
 ghost use Rattle.lrc_races_detector.specs.Covers.{operation_of, AreCovers};
 ghost use Rattle.lrc_races_detector.specs.Variables.{lasts_of, told_below, IsNoted};
 ghost use Rattle.lrc_races_detector.specs.Knowing.{Gathers, AreThreads, AreLocks, AreBarriers, AreVariables, IsReached, handed};
@@ -13,6 +13,7 @@ ghost use Rattle.lrc_races_detector.specs.Vectors.{entries};
 use crate::barriers::Barriers;
 use crate::clocks::Clocks;
 use crate::covers::{Cover, Covers};
+use crate::joins::Joins;
 use crate::variables::Variables;
 use crate::vectors::Known;
 use lrc_races_trace::event::{Event, Operation, Pair, Placed};
@@ -25,6 +26,8 @@ pub struct Detector {
     pub position: u64,
     /// What each thread knows.
     pub threads: Clocks,
+    /// How many threads were joined, so that what is known of all of them can be told in one.
+    pub joins: Joins,
     /// For each lock, what the threads knew that released or posted it.
     pub locks: Clocks,
     /// What the threads knew that arrived at each barrier.
@@ -58,6 +61,28 @@ pub fn receive(
         }
         Operation::Depart(barrier) => {
             threads.gain(thread, barriers.known(barrier as usize, thread))?;
+            Ok(())
+        }
+        _ => Ok(()),
+    }
+}
+
+/// Where an event joins a thread, and all is known there of the threads of a chunk, their entries may become the number of events
+/// so far: no event of theirs is below that but known ones. It fails if memory runs out.
+pub fn level(
+    threads: &mut Clocks,
+    joins: &mut Joins,
+    event: Event,
+    position: u64,
+) -> Result<(), AllocError>
+    ensures { OnOk result ((chunk : ℕ)
+        × IsLevelled threads.old threads.new event.thread chunk position) }
+{
+    match event.operation {
+        Operation::Join(other) => {
+            if joins.note(other)? {
+                return threads.level(event.thread as usize, other, position);
+            }
             Ok(())
         }
         _ => Ok(()),
@@ -225,6 +250,7 @@ impl Detector {
         Detector {
             position: 0,
             threads: Clocks::new(alloc),
+            joins: Joins::new(alloc),
             locks: Clocks::new(alloc),
             barriers: Barriers::new(alloc),
             variables: Variables::new(alloc),
@@ -245,6 +271,7 @@ impl Detector {
         ensures covers { self.new.covers ≡ self.old.covers }
     {
         receive(&mut self.threads, &self.locks, &self.barriers, event)?;
+        level(&mut self.threads, &mut self.joins, event, self.position)?;
         self.threads.mark(event.thread, self.position + 1)?;
         Ok(())
     }
