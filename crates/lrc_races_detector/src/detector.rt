@@ -26,8 +26,6 @@ pub struct Detector {
     pub position: u64,
     /// What each thread knows.
     pub threads: Clocks,
-    /// How many threads were joined, so that what is known of all of them can be told in one.
-    pub joins: Joins,
     /// For each lock, what the threads knew that released or posted it.
     pub locks: Clocks,
     /// What the threads knew that arrived at each barrier.
@@ -36,6 +34,8 @@ pub struct Detector {
     pub variables: Variables,
     /// The last access of each variable, where all others happen before it.
     pub covers: Covers,
+    /// How many threads were joined, so that what is known of all of them can be told in one.
+    pub joins: Joins,
 }
 
 /// Adds to what the thread of an event knows what the event learns from a lock, a barrier or a thread that it joins. It
@@ -250,11 +250,11 @@ impl Detector {
         Detector {
             position: 0,
             threads: Clocks::new(alloc),
-            joins: Joins::new(alloc),
             locks: Clocks::new(alloc),
             barriers: Barriers::new(alloc),
             variables: Variables::new(alloc),
             covers: Covers::new(alloc),
+            joins: Joins::new(alloc),
         }
     }
 

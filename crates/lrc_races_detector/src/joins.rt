@@ -1,5 +1,5 @@
 // How many threads of each chunk were joined, so that no chunk is tried of which one surely runs still.
-ghost use Rattle.std.specs.Prelude.{◌≡◌, ◌+◌, ◌-◌, ◌^◌, ◌/◌, [], OnOk, min, slice_index};
+ghost use Rattle.std.specs.Prelude.{◌≡◌, ◌<◌, ◌+◌, ◌-◌, ◌^◌, ◌/◌, [], OnOk, min, slice_index};
 ghost use Rattle.lrc_races_detector.specs.Vectors.{IsPut};
 
 use std::alloc::{AllocError, Global};
@@ -28,6 +28,7 @@ fn count_of(counts: &[u32], chunk: usize) -> u32
 
 // Sets the count of a chunk.
 fn set_count(counts: &mut Vec<u32>, chunk: usize, count: u32) -> Result<(), AllocError>
+    requires { chunk < 2 ^ 32 }
     ensures { OnOk result (IsPut counts.old.items counts.new.items chunk count) }
 {
     if counts.len() <= chunk {
