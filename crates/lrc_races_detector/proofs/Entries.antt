@@ -249,7 +249,8 @@ raised_next recent p place d first xs ys lt before r =
     omega (arith, before, raised, next)
 
 -- where none are recent, and all are the vector's own, or none are
-rest_settled : (w : Vector) (own base : List Chunk) → w.others.items ≡ own → chunks_of w.base ≡ base → w.recent.items ≡ []
+rest_settled : (w : Vector) (own base : List Chunk) → w.others.items ≡ own → chunks_of w.base ≡ base
+    → w.recent.items ≡ []
     → (p : ℕ) → slice_index (rest w) p ≡ max (slice_index (values own) p) (slice_index (values base) p)
 rest_settled w own base others shared none p =
     let all = rest_at w p in
@@ -279,7 +280,8 @@ lowered_alike xs zs ws ys thread most was lowered now = record {
   others = λ p ne. now p ∙ lowered.others p ne ∙ was p;
 }
 
-pub chunk_raised_alike : (xs zs ws ys : List ℕ) (chunk value : ℕ) → ((p : ℕ) → slice_index zs p ≡ slice_index xs p) → IsChunkRaised zs ws chunk value
+pub chunk_raised_alike : (xs zs ws ys : List ℕ) (chunk value : ℕ) → ((p : ℕ) → slice_index zs p ≡ slice_index xs p)
+    → IsChunkRaised zs ws chunk value
     → ((p : ℕ) → slice_index ys p ≡ slice_index ws p) → IsChunkRaised xs ys chunk value
 chunk_raised_alike xs zs ws ys chunk value was raised now = record {
   here = λ p same. now p ∙ raised.here p same ∙ ap (λ x. max x value) (was p);

@@ -35,8 +35,10 @@ module _ (events : List Event) where
 
   -- some entries are raised to n, of which no less is known than of all events before n
   pub Gathers-levelled : (these Here : ℕ → Type 0) (x z : List ℕ) (own : ℕ → ℕ) (n : ℕ)
-      → ((p : ℕ) → (get_or z p 0 ≡ get_or x p 0) ⊎ (Here p × (own p ≤ get_or x p 0) × (get_or z p 0 ≡ max (get_or x p 0) n)))
-      → ((i : ℕ) (a : Event) → At events i a → i < n → i < own a.thread) → Gathers events these x → Gathers events these z
+      → ((p : ℕ) → (get_or z p 0 ≡ get_or x p 0) ⊎ (Here p × (own p ≤ get_or x p 0) × (get_or z p 0 ≡ max
+      (get_or x p 0) n)))
+      → ((i : ℕ) (a : Event) → At events i a → i < n → i < own a.thread) → Gathers events these x
+      → Gathers events these z
   Gathers-levelled these Here x z own n levelled known g = record {
     sound = λ i a h lt.
         let t = a.thread in

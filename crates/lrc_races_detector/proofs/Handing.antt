@@ -121,7 +121,8 @@ module _ (events : List Event) (n : ℕ) where
     handed_gathers t Idle = Gathers-none events (λ k. ⊥) (λ k h. h)
 
     -- each thread knows of its own events
-    own_known : (between : Clocks) (t : ℕ) (known : List ℕ) → IsGained threads between t known → (i : ℕ) (a : Event) → At events i a → i < n
+    own_known : (between : Clocks) (t : ℕ) (known : List ℕ) → IsGained threads between t known → (i : ℕ) (a : Event)
+        → At events i a → i < n
         → i < get_or (row between a.thread) a.thread 0
     own_known between t known gained i a at lt =
         let below = (are_threads a.thread).complete i i a at (lt, (a, at, inl refl)) (inl refl) in
@@ -134,7 +135,8 @@ module _ (events : List Event) (n : ℕ) where
         → IsReached events n b.thread after
     received b here between levelled after gained chunk level marked = record {
       own = Gathers-here events n b (row levelled b.thread) (row after b.thread) here
-          (Gathers-levelled events (λ k. Precedes events k n) (λ t. t / 128 ≡ chunk) (row between b.thread) (row levelled b.thread)
+          (Gathers-levelled events (λ k. Precedes events k n) (λ t. t / 128 ≡ chunk) (row between b.thread)
+          (row levelled b.thread)
           (λ t. get_or (row between t) t 0) n level.here
           (own_known between b.thread (handed threads locks barriers b.thread b.operation) gained)
           (Gathers-same events (λ k. Before n (OfThread events b.thread) k ⊎ Handed events n b.thread b.operation k) (λ k. Precedes events k n)
@@ -145,6 +147,7 @@ module _ (events : List Event) (n : ℕ) where
           (handed threads locks barriers b.thread b.operation) (row between b.thread) (are_threads b.thread)
           (handed_gathers b.thread b.operation) gained.here))) marked.here;
       others = λ u apart.
-          subst (λ x. Gathers events (Before n (OfThread events u)) x) (sym (marked.others u apart ∙ level.others u apart ∙ gained.others u apart))
+          subst (λ x. Gathers events (Before n (OfThread events u)) x)
+          (sym (marked.others u apart ∙ level.others u apart ∙ gained.others u apart))
           (are_threads u);
     }

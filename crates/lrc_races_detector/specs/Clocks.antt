@@ -33,8 +33,8 @@ pub record IsRowLevelled (before after : Clocks) (index chunk value : ℕ) : Typ
   pub here : IsChunkRaised (row before index) (row after index) chunk value
   pub others : (other : ℕ) → other ≢ index → row after other ≡ row before other
 
--- At this index the entry of a thread is as it was. Or it is in the chunk and was no less than what the thread knows of itself, and
--- now it has at least this value. At all others is known what was.
+-- At this index the entry of a thread is as it was. Or it is in the chunk and was no less than what the thread knows of
+-- itself, and now it has at least this value. At all others is known what was.
 pub record IsLevelled (before after : Clocks) (index chunk value : ℕ) : Type 0 where
   pub here : (thread : ℕ) → (slice_index (row after index) thread ≡ slice_index (row before index) thread)
       ⊎ ((thread / 128 ≡ chunk) × (slice_index (row before thread) thread ≤ slice_index (row before index) thread)

@@ -1,5 +1,5 @@
-// Entries in chunks of 128. The values of a chunk are not written to, so vectors share them: a copy of one has a pointer for
-// each chunk, and a change makes anew the chunk of the entry.
+// Entries in chunks of 128. The values of a chunk are not written to, so vectors share them: a copy of one has a pointer
+// for each chunk, and a change makes anew the chunk of the entry.
 ghost use Rattle.std.specs.Prelude.{◌≡◌, ◌≢◌, ℕ, ◌<◌, ◌≤◌, ◌/◌, IfOk, OnOk, max, length, slice_get, slice_index};
 ghost use Rattle.std.specs.Bool.{OnTrue};
 ghost use Rattle.lrc_races_detector.specs.Chunks.{listed, entry_at, entry_in, value_of, values, IsAppended, IsChunkJoined, IsChunkPut, IsChunkRaised, IsLowered, IsSpelled};
@@ -14,8 +14,8 @@ const SIZE: usize = 128;
 
 /// The entries of threads that stand together.
 ///
-/// An entry is the greater of the floor and its value. Once a vector knows all of these threads, its chunk is level: it has a
-/// floor and no values. What is done to a level chunk takes one step, and not one for each entry.
+/// An entry is the greater of the floor and its value. Once a vector knows all of these threads, its chunk is level: it
+/// has a floor and no values. What is done to a level chunk takes one step, and not one for each entry.
 #[derive(Drop)]
 pub struct Chunk {
     floor: u64,
@@ -316,7 +316,8 @@ pub(crate) fn lower(chunks: &mut Vec<Chunk>, entry: Entry) -> Result<(), AllocEr
     Ok(())
 }
 
-// Adds to a chunk, or behind all chunks, what another says. Where the chunk says it all, it stays. It fails if memory runs out.
+// Adds to a chunk, or behind all chunks, what another says. Where the chunk says it all, it stays. It fails if memory
+// runs out.
 fn join_chunk(
     alloc: Global,
     chunks: &mut Vec<Chunk>,

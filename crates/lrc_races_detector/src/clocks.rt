@@ -247,8 +247,8 @@ impl Clocks {
         Ok(())
     }
 
-    /// Where at an index no less is known of each thread of a thread's chunk than that knows of itself, all these entries become
-    /// no less than the value. It fails if memory runs out.
+    /// Where at an index no less is known of each thread of a thread's chunk than that knows of itself, all these entries
+    /// become no less than the value. It fails if memory runs out.
     pub fn level(&mut self, index: usize, thread: u32, value: u64) -> Result<(), AllocError>
         ensures { OnOk result (IsLevelled self.old self.new index (thread / 128) value) }
     {

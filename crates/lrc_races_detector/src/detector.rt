@@ -67,8 +67,8 @@ pub fn receive(
     }
 }
 
-/// Where an event joins a thread, and all is known there of the threads of a chunk, their entries may become the number of events
-/// so far: no event of theirs is below that but known ones. It fails if memory runs out.
+/// Where an event joins a thread, and all is known there of the threads of a chunk, their entries may become the number
+/// of events so far: no event of theirs is below that but known ones. It fails if memory runs out.
 pub fn level(
     threads: &mut Clocks,
     joins: &mut Joins,

@@ -48,8 +48,9 @@ impl Joins {
         }
     }
 
-    /// Counts that a thread is joined. Returns whether it is worth while to look whether all threads of its chunk were: as many
-    /// were joined as there are, and so at times later on, as some may have been joined twice. It fails if memory runs out.
+    /// Counts that a thread is joined. Returns whether it is worth while to look whether all threads of its chunk were:
+    /// as many were joined as there are, and so at times later on, as some may have been joined twice. It fails if
+    /// memory runs out.
     pub(crate) fn note(&mut self, thread: u32) -> Result<bool, AllocError>
         ensures { OnOk result (IsPut self.old.counts.items self.new.counts.items (thread / 128)
             (min (slice_index self.old.counts.items (thread / 128) + 1) (2 ^ 32 - 1))) }

@@ -34,8 +34,8 @@ pub struct Known<'a> {
 /// One entry stands apart from the others, which reach up to the last thread of which something is known. So a thread that
 /// knows only itself has no entry for each thread before it. A base is never written to, and copies of the vector share it.
 /// What was raised since stands among a few recent entries, until they are put into a new base. So what a thread has that was
-/// forked, and what one of them has that was joined by the one that forked it, is little, however many threads there are. Where
-/// all threads of a chunk are known, that is told in one step, once the chunk is level.
+/// forked, and what one of them has that was joined by the one that forked it, is little, however many threads there are.
+/// Once a chunk of threads is level, one step tells what is known of all of them.
 #[derive(Drop)]
 pub struct Vector {
     apart: Option<Entry>,
@@ -220,7 +220,8 @@ impl Vector {
         Ok(())
     }
 
-    // Raises all entries of a chunk that are less than this, and puts all but the one that stands apart into a new base.
+    // Raises all entries of a chunk that are less than this, and puts all but the one that stands apart into a new
+    // base.
     fn level_rest(&mut self, chunk: usize, value: u64) -> Result<(), AllocError>
         ensures rest { OnOk result (IsChunkRaised (rest self.old) (rest self.new) chunk value) }
         ensures apart { self.new.apart ≡ self.old.apart }

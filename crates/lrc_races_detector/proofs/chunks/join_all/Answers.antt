@@ -10,9 +10,11 @@ loop-index-preserved c =
     let more = c.args.more.now in
     let item = c.index-more-index in
     let there = slice_get_read more (length more) l.index item.result refl c.loop-index-test.true item.is in
-    joined_next c.reserve_exact.new.self.items more l.chunks.items c.join_chunk.new.chunks.items l.index item.result l.invariant there c.in_ok-join_chunk.ensures
+    joined_next c.reserve_exact.new.self.items more l.chunks.items c.join_chunk.new.chunks.items l.index item.result
+    l.invariant there c.in_ok-join_chunk.ensures
 
 pub returns : goal.returns
 returns c =
-    joined_done c.args.chunks.now.items c.reserve_exact.new.self.items c.args.more.now c.loop-index.chunks.items c.loop-index.index
+    joined_done c.args.chunks.now.items c.reserve_exact.new.self.items c.args.more.now c.loop-index.chunks.items
+    c.loop-index.index
     c.in_ok-reserve_exact.ensures.items c.loop-index-test.false c.loop-index.invariant

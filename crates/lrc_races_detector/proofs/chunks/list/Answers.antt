@@ -9,7 +9,9 @@ loop-chunk-preserved c =
     let l = c.loop-chunk in
     let item = c.chunk-item in
     let there = slice_get_read c.args.chunks.now (length c.args.chunks.now) l.chunk-index item.result refl c.loop-chunk-test.true item.is in
-    listed_next c.args.chunks.now l.chunk-index l.list.items c.append.new.list.items item.result l.invariant there c.in_ok-append.ensures
+    listed_next c.args.chunks.now l.chunk-index l.list.items c.append.new.list.items item.result l.invariant there
+    c.in_ok-append.ensures
 
 pub returns : goal.returns
-returns c = listed_all c.args.chunks.now c.loop-chunk.chunk-index c.loop-chunk.list.items c.loop-chunk-test.false c.loop-chunk.invariant
+returns c = listed_all c.args.chunks.now c.loop-chunk.chunk-index c.loop-chunk.list.items c.loop-chunk-test.false
+    c.loop-chunk.invariant

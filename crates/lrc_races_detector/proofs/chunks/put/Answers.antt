@@ -1,5 +1,5 @@
 -- The chunk of the entry is made anew.
-use Rattle.std.proofs.Common.{◌≡◌, ℕ, ◌/◌, ap, sym, ◌∙◌, arith}
+use Rattle.std.proofs.Common.{◌/◌, ap, sym, ◌∙◌, arith}
 use Rattle.std.specs.Prelude.{Some, slice_index}
 use Rattle.std.proofs.lemmas.Option.{slice_get-get_or}
 use Rattle.lrc_races_detector.specs.declared.chunks.Chunk.{Chunk}
@@ -16,7 +16,8 @@ returns c =
     let (room, kept) = c.in_ok-reach.ensures in
     let chunk : Chunk = record { floor = 0; values = Some c.in_ok-new.field-0 } in
     put_values chunks after thread c.args.value chunk c.index.result.now c.in_ok-entries.entries.items
-    (λ place. ap (λ x. entry_at x place) c.index.ensures ∙ sym (ap (λ o. entry_of o place) (slice_get-get_or reached (thread / 128) _ room)) ∙ kept (thread / 128) place)
+    (λ place. ap (λ x. entry_at x place) c.index.ensures
+    ∙ sym (ap (λ o. entry_of o place) (slice_get-get_or reached (thread / 128) _ room)) ∙ kept (thread / 128) place)
     c.in_ok-entries.ensures
     (λ place. let same = ap (λ v. slice_index v.items place) c.in_ok-new.ensures.ok in omega (arith, same))
     (put_later chunks reached after (thread / 128) chunk kept c.set_chunk.ensures.put)

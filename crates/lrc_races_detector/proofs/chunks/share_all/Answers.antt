@@ -10,7 +10,8 @@ loop-chunk-preserved c =
     let item = c.chunk-item in
     let lt = c.loop-chunk-test.true in
     let there = slice_get_read c.args.more.now (length c.args.more.now) l.chunk-index item.result refl lt item.is in
-    shared_next c.args.more.now l.chunks.items c.push.new.self.items l.chunk-index c.in_ok-share.field-0 item.result lt l.invariant c.in_ok-push.ensures.items
+    shared_next c.args.more.now l.chunks.items c.push.new.self.items l.chunk-index c.in_ok-share.field-0 item.result lt
+    l.invariant c.in_ok-push.ensures.items
     there c.in_ok-share.ensures
 
 pub returns : goal.returns

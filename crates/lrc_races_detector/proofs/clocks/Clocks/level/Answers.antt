@@ -11,7 +11,12 @@ returns-then-knows_all c =
     on_ok_weaker c.level_row.result (λ levelled. record {
       here = λ thread.
           elim (cases_eq (thread / 128) chunk) [
-            | inl same ↦ inr (same, known thread (omega (arith, same)) (omega (arith, same)), levelled.here.here thread same)
+            | inl same ↦ inr (
+              same,
+              known thread (omega (arith, same))
+                  (omega (arith, same)),
+              levelled.here.here thread same,
+            )
             | inr apart ↦ inl (levelled.here.others thread apart)
           ];
       others = levelled.others;

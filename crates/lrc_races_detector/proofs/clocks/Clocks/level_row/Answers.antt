@@ -15,7 +15,8 @@ invariant_of-self-2 c =
     let row = c.level.new.self in
     let old = c.index_mut.result.now in
     let (room, kept) = c.in_ok-reach.ensures in
-    let was : held old ≡ row_in before i = ap held c.index_mut.ensures.value ∙ sym (ap entries_of (slice_get-get_or reached i _ room)) ∙ kept i in
+    let was : held old ≡ row_in before i =
+    ap held c.index_mut.ensures.value ∙ sym (ap entries_of (slice_get-get_or reached i _ room)) ∙ kept i in
     record {
       inside = still_within before (set reached i row) c.args.self.now.within.items c.leave.new.within.items i
           (set_grown before reached i row room kept
@@ -31,9 +32,11 @@ returns c =
     let row = c.level.new.self in
     let old = c.index_mut.result.now in
     let (room, kept) = c.in_ok-reach.ensures in
-    let was : held old ≡ row_in before i = ap held c.index_mut.ensures.value ∙ sym (ap entries_of (slice_get-get_or reached i _ room)) ∙ kept i in
+    let was : held old ≡ row_in before i =
+    ap held c.index_mut.ensures.value ∙ sym (ap entries_of (slice_get-get_or reached i _ room)) ∙ kept i in
     record {
-      here = subst (λ (xs : List ℕ). IsChunkRaised (row_in before i) xs c.args.chunk c.args.value) (sym (set_here before reached i row room kept))
+      here = subst (λ (xs : List ℕ). IsChunkRaised (row_in before i) xs c.args.chunk c.args.value)
+          (sym (set_here before reached i row room kept))
           (subst (λ (xs : List ℕ). IsChunkRaised xs (held row) c.args.chunk c.args.value) was c.in_ok-level.ensures);
       others = set_others before reached i row room kept;
     }

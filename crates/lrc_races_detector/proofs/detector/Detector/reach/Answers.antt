@@ -10,7 +10,8 @@ returns-clause-reached c = λ events n here old.
     let between = c.receive.new.threads in
     let levelled = c.level.new.threads in
     let (chunk, level) = c.in_ok-level.ensures in
-    received events n self.threads self.locks self.barriers old.threads old.locks old.barriers c.args.event here between levelled c.mark.new.self
+    received events n self.threads self.locks self.barriers old.threads old.locks old.barriers c.args.event here
+    between levelled c.mark.new.self
     c.in_ok-receive.ensures chunk
     (subst (λ m. IsLevelled between levelled c.args.event.thread chunk m) old.position level)
     (subst (λ m. IsMarked levelled c.mark.new.self c.args.event.thread (m + 1)) old.position c.in_ok-mark.ensures)

@@ -13,5 +13,6 @@ returns c =
     let self = c.args.self.now in
     let after = c.level_rest.new.self in
     on_ok_weaker c.level_rest.result (λ raised.
-    subst (λ (o : Option Entry). IsChunkRaised (held self) (with_apart o (rest after)) c.args.chunk c.args.value) (sym c.level_rest.ensures.apart)
+    subst (λ (o : Option Entry). IsChunkRaised (held self) (with_apart o (rest after)) c.args.chunk c.args.value)
+    (sym c.level_rest.ensures.apart)
     (chunk_raised_among self.apart (rest self) (rest after) c.args.chunk c.args.value raised)) c.level_rest.ensures.rest

@@ -11,9 +11,17 @@ pub returns : goal.returns
 returns c =
     let self = c.args.self.now in
     let all = c.level.new.chunks.items in
-    let after : Vector = record { apart = self.apart; recent = c.clear-2.new.self; others = c.clear.new.self; base = Some c.in_ok-new.field-0 } in
+    let after : Vector = record {
+      apart = self.apart;
+      recent = c.clear-2.new.self;
+      others = c.clear.new.self;
+      base =
+          Some c.in_ok-new.field-0;
+    } in
     record {
-      rest = chunk_raised_alike (rest self) (values c.in_ok-all.all.items) (values all) (rest after) c.args.chunk c.args.value c.in_ok-all.ensures c.in_ok-level.ensures
-          (rest_shared after all c.clear.ensures.items (ap (λ v. v.items) c.in_ok-new.ensures.ok) c.clear-2.ensures.items);
+      rest = chunk_raised_alike (rest self) (values c.in_ok-all.all.items) (values all)
+          (rest after) c.args.chunk c.args.value c.in_ok-all.ensures c.in_ok-level.ensures
+          (rest_shared after all c.clear.ensures.items
+          (ap (λ v. v.items) c.in_ok-new.ensures.ok) c.clear-2.ensures.items);
       apart = refl;
     }
