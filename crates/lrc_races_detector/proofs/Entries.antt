@@ -1,19 +1,15 @@
 -- Entries, of which one may stand apart.
-use Rattle.std.proofs.Common.{◌≡◌, ◌≢◌, ◌<◌, ◌≤◌, ◌+◌, ℕ, zero, suc, List, [], ◌∷◌, ◌++◌, Vec, length, get_or, max, inl, inr, refl, sym, subst, ◌∙◌, ap, ap₂, arith}
+use Rattle.std.proofs.Common.{◌≡◌, ◌≢◌, ◌<◌, ◌≤◌, ◌+◌, ℕ, zero, suc, List, [], ◌∷◌, ◌++◌, length, get_or, max, inl, inr, refl, sym, subst, ◌∙◌, ap, ap₂, arith}
 use Rattle.std.proofs.lemmas.Bool.{cases_eq}
 use Rattle.std.proofs.lemmas.List.{length_push}
 use Rattle.std.proofs.lemmas.Option.{slice_get-get_or}
 use Rattle.std.specs.Prelude.{Option, None, Some, slice_get, slice_index}
-use Rattle.std.specs.declared.alloc.Global.{Global}
-use Rattle.std.specs.declared.rc.Rc.{Rc}
+use Rattle.lrc_races_detector.specs.declared.chunks.Chunk.{Chunk}
 use Rattle.lrc_races_detector.specs.declared.vectors.Entry.{Entry}
 use Rattle.lrc_races_detector.specs.declared.vectors.Vector.{Vector}
-use Rattle.lrc_races_detector.specs.Chunks.{IsLowered, chunks_of, values}
+use Rattle.lrc_races_detector.specs.Chunks.{IsChunkRaised, IsLowered, chunks_of, values}
 use Rattle.lrc_races_detector.specs.Vectors.{IsPut, IsRaised, apart_at, greatest, joined, raised_at, rest, with_apart, with_first}
 use Rattle.lrc_races_detector.proofs.Pushing.{slice_get-push_new, slice_get-push_old}
-
-abbrev Chunks : Type 0
-Chunks = List (Rc (Vec ℕ Global) Global)
 
 raised_here : (thread value : ℕ) (xs : List ℕ) → slice_index (raised_at thread value xs) thread ≡ max (slice_index xs thread) value
 raised_here zero value [] = omega arith
@@ -253,7 +249,8 @@ raised_next recent p place d first xs ys lt before r =
     omega (arith, before, raised, next)
 
 -- where none are recent, and all are the vector's own, or none are
-rest_settled : (w : Vector) (own base : Chunks) → w.others.items ≡ own → chunks_of w.base ≡ base → w.recent.items ≡ []
+rest_settled : (w : Vector) (own base : List Chunk) → w.others.items ≡ own → chunks_of w.base ≡ base
+    → w.recent.items ≡ []
     → (p : ℕ) → slice_index (rest w) p ≡ max (slice_index (values own) p) (slice_index (values base) p)
 rest_settled w own base others shared none p =
     let all = rest_at w p in
@@ -262,14 +259,14 @@ rest_settled w own base others shared none p =
     let three : greatest w.recent.items p (length w.recent.items) ≡ 0 = ap (λ recent. greatest recent p (length recent)) none in
     omega (arith, all, one, two, three)
 
-pub rest_own : (w : Vector) (own : Chunks) → w.others.items ≡ own → w.base ≡ None → w.recent.items ≡ []
+pub rest_own : (w : Vector) (own : List Chunk) → w.others.items ≡ own → w.base ≡ None → w.recent.items ≡ []
     → (p : ℕ) → slice_index (rest w) p ≡ slice_index (values own) p
 rest_own w own others shared none p =
     let all = rest_settled w own [] others (ap (λ base. chunks_of base) shared) none p in
     let nothing : slice_index (values []) p ≡ 0 = refl in
     omega (arith, all, nothing)
 
-pub rest_shared : (w : Vector) (base : Chunks) → w.others.items ≡ [] → chunks_of w.base ≡ base → w.recent.items ≡ []
+pub rest_shared : (w : Vector) (base : List Chunk) → w.others.items ≡ [] → chunks_of w.base ≡ base → w.recent.items ≡ []
     → (p : ℕ) → slice_index (rest w) p ≡ slice_index (values base) p
 rest_shared w base others shared none p =
     let all = rest_settled w [] base others shared none p in
@@ -281,6 +278,29 @@ pub lowered_alike : (xs zs ws ys : List ℕ) (thread most : ℕ) → ((p : ℕ) 
 lowered_alike xs zs ws ys thread most was lowered now = record {
   here = let least = lowered.here in let same = now thread in omega (arith, least, same);
   others = λ p ne. now p ∙ lowered.others p ne ∙ was p;
+}
+
+pub chunk_raised_alike : (xs zs ws ys : List ℕ) (chunk value : ℕ) → ((p : ℕ) → slice_index zs p ≡ slice_index xs p)
+    → IsChunkRaised zs ws chunk value
+    → ((p : ℕ) → slice_index ys p ≡ slice_index ws p) → IsChunkRaised xs ys chunk value
+chunk_raised_alike xs zs ws ys chunk value was raised now = record {
+  here = λ p same. now p ∙ raised.here p same ∙ ap (λ x. max x value) (was p);
+  others = λ p apart. now p ∙ raised.others p apart ∙ was p;
+}
+
+pub chunk_raised_among : (o : Option Entry) (xs ys : List ℕ) (chunk value : ℕ) → IsChunkRaised xs ys chunk value
+    → IsChunkRaised (with_apart o xs) (with_apart o ys) chunk value
+chunk_raised_among o xs ys chunk value raised = record {
+  here = λ p same.
+      let was = entry_at o xs p in
+      let now = entry_at o ys p in
+      let at = raised.here p same in
+      omega (arith, was, now, at);
+  others = λ p apart.
+      let was = entry_at o xs p in
+      let now = entry_at o ys p in
+      let at = raised.others p apart in
+      omega (arith, was, now, at);
 }
 
 -- one is raised in the vector's own chunks

@@ -1,5 +1,5 @@
 -- What a vector gathers: no positions, one set or another, the same set said otherwise, and one position.
-use Rattle.std.proofs.Common.{◌≡◌, ℕ, ◌+◌, ◌<◌, ◌⊎◌, List, [], get_or, max, inl, inr, refl, sym, subst, ◌∙◌, ap, arith}
+use Rattle.std.proofs.Common.{◌≡◌, ℕ, ◌+◌, ◌<◌, ◌≤◌, ◌⊎◌, List, [], get_or, max, inl, inr, refl, sym, subst, ◌∙◌, ap, arith}
 use Rattle.std.proofs.lemmas.Bool.{cases_eq, cases_lt}
 use Rattle.lrc_races_trace.specs.declared.event.Event.{Event}
 use Rattle.lrc_races_trace.specs.Trace.{At}
@@ -8,6 +8,7 @@ use Rattle.lrc_races_trace.proofs.Positions.{At-one}
 use Rattle.lrc_races_trace.proofs.HappensBefore.{forward, Reaches-extends, Reaches-last}
 use Rattle.lrc_races_detector.specs.Vectors.{IsPut}
 use Rattle.lrc_races_detector.specs.Knowing.{Gathers, Before}
+use Rattle.lrc_races_detector.proofs.Levelling.{levelled_above, levelled_below}
 
 module _ (events : List Event) where
   -- nothing reaches a position of none
@@ -30,6 +31,21 @@ module _ (events : List Event) where
   Gathers-equal these x z e g = record {
     sound = λ i a h lt. let same = e a.thread in g.sound i a h (omega arith);
     complete = λ i k a h t r. let same = e a.thread in let below = g.complete i k a h t r in omega arith;
+  }
+
+  -- some entries are raised to n, of which no less is known than of all events before n
+  pub Gathers-levelled : (these Here : ℕ → Type 0) (x z : List ℕ) (own : ℕ → ℕ) (n : ℕ)
+      → ((p : ℕ) → (get_or z p 0 ≡ get_or x p 0) ⊎ (Here p × (own p ≤ get_or x p 0) × (get_or z p 0 ≡ max
+      (get_or x p 0) n)))
+      → ((i : ℕ) (a : Event) → At events i a → i < n → i < own a.thread) → Gathers events these x
+      → Gathers events these z
+  Gathers-levelled these Here x z own n levelled known g = record {
+    sound = λ i a h lt.
+        let t = a.thread in
+        g.sound i a h (levelled_below (Here t) (get_or x t 0) (get_or z t 0) (own t) n i (levelled t) (known i a h) lt);
+    complete = λ i k a h t r.
+        let u = a.thread in
+        levelled_above (Here u) (get_or x u 0) (get_or z u 0) (own u) n i (levelled u) (g.complete i k a h t r);
   }
 
   -- the ones or the others

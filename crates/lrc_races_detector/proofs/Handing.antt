@@ -1,5 +1,5 @@
 -- What an event gets is what comes right before it.
-use Rattle.std.proofs.Common.{◌≡◌, ◌≢◌, ℕ, ◌+◌, ◌⊎◌, List, inl, inr, refl, sym, subst, ◌∙◌, ap, arith}
+use Rattle.std.proofs.Common.{◌≡◌, ◌≢◌, ℕ, ◌+◌, ◌<◌, ◌/◌, ◌⊎◌, List, get_or, inl, inr, refl, sym, subst, ◌∙◌, ap, arith}
 use Rattle.std.proofs.lemmas.Bool.{cases_eq}
 use Rattle.std.specs.Prelude.{Option, Some, None, slice_get}
 use Rattle.lrc_races_trace.specs.declared.event.Event.{Event}
@@ -13,9 +13,10 @@ use Rattle.lrc_races_detector.specs.declared.clocks.Clocks.{Clocks}
 use Rattle.lrc_races_detector.specs.declared.barriers.Barrier.{Barrier}
 use Rattle.lrc_races_detector.specs.declared.barriers.Barriers.{Barriers}
 use Rattle.lrc_races_detector.specs.Barriers.{current_of, cycle_of, open_of, closed_of, known_by}
-use Rattle.lrc_races_detector.specs.Clocks.{row, IsGained, IsMarked}
+use Rattle.lrc_races_detector.specs.Clocks.{row, IsGained, IsLevelled, IsMarked}
 use Rattle.lrc_races_detector.specs.Knowing.{Gathers, Before, OfThread, GivesLock, ArrivesIn, AreThreads, AreLocks, IsBarrier, AreBarriers, IsReached, Handed, handed}
-use Rattle.lrc_races_detector.proofs.Gathering.{Gathers-none, Gathers-same, Gathers-joined, Gathers-here}
+use Rattle.lrc_races_detector.proofs.Gathering.{Gathers-none, Gathers-same, Gathers-joined, Gathers-here, Gathers-levelled}
+use Rattle.lrc_races_detector.proofs.Levelling.{gained_own}
 
 module _ (events : List Event) (n : ℕ) where
   -- ---- what comes right before is handed
@@ -119,17 +120,34 @@ module _ (events : List Event) (n : ℕ) where
     handed_gathers t (Arrive v) = Gathers-none events (λ k. ⊥) (λ k h. h)
     handed_gathers t Idle = Gathers-none events (λ k. ⊥) (λ k h. h)
 
-    pub received : (b : Event) → At events n b → (between after : Clocks)
-        → IsGained threads between b.thread (handed threads locks barriers b.thread b.operation) → IsMarked between after b.thread (n + 1)
+    -- each thread knows of its own events
+    own_known : (between : Clocks) (t : ℕ) (known : List ℕ) → IsGained threads between t known → (i : ℕ) (a : Event)
+        → At events i a → i < n
+        → i < get_or (row between a.thread) a.thread 0
+    own_known between t known gained i a at lt =
+        let below = (are_threads a.thread).complete i i a at (lt, (a, at, inl refl)) (inl refl) in
+        let le = gained_own threads between t known gained a.thread in
+        omega (arith, below, le)
+
+    pub received : (b : Event) → At events n b → (between levelled after : Clocks)
+        → IsGained threads between b.thread (handed threads locks barriers b.thread b.operation)
+        → (chunk : ℕ) → IsLevelled between levelled b.thread chunk n → IsMarked levelled after b.thread (n + 1)
         → IsReached events n b.thread after
-    received b here between after gained marked = record {
-      own = Gathers-here events n b (row between b.thread) (row after b.thread) here
+    received b here between levelled after gained chunk level marked = record {
+      own = Gathers-here events n b (row levelled b.thread) (row after b.thread) here
+          (Gathers-levelled events (λ k. Precedes events k n) (λ t. t / 128 ≡ chunk) (row between b.thread)
+          (row levelled b.thread)
+          (λ t. get_or (row between t) t 0) n level.here
+          (own_known between b.thread (handed threads locks barriers b.thread b.operation) gained)
           (Gathers-same events (λ k. Before n (OfThread events b.thread) k ⊎ Handed events n b.thread b.operation k) (λ k. Precedes events k n)
           (row between b.thread)
           (λ k h. elim h [ inl own ↦ thread_precedes k b here own | inr more ↦ handed_by k b here b.operation refl more ])
           (λ k p. precedes_handed k b here p)
           (Gathers-joined events (Before n (OfThread events b.thread)) (Handed events n b.thread b.operation) (row threads b.thread)
           (handed threads locks barriers b.thread b.operation) (row between b.thread) (are_threads b.thread)
-          (handed_gathers b.thread b.operation) gained.here)) marked.here;
-      others = λ u apart. subst (λ x. Gathers events (Before n (OfThread events u)) x) (sym (marked.others u apart ∙ gained.others u apart)) (are_threads u);
+          (handed_gathers b.thread b.operation) gained.here))) marked.here;
+      others = λ u apart.
+          subst (λ x. Gathers events (Before n (OfThread events u)) x)
+          (sym (marked.others u apart ∙ level.others u apart ∙ gained.others u apart))
+          (are_threads u);
     }

@@ -2,6 +2,7 @@ pub mod Pushing
 pub mod Chunking
 pub mod Entries
 pub mod Within
+pub mod Levelling
 pub mod Gathering
 pub mod Handing
 pub mod Holding

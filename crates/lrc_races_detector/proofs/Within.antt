@@ -1,10 +1,11 @@
 -- One row is put in place of another, and what is within another stays so.
-use Rattle.std.proofs.Common.{◌≡◌, ◌≢◌, ℕ, ◌<◌, ◌≤◌, List, length, set, inl, inr, sym, subst, ◌∙◌, ap, arith}
+use Rattle.std.proofs.Common.{◌≡◌, ◌≢◌, ℕ, ◌<◌, ◌≤◌, ◌/◌, List, length, set, inl, inr, sym, subst, ◌∙◌, ap, arith}
 use Rattle.std.specs.Prelude.{Option, Some, None, Bool, true, max, slice_get, slice_index}
 use Rattle.std.specs.Bool.{OnTrue}
 use Rattle.std.proofs.lemmas.Bool.{cases_eq}
 use Rattle.std.proofs.lemmas.Option.{same_Some}
 use Rattle.lrc_races_detector.specs.declared.vectors.Vector.{Vector}
+use Rattle.lrc_races_detector.specs.Chunks.{IsChunkRaised}
 use Rattle.lrc_races_detector.specs.Vectors.{IsPut, IsRaised, held}
 use Rattle.lrc_races_detector.specs.Within.{entries_of, row_in, within_at, AreWithin, IsGrown, IsWithinSet}
 use Rattle.lrc_races_detector.proofs.Pushing.{slice_get-set_same, slice_get-set_other}
@@ -45,6 +46,15 @@ raised_more old was new at value same raised thread =
           let here = raised.here in
           subst (λ k. slice_index was k ≤ slice_index new k) (sym own) (let f = ap (λ xs. slice_index xs at) same in omega arith)
       | inr other ↦ let stays = raised.others thread other in omega arith
+    ]
+
+pub chunk_more : (old was new : List ℕ) (chunk value : ℕ) → old ≡ was → IsChunkRaised old new chunk value
+    → (thread : ℕ) → slice_index was thread ≤ slice_index new thread
+chunk_more old was new chunk value same raised thread =
+    let e = ap (λ xs. slice_index xs thread) same in
+    elim (cases_eq (thread / 128) chunk) [
+      | inl own ↦ let now = raised.here thread own in omega (arith, e, now)
+      | inr other ↦ let now = raised.others thread other in omega (arith, e, now)
     ]
 
 put_more : (was new : List ℕ) (at value : ℕ) → IsPut was new at value → slice_index was at ≤ value → (thread : ℕ) → slice_index was thread ≤ slice_index new thread

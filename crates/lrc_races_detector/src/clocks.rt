@@ -1,10 +1,13 @@
 // Vectors of threads, or of locks.
-ghost use Rattle.std.specs.Prelude.{◌≡◌, ℕ, ◌<◌, ◌≤◌, [], IfSome, OnOk, Option, length, slice_get, true};
+ghost use Rattle.std.specs.Prelude.{◌≡◌, ℕ, ◌<◌, ◌≤◌, ◌+◌, ◌^◌, ◌/◌, [], IfSome, OnOk, Option, length, slice_get, slice_index, true};
 ghost use Rattle.std.specs.Bool.{OnTrue};
 ghost use Rattle.lrc_races_detector.specs.Within.{row_in, within_at, AreWithin, IsWithin, IsWithinSet};
 
 use crate::vectors::{Entry, Known, Vector};
 use std::alloc::{AllocError, Global};
+
+/// How many threads a chunk has.
+const SIZE: u32 = 128;
 
 /// A vector for each index: for each thread, the last of its positions that is known there plus one, or 0 if none is.
 #[derive(Drop)]
@@ -78,7 +81,7 @@ fn is_still(holds: bool, before: u64, after: u64) -> bool
 }
 
 impl Clocks {
-    ghost use Rattle.lrc_races_detector.specs.Clocks.{row, IsGained, IsReplaced, IsRowRaised, IsMarked};
+    ghost use Rattle.lrc_races_detector.specs.Clocks.{row, IsGained, IsLevelled, IsReplaced, IsRowLevelled, IsRowRaised, IsMarked};
     ghost use Rattle.lrc_races_detector.specs.Vectors.{entries};
 
     /// Returns the clocks that know nothing.
@@ -213,6 +216,46 @@ impl Clocks {
         reach(&mut self.rows, index)?;
         self.rows[index].put(thread, value)?;
         self.holds = holds;
+        Ok(())
+    }
+
+    // Whether at this index no less is known of each thread of a chunk than that knows of itself.
+    fn knows_all(&self, index: usize, first: u32) -> bool
+        requires { (first + 128) ≤ 2 ^ 32 }
+        ensures { OnTrue result ((thread : ℕ) → first ≤ thread → thread < first + 128
+            → slice_index (row self.now thread) thread ≤ slice_index (row self.now index) thread) }
+    {
+        for place in 0..SIZE {
+            let thread = first + place;
+            if self.row(index).of(thread) < self.row(thread as usize).of(thread) {
+                return false;
+            }
+        }
+        true
+    }
+
+    // Raises the entries of all threads of a chunk in what is known at this index.
+    fn level_row(&mut self, index: usize, chunk: usize, value: u64) -> Result<(), AllocError>
+        ensures { OnOk result (IsRowLevelled self.old self.new index chunk value) }
+    {
+        let holds = self.holds;
+        self.holds = false;
+        reach(&mut self.rows, index)?;
+        self.rows[index].level(chunk, value)?;
+        leave(&mut self.within, index);
+        self.holds = holds;
+        Ok(())
+    }
+
+    /// Where at an index no less is known of each thread of a thread's chunk than that knows of itself, all these entries
+    /// become no less than the value. It fails if memory runs out.
+    pub fn level(&mut self, index: usize, thread: u32, value: u64) -> Result<(), AllocError>
+        ensures { OnOk result (IsLevelled self.old self.new index (thread / 128) value) }
+    {
+        let chunk = thread / SIZE;
+        if self.knows_all(index, chunk * SIZE) {
+            return self.level_row(index, chunk as usize, value);
+        }
         Ok(())
     }
 }

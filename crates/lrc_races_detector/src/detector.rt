@@ -3,7 +3,7 @@ ghost use Rattle.std.specs.Prelude.{◌≡◌, ◌≢◌, ℕ, ◌+◌, ◌^◌,
 ghost use Rattle.lrc_races_trace.specs.declared.event.Event.{Event};
 ghost use Rattle.lrc_races_trace.specs.Trace.{At};
 ghost use Rattle.lrc_races_trace.specs.Races.{AreTold, AreToldAt};
-ghost use Rattle.lrc_races_detector.specs.Clocks.{row, IsGained};
+ghost use Rattle.lrc_races_detector.specs.Clocks.{row, IsGained, IsLevelled};
 ghost use Rattle.lrc_races_detector.specs.Covers.{operation_of, AreCovers};
 ghost use Rattle.lrc_races_detector.specs.Variables.{lasts_of, told_below, IsNoted};
 ghost use Rattle.lrc_races_detector.specs.Knowing.{Gathers, AreThreads, AreLocks, AreBarriers, AreVariables, IsReached, handed};
@@ -13,6 +13,7 @@ ghost use Rattle.lrc_races_detector.specs.Vectors.{entries};
 use crate::barriers::Barriers;
 use crate::clocks::Clocks;
 use crate::covers::{Cover, Covers};
+use crate::joins::Joins;
 use crate::variables::Variables;
 use crate::vectors::Known;
 use lrc_races_trace::event::{Event, Operation, Pair, Placed};
@@ -33,6 +34,8 @@ pub struct Detector {
     pub variables: Variables,
     /// The last access of each variable, where all others happen before it.
     pub covers: Covers,
+    /// How many threads were joined, so that what is known of all of them can be told in one.
+    pub joins: Joins,
 }
 
 /// Adds to what the thread of an event knows what the event learns from a lock, a barrier or a thread that it joins. It
@@ -58,6 +61,28 @@ pub fn receive(
         }
         Operation::Depart(barrier) => {
             threads.gain(thread, barriers.known(barrier as usize, thread))?;
+            Ok(())
+        }
+        _ => Ok(()),
+    }
+}
+
+/// Where an event joins a thread, and all is known there of the threads of a chunk, their entries may become the number
+/// of events so far: no event of theirs is below that but known ones. It fails if memory runs out.
+pub fn level(
+    threads: &mut Clocks,
+    joins: &mut Joins,
+    event: Event,
+    position: u64,
+) -> Result<(), AllocError>
+    ensures { OnOk result ((chunk : ℕ)
+        × IsLevelled threads.old threads.new event.thread chunk position) }
+{
+    match event.operation {
+        Operation::Join(other) => {
+            if joins.note(other)? {
+                return threads.level(event.thread as usize, other, position);
+            }
             Ok(())
         }
         _ => Ok(()),
@@ -229,6 +254,7 @@ impl Detector {
             barriers: Barriers::new(alloc),
             variables: Variables::new(alloc),
             covers: Covers::new(alloc),
+            joins: Joins::new(alloc),
         }
     }
 
@@ -245,6 +271,7 @@ impl Detector {
         ensures covers { self.new.covers ≡ self.old.covers }
     {
         receive(&mut self.threads, &self.locks, &self.barriers, event)?;
+        level(&mut self.threads, &mut self.joins, event, self.position)?;
         self.threads.mark(event.thread, self.position + 1)?;
         Ok(())
     }

@@ -2,10 +2,10 @@
 // they know alike.
 ghost use Rattle.std.specs.Prelude.{◌≡◌, ◌≢◌, ℕ, [], IfOk, OnOk, length, max, slice_index};
 ghost use Rattle.std.specs.Bool.{OnTrue};
-ghost use Rattle.lrc_races_detector.specs.Chunks.{IsLowered, chunks_of, values};
+ghost use Rattle.lrc_races_detector.specs.Chunks.{IsChunkRaised, IsLowered, chunks_of, values};
 ghost use Rattle.lrc_races_detector.specs.Vectors.{IsPut, IsRaised, apart_at, entries, greatest, held, rest};
 
-use crate::chunks::{join_all, list, lower, raise, share_all, value_of};
+use crate::chunks::{Chunk, join_all, level, list, lower, raise, share_all, value_of};
 use std::alloc::{AllocError, Global};
 use std::rc::Rc;
 
@@ -35,12 +35,13 @@ pub struct Known<'a> {
 /// knows only itself has no entry for each thread before it. A base is never written to, and copies of the vector share it.
 /// What was raised since stands among a few recent entries, until they are put into a new base. So what a thread has that was
 /// forked, and what one of them has that was joined by the one that forked it, is little, however many threads there are.
+/// Once a chunk of threads is level, one step tells what is known of all of them.
 #[derive(Drop)]
 pub struct Vector {
     apart: Option<Entry>,
     recent: Vec<Entry>,
-    others: Vec<Rc<Vec<u64>>>,
-    base: Option<Rc<Vec<Rc<Vec<u64>>>>>,
+    others: Vec<Chunk>,
+    base: Option<Rc<Vec<Chunk>>>,
 }
 
 // What the entry that stands apart says of a thread.
@@ -70,7 +71,7 @@ fn greatest(recent: &[Entry], thread: u32) -> u64
 }
 
 // Raises entries, those that are less. It fails if memory runs out.
-fn raise_all(chunks: &mut Vec<Rc<Vec<u64>>>, recent: &[Entry]) -> Result<(), AllocError>
+fn raise_all(chunks: &mut Vec<Chunk>, recent: &[Entry]) -> Result<(), AllocError>
     ensures { OnOk result ((thread : ℕ) → slice_index (values chunks.new.items) thread
         ≡ max (slice_index (values chunks.old.items) thread)
         (greatest recent.now thread (length recent.now))) }
@@ -82,7 +83,7 @@ fn raise_all(chunks: &mut Vec<Rc<Vec<u64>>>, recent: &[Entry]) -> Result<(), All
 }
 
 // The chunks of a base.
-fn chunks_of(base: &Option<Rc<Vec<Rc<Vec<u64>>>>>) -> &[Rc<Vec<u64>>]
+fn chunks_of(base: &Option<Rc<Vec<Chunk>>>) -> &[Chunk]
     ensures { result.now ≡ chunks_of base.now }
 {
     match base {
@@ -92,7 +93,7 @@ fn chunks_of(base: &Option<Rc<Vec<Rc<Vec<u64>>>>>) -> &[Rc<Vec<u64>>]
 }
 
 // Shares a base.
-fn shared(base: &Option<Rc<Vec<Rc<Vec<u64>>>>>) -> Result<Option<Rc<Vec<Rc<Vec<u64>>>>>, AllocError>
+fn shared(base: &Option<Rc<Vec<Chunk>>>) -> Result<Option<Rc<Vec<Chunk>>>, AllocError>
     ensures { IfOk result (λ copy. chunks_of copy ≡ chunks_of base.now) }
 {
     match base {
@@ -179,7 +180,7 @@ impl Vector {
     }
 
     // What it knows, but for the entry that stands apart, in chunks.
-    fn chunks(&self) -> Result<Vec<Rc<Vec<u64>>>, AllocError>
+    fn chunks(&self) -> Result<Vec<Chunk>, AllocError>
         ensures { IfOk result (λ chunks. (thread : ℕ)
             → slice_index (values chunks.items) thread ≡ slice_index (rest self.now) thread) }
     {
@@ -217,6 +218,28 @@ impl Vector {
         self.others.clear();
         self.recent.clear();
         Ok(())
+    }
+
+    // Raises all entries of a chunk that are less than this, and puts all but the one that stands apart into a new
+    // base.
+    fn level_rest(&mut self, chunk: usize, value: u64) -> Result<(), AllocError>
+        ensures rest { OnOk result (IsChunkRaised (rest self.old) (rest self.new) chunk value) }
+        ensures apart { self.new.apart ≡ self.old.apart }
+    {
+        let alloc = *self.others.allocator();
+        let mut all = self.chunks()?;
+        level(&mut all, chunk, value)?;
+        self.base = Some(Rc::new(alloc, all)?);
+        self.others.clear();
+        self.recent.clear();
+        Ok(())
+    }
+
+    /// Raises the entries of all threads of a chunk that are less than this. It fails if memory runs out.
+    pub(crate) fn level(&mut self, chunk: usize, value: u64) -> Result<(), AllocError>
+        ensures { OnOk result (IsChunkRaised (held self.old) (held self.new) chunk value) }
+    {
+        self.level_rest(chunk, value)
     }
 
     // Leaves fewer recent entries than this.

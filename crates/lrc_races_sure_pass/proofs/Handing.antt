@@ -1,5 +1,5 @@
 -- What an event gets leads to it.
-use Rattle.std.proofs.Common.{◌≡◌, ℕ, ◌+◌, ◌⊎◌, List, inl, inr, refl, sym, subst, ◌∙◌, ap}
+use Rattle.std.proofs.Common.{◌≡◌, ℕ, ◌+◌, ◌<◌, ◌/◌, ◌⊎◌, List, get_or, inl, inr, refl, sym, subst, ◌∙◌, ap, arith}
 use Rattle.std.proofs.lemmas.Bool.{cases_eq}
 use Rattle.std.specs.Prelude.{Option, Some, None, slice_get}
 use Rattle.lrc_races_trace.specs.declared.event.Event.{Event}
@@ -14,11 +14,12 @@ use Rattle.lrc_races_detector.specs.declared.clocks.Clocks.{Clocks}
 use Rattle.lrc_races_detector.specs.declared.barriers.Barrier.{Barrier}
 use Rattle.lrc_races_detector.specs.declared.barriers.Barriers.{Barriers}
 use Rattle.lrc_races_detector.specs.Barriers.{current_of, cycle_of, open_of, known_by}
-use Rattle.lrc_races_detector.specs.Clocks.{row, IsGained, IsMarked}
+use Rattle.lrc_races_detector.specs.Clocks.{row, IsGained, IsLevelled, IsMarked}
 use Rattle.lrc_races_detector.specs.Knowing.{Before, OfThread, ArrivesIn, Handed, handed}
 use Rattle.lrc_races_detector.proofs.Handing.{precedes_handed, thread_precedes, handed_by, known_open, known_closed}
 use Rattle.lrc_races_sure_pass.specs.Knowing.{Gathers, AreThreads, AreLocks, IsBarrier, AreBarriers, AreWrites, IsAsked, IsReached, ReadsFrom, written}
-use Rattle.lrc_races_sure_pass.proofs.Gathering.{Gathers-none, Gathers-same, Gathers-joined, Gathers-here}
+use Rattle.lrc_races_detector.proofs.Levelling.{gained_own}
+use Rattle.lrc_races_sure_pass.proofs.Gathering.{Gathers-none, Gathers-same, Gathers-joined, Gathers-here, Gathers-levelled}
 
 module _ (events : List Event) (n : ℕ) where
   cycle_gathers : (x t c : ℕ) (kept : Option Barrier) → IsBarrier events n x kept → cycle_of kept t ≡ Some c
@@ -57,17 +58,34 @@ module _ (events : List Event) (n : ℕ) where
     handed_gathers t (Arrive v) = Gathers-none events (λ k. ⊥) (λ k h. h)
     handed_gathers t Idle = Gathers-none events (λ k. ⊥) (λ k h. h)
 
-    pub asked : (b : Event) → At events n b → (after : Clocks)
-        → IsGained threads after b.thread (handed threads locks barriers b.thread b.operation) → IsAsked events n b.thread after
-    asked b here after gained = record {
-      own = Gathers-same events (λ k. Before n (OfThread events b.thread) k ⊎ Handed events n b.thread b.operation k) (λ k. Precedes events k n)
-          (row after b.thread)
-          (λ k h. elim h [ inl own ↦ thread_precedes events n k b here own | inr more ↦ handed_by events n k b here b.operation refl more ])
+    -- each thread knows of its own events
+    own_known : (between : Clocks) (t : ℕ) (known : List ℕ) → IsGained threads between t known
+        → (i : ℕ) (a : Event) → At events i a → i < n → i < get_or (row between a.thread) a.thread 0
+    own_known between t known gained i a at lt =
+        let below = (are_threads a.thread).complete i i a at (lt, (a, at, inl refl)) (inl refl) in
+        let le = gained_own threads between t known gained a.thread in
+        omega (arith, below, le)
+
+    pub asked : (b : Event) → At events n b → (between after : Clocks)
+        → IsGained threads between b.thread (handed threads locks barriers b.thread b.operation)
+        → (chunk : ℕ) → IsLevelled between after b.thread chunk n → IsAsked events n b.thread after
+    asked b here between after gained chunk level = record {
+      own = Gathers-levelled events (λ k. Precedes events k n) (λ t. t / 128 ≡ chunk) (row between b.thread)
+          (row after b.thread) (λ t. get_or (row between t) t 0) n level.here
+          (own_known between b.thread (handed threads locks barriers b.thread b.operation) gained)
+          (Gathers-same events (λ k. Before n (OfThread events b.thread) k ⊎ Handed events n b.thread b.operation k)
+          (λ k. Precedes events k n) (row between b.thread)
+          (λ k h. elim h [
+            | inl own ↦ thread_precedes events n k b here own
+            | inr more ↦ handed_by events n k b here b.operation refl more
+          ])
           (λ k p. precedes_handed events n k b here p)
-          (Gathers-joined events (Before n (OfThread events b.thread)) (Handed events n b.thread b.operation) (row threads b.thread)
-          (handed threads locks barriers b.thread b.operation) (row after b.thread) (are_threads b.thread)
-          (handed_gathers b.thread b.operation) gained.here);
-      others = λ u apart. subst (λ x. Gathers events (Before n (OfThread events u)) x) (sym (gained.others u apart)) (are_threads u);
+          (Gathers-joined events (Before n (OfThread events b.thread)) (Handed events n b.thread b.operation)
+          (row threads b.thread) (handed threads locks barriers b.thread b.operation) (row between b.thread)
+          (are_threads b.thread) (handed_gathers b.thread b.operation) gained.here));
+      others = λ u apart.
+          subst (λ x. Gathers events (Before n (OfThread events u)) x)
+          (sym (level.others u apart ∙ gained.others u apart)) (are_threads u);
     }
 
   -- ---- what is read

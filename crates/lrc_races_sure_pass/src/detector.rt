@@ -15,7 +15,8 @@ ghost use Rattle.lrc_races_sure_pass.specs.Detecting.{HasTaken};
 use lrc_races_detector::barriers::Barriers;
 use lrc_races_detector::clocks::Clocks;
 use lrc_races_detector::covers::Covers;
-use lrc_races_detector::detector::{access, cover_behind, cover_of, receive};
+use lrc_races_detector::detector::{access, cover_behind, cover_of, level, receive};
+use lrc_races_detector::joins::Joins;
 use lrc_races_detector::variables::Variables;
 use lrc_races_detector::vectors::Known;
 use lrc_races_trace::event::{Event, Operation, Pair, Placed};
@@ -38,6 +39,8 @@ pub struct SureDetector {
     pub writes: Clocks,
     /// The last access of each variable, where all others lead to it.
     pub covers: Covers,
+    /// How many threads were joined, so that what is known of all of them can be told in one.
+    pub joins: Joins,
 }
 
 // Tells the sure pairs of an access, and notes it.
@@ -193,6 +196,7 @@ impl SureDetector {
             variables: Variables::new(alloc),
             writes: Clocks::new(alloc),
             covers: Covers::new(alloc),
+            joins: Joins::new(alloc),
         }
     }
 
@@ -209,6 +213,7 @@ impl SureDetector {
         ensures covers { self.new.covers ≡ self.old.covers }
     {
         receive(&mut self.threads, &self.locks, &self.barriers, event)?;
+        level(&mut self.threads, &mut self.joins, event, self.position)?;
         Ok(())
     }
 
