@@ -1,0 +1,6 @@
+mod Rows
+mod Pushed
+mod Accesses
+mod Lasts
+mod Next
+mod Steps

@@ -1,0 +1,3 @@
+pub mod Words
+pub mod States
+pub mod Runs

@@ -1,0 +1,4 @@
+mod Changes
+mod Each
+mod Same
+mod Seen
