@@ -1,6 +1,6 @@
-mod Rows
+pub mod Rows
 mod Pushed
 mod Accesses
-mod Lasts
-mod Next
+pub mod Lasts
+pub mod Next
 mod Steps

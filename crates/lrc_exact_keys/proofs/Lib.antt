@@ -1,4 +1,8 @@
 mod Changes
 mod Each
+mod KeyOf
+mod Listed
+mod Machine
+mod Parts
 mod Same
 mod Seen

@@ -11,14 +11,14 @@ use Rattle.lrc_exact_copies.specs.declared.made.Made.{Made}
 use Rattle.lrc_exact_copies.specs.Made.{AreAmong, in_row, row_of}
 use Rattle.lrc_exact_judge.specs.Shape.{shape_of}
 use Rattle.lrc_exact_history.specs.declared.node.NodeState.{NodeState}
-use Rattle.lrc_exact_history.specs.Runs.{IsHistoryAt, time_of}
+use Rattle.lrc_exact_history.specs.Runs.{IsHistoryAt, kept_before, time_of}
 use Rattle.lrc_exact_history.specs.States.{IsStateOf}
 use Rattle.lrc_exact_history.specs.Words.{IsTimeOf}
 use Rattle.lrc_exact_history.proofs.Lasts.{AreBoth, at-both, both, last-both, neither, time-wide}
 use Rattle.lrc_exact_history.proofs.Next.{held_is}
 use Rattle.lrc_exact_states.specs.Levels.{Change, last_change}
 use Rattle.lrc_exact_states.specs.Key.{at_arrive, at_lock, at_node, capped_above, change_kept, each_from, Gap, gap_of, gaps_of, handed_on, heights_of, is_above, known_at, Place}
-use Rattle.lrc_exact_states.specs.Runs.{Base}
+use Rattle.lrc_exact_states.specs.Runs.{Base, here}
 use Rattle.lrc_exact_keys.specs.declared.run_places.SeenHistory.{SeenHistory}
 use Rattle.lrc_exact_keys.specs.Kept.{handed_time, time_seen}
 use Rattle.lrc_exact_keys.specs.Places.{IsPlaceOf, known_there}
@@ -98,6 +98,15 @@ map_agree {B = B} f g same (x ∷ xs) = ap₂ (λ (y : B) (ys : List B). y ∷ y
 
 -- ---- each place
 
+-- what is kept of a node is its state
+pub held_at : (seen : SeenHistory) (states : List State) → IsHistoryAt seen.acts.now states seen.history.now → (node : ℕ)
+    → IsStateOf seen.history.now.layout.nodes seen.history.now.words seen.history.now.made.items
+    (kept_before seen.history.now.begun seen.acts.now seen.history.now.states.items node)
+    (here (shape_of seen.history.now.layout) seen.acts.now states node)
+held_at seen states at node =
+    held_is seen.history.now.layout.nodes seen.history.now.words seen.history.now.made.items seen.history.now.states.items states at.states_are
+    (shape_of seen.history.now.layout) refl seen.history.now.begun at.first seen.acts.now node
+
 module _ (seen : SeenHistory) (states : List State) (at : IsHistoryAt seen.acts.now states seen.history.now)
     (wide : length seen.floor.now ≡ seen.history.now.layout.nodes) where
   abbrev nodes : ℕ
@@ -139,8 +148,7 @@ module _ (seen : SeenHistory) (states : List State) (at : IsHistoryAt seen.acts.
 
   pub seen_at : (place : Place) → IsSeenAt nodes seen.history.now.made.items (time_seen seen place) (known_at shape base_of seen.acts.now states place)
   seen_at (at_node node) =
-      let h = held_is nodes seen.history.now.words seen.history.now.made.items seen.history.now.states.items states at.states_are shape refl seen.history.now.begun
-      at.first seen.acts.now node in
+      let h = held_at seen states at node in
       record { time_is = h.shows.time_is; wide = h.shows.wide; among = h.among }
   seen_at (at_lock lock) = handed_both (released_state seen.acts.now seen.history.now.states.items lock (length seen.acts.now)) (released_state seen.acts.now states lock (length seen.acts.now))
       (lasts (releases_at seen.acts.now lock))

@@ -1,6 +1,6 @@
 // The key of a run.
 
-ghost use Rattle.std.specs.Prelude.{◌≡◌, ◌-◌, ◌<◌, ◌≤◌, ℕ, IfOk, List, Option, Some, Vec, length, map, slice_get};
+ghost use Rattle.std.specs.Prelude.{◌≡◌, ◌+◌, ◌-◌, ◌<◌, ◌≤◌, ◌^◌, ℕ, IfOk, List, Option, Some, Vec, length, map, slice_get, slice_index};
 ghost use Rattle.std.specs.declared.alloc.Global.{Global as GlobalType};
 ghost use Rattle.lrc_trace.specs.declared.act.Deed.{Deed as DeedType};
 ghost use Rattle.lrc_trace.specs.Run.{Does};
@@ -26,6 +26,7 @@ use crate::places::{gaps_of_all, heights_of_place};
 use crate::run_places::{SeenHistory, times_at_places};
 use lrc_exact_history::words::KeptWord;
 use lrc_exec::spot::Flat;
+use lrc_exact_states::laws::the_machine_has_its_part_of_a_key;
 use lrc_exec::state::{State, copied};
 use lrc_orders::notes::note;
 use lrc_program::Program;
@@ -35,7 +36,8 @@ use std::alloc::{AllocError, Global};
 
 // How much each number is more than the first.
 fn numbers_since(alloc: Global, first: u64, numbers: &[u64]) -> Result<Vec<u64>, AllocError>
-    ensures { IfOk result (λ since. since.items ≡ map (λ (number : ℕ). number - first) numbers.now) }
+    ensures numbers { IfOk result (λ since. since.items ≡ map (λ (number : ℕ). number - first) numbers.now) }
+    ensures room { IfOk result (λ since. (place : ℕ) → slice_index since.items place + first < 2 ^ 64) }
 {
     let mut since = Vec::new(alloc);
     for number in numbers {
@@ -65,17 +67,17 @@ fn words_of_nodes(
     requires history { IsHistoryOf seen.acts.now seen.history.now }
     requires words { seen.history.now.words ≡ measure.words }
     ensures words { IfOk result (λ rows. (states : List StateType)
-        → IsHistoryAt seen.acts.now states seen.history.now
+        → IsHistoryAt seen.entry.acts.now states seen.entry.history.now
         → map (λ (row : Vec KeptWordType GlobalType). map word_seen row.items) rows.items
-        ≡ each_from 0 seen.history.now.layout.nodes (λ (node : ℕ). each_from 0 measure.words
+        ≡ each_from 0 seen.entry.history.now.layout.nodes (λ (node : ℕ). each_from 0 measure.words
         (λ (word : ℕ). word_kept measure.cap measure.bound
-        ((here (shape_of seen.history.now.layout) seen.acts.now states node).words word)))) }
+        ((here (shape_of seen.entry.history.now.layout) seen.entry.acts.now states node).words word)))) }
     ensures before { IfOk result (λ rows. (states : List StateType)
-        → IsHistoryAt seen.acts.now states seen.history.now
+        → IsHistoryAt seen.entry.acts.now states seen.entry.history.now
         → map (λ (row : Vec KeptWordType GlobalType).
         map (λ (word : KeptWordType). word.before) row.items) rows.items
-        ≡ each_from 0 seen.history.now.layout.nodes (λ (node : ℕ). each_from 0 measure.words
-        (here (shape_of seen.history.now.layout) seen.acts.now states node).before)) }
+        ≡ each_from 0 seen.entry.history.now.layout.nodes (λ (node : ℕ). each_from 0 measure.words
+        (here (shape_of seen.entry.history.now.layout) seen.entry.acts.now states node).before)) }
 {
     let mut rows = Vec::new(alloc);
     for node in 0..seen.history.layout.nodes {
@@ -125,30 +127,28 @@ pub fn key_of_run(
         (plain_at flat.now state.now) }
     requires short { length seen.acts.now < 4294967296 }
     ensures { IfOk result (λ key. (states : List StateType)
-        → KeepsExact (shape_of seen.history.now.layout) seen.acts.now states
-        → key_seen flat.now seen.history.now.layout.nodes program.now.locks key
-        ≡ key_of program.now (shape_of seen.history.now.layout) cap (base_seen seen)
-        seen.acts.now states) }
+        → KeepsExact (shape_of seen.entry.history.now.layout) seen.entry.acts.now states
+        → key_seen flat.now seen.entry.history.now.layout.nodes program.now.locks key
+        ≡ key_of program.now (shape_of seen.entry.history.now.layout) cap (base_seen seen.entry)
+        seen.entry.acts.now states) }
 {
+    // For the proof: spots, holders and counts are those of the machine.
+    the_machine_has_its_part_of_a_key();
     let measure = Measure {
         cap,
         bound: seen.floor.weight(),
         words: program.words,
     };
-    let since = numbers_since(alloc, seen.first, state.arrivals.as_slice())?;
-    let times = times_at_places(alloc, seen, program.locks, since.as_slice())?;
+    let arrived = numbers_since(alloc, seen.first, state.arrivals.as_slice())?;
+    let times = times_at_places(alloc, seen, program.locks, arrived.as_slice())?;
+    let made = seen.history.made.as_slice();
     Ok(RunKey {
         spots: copied(alloc, state.spots.as_slice())?,
         holders: copied(alloc, state.holders.as_slice())?,
-        arrived: since,
+        arrived,
         notes: notes_of(alloc, seen.history.layout.nodes, seen.acts)?,
         words: words_of_nodes(alloc, measure, seen)?,
         heights: heights_of_places(alloc, cap, seen.floor, times.as_slice())?,
-        gaps: gaps_of_all(
-            alloc,
-            measure,
-            seen.history.made.as_slice(),
-            times.as_slice(),
-        )?,
+        gaps: gaps_of_all(alloc, measure, made, times.as_slice())?,
     })
 }

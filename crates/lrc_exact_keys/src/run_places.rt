@@ -43,7 +43,7 @@ fn handed(floor: &Time, time: Option<Time>) -> Option<Time>
 fn add_nodes(seen: SeenHistory<'_>, times: &mut Vec<Option<Time>>) -> Result<(), AllocError>
     requires { IsHistoryOf seen.acts.now seen.history.now }
     ensures { OnOk result (times.new.items ≡ times.old.items
-        ++ map (time_seen seen) (each_from 0 seen.history.now.layout.nodes at_node)) }
+        ++ map (time_seen seen.entry) (each_from 0 seen.entry.history.now.layout.nodes at_node)) }
 {
     for node in 0..seen.history.layout.nodes {
         let time = seen.history.held(seen.acts, node).time.copy();
@@ -61,7 +61,7 @@ fn add_locks(
     requires history { IsHistoryOf seen.acts.now seen.history.now }
     requires wide { length seen.floor.now ≡ seen.history.now.layout.nodes }
     ensures { OnOk result (times.new.items ≡ times.old.items
-        ++ map (time_seen seen) (each_from 0 locks at_lock)) }
+        ++ map (time_seen seen.entry) (each_from 0 locks at_lock)) }
 {
     for lock in 0..locks {
         let time = released(seen.history.states.as_slice(), seen.acts, lock);
@@ -80,7 +80,7 @@ fn add_arrives(
     requires short { length seen.acts.now < 4294967296 }
     requires room { many + seen.first < 2 ^ 64 }
     ensures { OnOk result (times.new.items ≡ times.old.items
-        ++ map (time_seen seen) (each_from 0 many (λ (number : ℕ). at_arrive number node))) }
+        ++ map (time_seen seen.entry) (each_from 0 many (λ (number : ℕ). at_arrive number node))) }
 {
     for number in 0..many {
         let states = seen.history.states.as_slice();
@@ -101,8 +101,8 @@ pub fn times_at_places(
     requires all { length since.now ≡ seen.history.now.layout.nodes }
     requires short { length seen.acts.now < 4294967296 }
     requires room { (node : ℕ) → slice_index since.now node + seen.first < 2 ^ 64 }
-    ensures { IfOk result (λ times. times.items ≡ map (time_seen seen)
-        (places_of seen.history.now.layout.nodes locks (slice_index since.now))) }
+    ensures { IfOk result (λ times. times.items ≡ map (time_seen seen.entry)
+        (places_of seen.entry.history.now.layout.nodes locks (slice_index since.now))) }
 {
     let mut times = Vec::new(alloc);
     add_nodes(seen, &mut times)?;

@@ -1,4 +1,3 @@
--- Written, not checked: the names of steps are guessed.
 use Rattle.std.proofs.Common.{◌≡◌, ℕ, suc, ◌+◌, ◌++◌, [], List, ap, map, subst, sym, ◌∙◌, append_assoc, arith}
 use Rattle.std.specs.Prelude.{◌-◌, Option, slice_index}
 use Rattle.std.proofs.lemmas.List.{append-nil}
@@ -34,7 +33,9 @@ loop-below-preserved c =
     let here : List Place = each_from 0 (count node) (λ (number : ℕ). at_arrive number node) in
     let next : nodes - (below + 1) ≡ node = omega (arith, test) in
     let one : suc node ≡ nodes - below = omega (arith, test) in
-    ap (λ (xs : List (Option (List ℕ))). xs ++ map f (arrives_of (nodes - (below + 1)) count)) c.in_ok-add_arrives.ensures
+    let rest : List (Option (List ℕ)) = map f (arrives_of (nodes - (below + 1)) count) in
+    ap (λ (xs : List (Option (List ℕ))). xs ++ rest) c.in_ok-add_arrives.ensures
+    ∙ ap (λ (i : ℕ). (old ++ map f (each_from 0 (count i) (λ (number : ℕ). at_arrive number node))) ++ rest) c.from.ensures
     ∙ ap (λ (n : ℕ). (old ++ map f here) ++ map f (arrives_of n count)) next
     ∙ append_assoc old (map f here) (map f (arrives_of node count))
     ∙ ap (λ (xs : List (Option (List ℕ))). old ++ xs) (sym (map-append f here (arrives_of node count)))
