@@ -25,8 +25,8 @@ use crate::key::RunKey;
 use crate::places::{gaps_of_all, heights_of_place};
 use crate::run_places::{SeenHistory, times_at_places};
 use lrc_exact_history::words::KeptWord;
-use lrc_exec::spot::Flat;
 use lrc_exact_states::laws::the_machine_has_its_part_of_a_key;
+use lrc_exec::spot::Flat;
 use lrc_exec::state::{State, copied};
 use lrc_orders::notes::note;
 use lrc_program::Program;
@@ -36,8 +36,10 @@ use std::alloc::{AllocError, Global};
 
 // How much each number is more than the first.
 fn numbers_since(alloc: Global, first: u64, numbers: &[u64]) -> Result<Vec<u64>, AllocError>
-    ensures numbers { IfOk result (λ since. since.items ≡ map (λ (number : ℕ). number - first) numbers.now) }
-    ensures room { IfOk result (λ since. (place : ℕ) → slice_index since.items place + first < 2 ^ 64) }
+    ensures numbers { IfOk result (λ since. since.items
+        ≡ map (λ (number : ℕ). number - first) numbers.now) }
+    ensures room { IfOk result (λ since. (place : ℕ)
+        → slice_index since.items place + first < 2 ^ 64) }
 {
     let mut since = Vec::new(alloc);
     for number in numbers {
