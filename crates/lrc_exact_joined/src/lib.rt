@@ -10,7 +10,7 @@
 //! the very definitions (`last_state` over what is kept), and no invariant of a machine is needed. It is slow (a copy of the node's
 //! words for each act), and wants only `collect` to be 0.
 //!
-//! 1. Done: `lrc_exact_history` (`history_of` is the history of a run, `IsHistoryOf`).
+//! 1. `lrc_exact_history` (`history_of` is the history of a run, `IsHistoryOf`), proved function by function; the whole was never checked.
 //! 2. Done: the law `laws::search_by_keys_finds_all`; `met`: a run that is met, and its base; `specs/Searching.antt`: the search.
 //! 3. `lrc_exact_keys`. Its `key`, `gaps`, `places` and `decided` were proved before they moved there. `kept_words`, `run_places` and
 //!    `proofs/Seen.antt` were checked, with no hole, in a scratch crate that joined them to the files below that they cite (`Seen` has
