@@ -1,4 +1,5 @@
 mod Changes
+mod Decides
 mod Each
 mod KeyOf
 mod Listed

@@ -4,6 +4,7 @@ use Rattle.lrc_exact.specs.LocalRule.{arrived_state, released_state}
 use Rattle.lrc_exact_history.specs.Runs.{kept_before, time_of}
 use Rattle.lrc_exact_states.specs.Key.{at_arrive, at_lock, at_node, is_above, Place}
 use Rattle.lrc_exact_states.specs.Runs.{Base}
+use Rattle.lrc_exact_keys.specs.declared.level.KeptBase.{KeptBase}
 use Rattle.lrc_exact_keys.specs.declared.run_places.SeenHistory.{SeenHistory}
 
 -- how much a lock hands on, if not all nodes know it
@@ -18,6 +19,10 @@ time_seen seen (at_lock lock) =
     handed_time (length seen.floor.now) seen.floor.now (time_of (released_state seen.acts.now seen.history.now.states.items lock (length seen.acts.now)))
 time_seen seen (at_arrive number node) =
     time_of (arrived_state seen.acts.now seen.history.now.states.items (number + seen.first) (length seen.acts.now) node)
+
+-- a base that is kept
+abbrev pub base_kept : KeptBase → Base
+base_kept base = record { floor = base.floor; first = base.first }
 
 -- the base from which it is seen
 abbrev pub base_seen : SeenHistory → Base

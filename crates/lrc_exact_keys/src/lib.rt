@@ -7,6 +7,7 @@ pub mod decided;
 pub mod gaps;
 pub mod kept_words;
 pub mod key;
+pub mod level;
 pub mod places;
 pub mod run_key;
 pub mod run_places;
