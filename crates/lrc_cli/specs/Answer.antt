@@ -168,7 +168,7 @@ IsShown None exploring text program out status = IsSaid exploring text program o
 abbrev pub IsExploration : Exploring → ReadText → Program → List ℕ → ℕ → Type 0
 IsExploration exploring text program out status = IsShown exploring.events exploring text program out status
 
--- So it is of what a search met that gives up among too many states: the text is that, and the fault is told behind it.
+-- So it is of what a search met that was cut short: the text is that, and the fault is told behind it.
 abbrev pub IsSaidMet : Exploring → ReadText → Program → List ℕ → Fault → Type 0
 IsSaidMet exploring text program out fault = (places : List ℕ) × AreLines text program places
     × IsMetIn exploring.memory exploring (wording_in text program) program places out fault
@@ -239,7 +239,7 @@ Prints (Lint file) text events_text out status = IsLinted file.now text out stat
 Prints (WhyActs acts asking) text events_text out status = IsReasoned acts asking text out status
 Prints (ChartActs acts charting) text events_text out status = IsActsCharted acts charting text out status
 
--- What is printed before a fault: what a search met that gives up among too many states.
+-- What is printed before a fault: what a search met that was cut short.
 abbrev pub Meets : Choice → List ℕ → List ℕ → Fault → Type 0
 Meets (Explore exploring) text out fault = HoldsAsRead text (λ nodes read. (program : Program) × IsTextOf read.core program
     × IsExplorationMet (exploring_for exploring nodes) read program out fault)

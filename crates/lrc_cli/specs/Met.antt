@@ -1,4 +1,4 @@
--- What a search tells that gives up among too many states, before the fault that says so.
+-- What a search tells that was cut short, before the fault that says so.
 use Rattle.std.specs.Prelude.{◌≡◌, ℕ, Bool, true, false, not, List, Option, None, Some}
 use Rattle.lrc_program.specs.declared.Program.{Program}
 use Rattle.lrc_explain_waits.specs.Traps.{Wording}

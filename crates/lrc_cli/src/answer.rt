@@ -35,7 +35,7 @@ pub enum Answered {
     Printed(Printout),
     /// A judgement of acts. Its racing pairs are found while they are written.
     Judged(PairsJudgement),
-    /// What a search met that gives up among too many states: the parts of a text, and the fault that is told behind it.
+    /// What a search met that was cut short: the parts of a text, and the fault that is told behind it.
     Met(Vec<Vec<u8>>, Fault),
 }
 

@@ -21,12 +21,12 @@ pub enum CalmRun {
     Run(Vec<Act>),
     /// There are fewer outcomes.
     Fewer,
-    /// Some order races, or a search met too many states.
+    /// Some order races, or a search was cut short.
     Unknown,
 }
 
 /// Returns the outcomes of all orders, or nothing. It returns them only if no order races; they are the outcomes of the
-/// exact runs, too. That it returns nothing only where a search met too many states or a race is code alone. Fails if
+/// exact runs, too. That it returns nothing only where a search was cut short or met a race is code alone. Fails if
 /// memory runs out.
 pub fn calm_outcomes(
     alloc: Global,

@@ -1,4 +1,4 @@
--- Events along an order that a search met that gave up among too many states.
+-- Events along an order that a search met that was cut short.
 use Rattle.std.specs.Prelude.{ℕ, Bool, List, None, option_map}
 use Rattle.lrc_program.specs.declared.Program.{Program}
 use Rattle.lrc_orders.specs.declared.search.Findings.{Findings}

@@ -45,7 +45,7 @@ pub struct Shown {
 pub enum Showing {
     /// Events along the order that is asked for, and the status after them.
     All(Shown),
-    /// Events along such an order of those that were met among too many states. Behind them a fault is to be told.
+    /// Events along such an order of those that a search met that was cut short. Behind them a fault is to be told.
     Many(Vec<u8>),
 }
 
@@ -197,7 +197,7 @@ fn found_shown(
     Ok(Shown { text, status })
 }
 
-// Events along an order of those that were met among too many states.
+// Events along an order of those that a search met that was cut short.
 fn met_shown(
     alloc: Global,
     program: &Program,

@@ -16,6 +16,6 @@ pub data Explores (wording : Wording) (program : Program) (nodes : ℕ) (lines :
 abbrev pub MeetsTooMany : Program → (nodes most : ℕ) → (outcomes : Bool) → Type 0
 MeetsTooMany program nodes most outcomes = MetTooMany program nodes most outcomes (not outcomes)
 
--- what was met among too many states is told, where no outcomes are asked for
+-- what a search met that was cut short is told, where no outcomes are asked for
 abbrev pub MeetsMany : Wording → Program → (nodes : ℕ) → (lines : List ℕ) → (most : ℕ) → (outcomes : Bool) → List ℕ → Type 0
 MeetsMany wording program nodes lines most outcomes out = (outcomes ≡ false) × TellsMet wording program nodes lines most true out

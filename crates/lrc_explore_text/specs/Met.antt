@@ -1,4 +1,4 @@
--- What a search met that gives up among too many states, as it is printed.
+-- What a search met that was cut short, as it is printed.
 use Rattle.std.specs.Prelude.{◌≡◌, ℕ, Bool, true, false, List, [], ◌++◌, Option, Some, None, option_map}
 use Rattle.lrc_program.specs.declared.Program.{Program}
 use Rattle.lrc_explain_waits.specs.Traps.{Wording}

@@ -24,8 +24,8 @@ use std::alloc::{AllocError, Global};
 
 /// Searches every order in which `nodes` nodes can run a program, and returns what is printed: whether an order races, if
 /// `races` is true, and if none does, whether one gets stuck, whether a node traps in one, and whether every order can
-/// end; or what was met among too many states. The lines of nodes have the labels of words and locks. Fails as `explored`
-/// does.
+/// end; or what a search met that was cut short. The lines of nodes have the labels of words and locks. Fails as
+/// `explored` does.
 pub fn explored_ends(
     alloc: Global,
     wording: &Wording<'_, '_>,

@@ -28,7 +28,7 @@ pub struct Printout {
 pub enum Told {
     /// All that was asked for.
     All(Printout),
-    /// What was met among too many states: the parts of a text. Behind it a fault is to be told.
+    /// What a search met that was cut short: the parts of a text. Behind it a fault is to be told.
     Many(Vec<Vec<u8>>),
 }
 

@@ -1,4 +1,4 @@
-// What a search met that gives up among too many states, as it is printed.
+// What a search met that was cut short, as it is printed.
 
 ghost use Rattle.std.specs.Prelude.{◌≡◌, ℕ, Bool, IfOk, map, option_map};
 ghost use Rattle.lrc_exec.specs.Nodes.{AreNodes};

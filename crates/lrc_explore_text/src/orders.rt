@@ -33,8 +33,8 @@ use lrc_text::{first_race_part, races_part};
 use lrc_trace::act::Act;
 use std::alloc::{AllocError, Global};
 
-/// Returns what is printed of the verdict on a program, and of the order that it names, or of what was met among too many
-/// states. The lines of stuck nodes have the labels of words and locks.
+/// Returns what is printed of the verdict on a program, and of the order that it names, or of what a search
+/// met that was cut short. The lines of stuck nodes have the labels of words and locks.
 pub(crate) fn orders_told(
     alloc: Global,
     wording: &Wording<'_, '_>,
@@ -65,8 +65,8 @@ pub(crate) fn orders_told(
     }
 }
 
-/// Returns what is printed of stuck orders and of traps of a program, whether or not an order races, or of what was met
-/// among too many states. The lines of nodes have the labels of words and locks. Fails as `explored` does.
+/// Returns what is printed of stuck orders and of traps of a program, whether or not an order races, or of what a
+/// search met that was cut short. The lines of nodes have the labels of words and locks. Fails as `explored` does.
 pub fn findings_told(
     alloc: Global,
     wording: &Wording<'_, '_>,
