@@ -1,6 +1,7 @@
 pub mod Rows
+mod Past
 mod Pushed
-mod Accesses
+pub mod Accesses
 pub mod Lasts
 pub mod Next
 mod Steps

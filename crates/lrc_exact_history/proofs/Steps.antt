@@ -21,6 +21,7 @@ use Rattle.lrc_exact_history.specs.States.{by_itself, is_closing, IsStateOf, Sho
 use Rattle.lrc_exact_history.specs.Words.{IsTimeOf}
 use Rattle.lrc_exact_history.specs.Runs.{AreKeptOf, Closes, if_told, IsHistoryAt, IsToldBy, kept_before, news_of, told}
 use Rattle.lrc_exact_history.proofs.Lasts.{AreBoth, at-both, both, neither}
+use Rattle.lrc_exact_history.proofs.Past.{past_next}
 use Rattle.lrc_exact_history.proofs.Next.{are_next, closed_is, held, IsClosedTo, IsKnown, keeps_next, news_are, own_next, short_next}
 
 -- what stands for a state knows so many nodes
@@ -151,6 +152,8 @@ module _ (history : History) (run : List Act) (states : List State) (at : IsHist
             at.first at.rows at.own at.short closes next calm named;
         short = short_next history.layout history.words history.made.items made history.states.items history.begun run states act within at.keeps at.states_are
             at.first at.rows at.own at.short closes next calm named;
+        past = past_next history.made.items made act.node history.words act.deed old closes
+            (λ word le. let all = held_here.shows.all_words in held_here.shows.words_are.no_more word (omega (arith, le, all))) at.past;
       }
 
 -- the same of what has equal parts

@@ -11,7 +11,7 @@ use Rattle.lrc_exact.specs.LocalRule.{arrived_state, last_state, released_state,
 use Rattle.lrc_exact.specs.Memory.{Interval}
 use Rattle.lrc_exact.specs.Rule.{exact_rule, KeepsExact, Knowledge, known_by_all, open_interval, State, state_at_start, with_learned}
 use Rattle.lrc_exact_copies.specs.declared.made.Made.{Made}
-use Rattle.lrc_exact_copies.specs.Made.{AreAmong, interval_of, row_of}
+use Rattle.lrc_exact_copies.specs.Made.{AreAmong, in_row, interval_of, row_of}
 use Rattle.lrc_exact_judge.specs.declared.layout.Layout.{Layout}
 use Rattle.lrc_exact_judge.specs.Shape.{shape_of}
 use Rattle.lrc_exact_history.specs.declared.history.History.{History}
@@ -102,6 +102,8 @@ pub record AreKeptOf (layout : Layout) (words : ℕ) (begun : NodeState) (made :
   pub own : (q : ℕ) → q < layout.nodes
       → entry (state_before (exact_rule (shape_of layout)) run states q (length run)).knows.time q ≡ length (row_of made q)
   pub short : (q : ℕ) → length (row_of made q) ≤ length run
+  -- no interval changed a word past these
+  pub past : (q index word : ℕ) → words ≤ word → (in_row (row_of made q) index).changed word ≡ None
 
 abbrev pub IsHistoryAt : List Act → List State → History → Type 0
 IsHistoryAt run states history = AreKeptOf history.layout history.words history.begun history.made.items history.states.items run states

@@ -105,8 +105,8 @@ fn known_by_all(states: &[NodeState], acts: &[Act], number: u64, nodes: u8) -> T
     all
 }
 
-// How much an act tells its node, if it may tell it something.
-fn news(states: &[NodeState], acts: &[Act], act: Act, nodes: u8) -> Option<Time>
+/// How much an act tells its node, if it may tell it something.
+pub fn news(states: &[NodeState], acts: &[Act], act: Act, nodes: u8) -> Option<Time>
     requires short { length acts.now < 4294967296 }
     requires some { 1 ≤ nodes }
     requires few { nodes ≤ 16 }

@@ -46,8 +46,8 @@ fn own_pages(alloc: Global, size: u32, deed: Deed, pages: &[u32]) -> Result<Vec<
     Ok(own)
 }
 
-// How many intervals a node knows after a deed, with what the deed tells it left out.
-fn own_time(node: u8, deed: Deed, time: &Time) -> Time
+/// How many intervals a node knows after a deed, with what the deed tells it left out.
+pub fn own_time(node: u8, deed: Deed, time: &Time) -> Time
     requires node { node < length time.now }
     requires room { entry time.now node < 4294967295 }
     ensures time { (shape : Shape) (state : State) → state.knows.time ≡ time.now

@@ -70,6 +70,19 @@ fn is_arrive(deed: Deed) -> bool
     matches!(deed, Deed::Arrive)
 }
 
+/// How often a node has arrived.
+pub fn arrives(acts: &[Act], node: u8) -> u64
+    ensures { result ≡ arrives_before acts.now node (length acts.now) }
+{
+    let mut arrives = 0;
+    for act in acts {
+        if act.node == node && matches!(act.deed, Deed::Arrive) {
+            arrives += 1;
+        }
+    }
+    arrives
+}
+
 /// How often a node has departed.
 pub fn departs(acts: &[Act], node: u8) -> u64
     ensures { result ≡ departs_before acts.now node (length acts.now) }

@@ -1,1 +1,5 @@
 mod Found
+mod Held
+mod Decides
+mod Leading
+mod Meeting

@@ -1,1 +1,4 @@
+pub mod Bases
 pub mod Searching
+pub mod Kept
+pub mod Fits

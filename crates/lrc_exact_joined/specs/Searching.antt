@@ -14,10 +14,11 @@ use Rattle.lrc_exact_states.specs.Keyed.{HasKeyOf}
 use Rattle.lrc_exact_states.specs.Runs.{Base, IsDecidedDeed}
 use Rattle.lrc_exact_states.specs.Searched.{first_seen, IsLookingForEver, IsReached, IsSeenFrom, Seen}
 use Rattle.lrc_exact_joined.specs.declared.met.SeenRun.{SeenRun}
+use Rattle.lrc_exact_joined.specs.Bases.{base_kept}
 
 -- the run that is kept, and from where it is seen
 abbrev pub seen_of : SeenRun → Seen
-seen_of met = record { acts = met.acts.items; base = record { floor = met.floor; first = met.first } }
+seen_of met = record { acts = met.acts.items; base = base_kept met.base }
 
 -- acts lead to all of these, and the run without acts is one
 pub record AreReached (program : Program) (shape : Shape) (runs : List SeenRun) : Type 0 where
@@ -86,3 +87,14 @@ abbrev pub SearchByKeysFindsAll : Type 0
 SearchByKeysFindsAll = (program : Program) (shape : Shape) (cap : ℕ) (runs : List SeenRun) (outcomes : List Outcome) → shape.collect ≡ 0 → 1 ≤ cap
     → AreReached program shape runs → AreSearchedByKeys program shape cap runs outcomes (length runs) → (notes : List Act)
     → IsExactOutcome program shape notes → HasOutcome outcomes notes
+
+-- No more runs than a bound, with as many keys, are enough: the run without acts is among them, and what comes after each, and all outcomes
+-- are gathered.
+pub record FitsByKeys (program : Program) (shape : Shape) (most : ℕ) (outcomes : List Outcome) : Type 0 where
+  pub cap : ℕ
+  pub some : 1 ≤ cap
+  pub calm : shape.collect ≡ 0
+  pub runs : List SeenRun
+  pub few : length runs ≤ most
+  pub reached : AreReached program shape runs
+  pub searched : AreSearchedByKeys program shape cap runs outcomes (length runs)

@@ -26,5 +26,11 @@
 //!    words are great: the square of the number of places, times nodes and words.
 #![tactic(auto)]
 
+pub mod base;
+pub mod decided;
+pub mod going;
+pub mod keyed;
 pub mod laws;
 pub mod met;
+pub mod outcomes;
+pub mod search;

@@ -1,4 +1,4 @@
-mod Changes
+pub mod Changes
 mod Each
 mod KeyOf
 mod Listed

@@ -54,7 +54,7 @@ pub fn are_decided(
     now: KeptWord,
 ) -> bool
     requires few { length made.now ≤ 16 }
-    requires had { IsTimeOf (length made.now) made.now had.now }
+    requires had { length had.now ≡ length made.now }
     requires news { IsTimeOf (length made.now) made.now news.now }
     ensures { result ≡ true → (floor : List ℕ) → weight_of floor ≡ measure.bound
         → AreDecided measure.cap floor (length made.now) had.now (known_of made.now news.now) word

@@ -1,0 +1,60 @@
+-- Acts that lead from one run to another.
+use Rattle.std.proofs.Common.{◌≡◌, ℕ, ◌+◌, ◌≤◌, List, [], ◌∷◌, ◌++◌, length, refl, arith}
+use Rattle.std.proofs.lemmas.List.{length_push}
+use Rattle.lrc_program.specs.declared.Program.{Program}
+use Rattle.lrc_time.proofs.Times.{length-zeros}
+use Rattle.lrc_trace.specs.declared.act.Act.{Act}
+use Rattle.lrc_trace.specs.declared.act.Deed.{Deed}
+use Rattle.lrc_lazy.specs.Swapped.{IsNoAcquire}
+use Rattle.lrc_exact.specs.Rule.{Shape, State}
+use Rattle.lrc_exact_laws.specs.Laws.{IsExactRun}
+use Rattle.lrc_exact_search.proofs.Standing.{none_yet}
+use Rattle.lrc_exact_states.specs.Runs.{Base, IsDecidedDeed}
+use Rattle.lrc_exact_states.specs.Searched.{as_before, begins, from_level, goes_on, IsReached, IsSeenFrom, Seen}
+use Rattle.lrc_exact_joined.specs.Searching.{IsDecidedNext, IsFree, LeadsAhead, onward, still}
+use Rattle.lrc_exact_joined.specs.Kept.{IsUncompared, seen_from}
+
+-- ---- deeds that compare nothing
+
+pub uncompared_free : (d : Deed) → IsUncompared d → IsNoAcquire d
+uncompared_free d u = λ l e. cc
+
+pub uncompared_decided : (shape : Shape) (cap : ℕ) (floor : List ℕ) (run : List Act) (states : List State) (node : ℕ) (d : Deed) → IsUncompared d
+    → IsDecidedDeed shape cap floor run states node d
+uncompared_decided shape cap floor run states node d u = tt
+
+module _ {program : Program} {shape : Shape} {cap : ℕ} where
+  -- ---- one way behind another
+
+  pub leads_again : {a b c : Seen} → LeadsAhead program shape cap a b → LeadsAhead program shape cap b c → LeadsAhead program shape cap a c
+  leads_again first still = first
+  leads_again first (onward act base before free decided from) = onward act base (leads_again first before) free decided from
+
+  pub leads_long : {a b : Seen} → LeadsAhead program shape cap a b → length a.acts ≤ length b.acts
+  leads_long still = omega arith
+  leads_long (onward {mid = mid} act base before free decided from) =
+      let few = leads_long before in let one = length_push mid.acts act in omega (arith, few, one)
+
+  pub leads_reached : {a b : Seen} → LeadsAhead program shape cap a b → IsReached program shape a.acts a.base → IsReached program shape b.acts b.base
+  leads_reached still r = r
+  leads_reached (onward act base before free decided from) r = goes_on act (leads_reached before r) free.longer from
+
+  -- one act more that compares nothing
+  pub leads_free : (run acts : List Act) (base : Base) (act : Act) → LeadsAhead program shape cap (seen_from run base) (seen_from acts base)
+      → IsFree program shape acts act → IsUncompared act.deed → LeadsAhead program shape cap (seen_from run base) (seen_from (acts ++ act ∷ []) base)
+  leads_free run acts base act before free u =
+      onward act base before free (λ states keeps. uncompared_decided shape cap base.floor acts states act.node act.deed u) as_before
+
+  -- ---- what is reached
+
+  pub reached_exact : {acts : List Act} {base : Base} → IsReached program shape acts base → IsExactRun program shape acts
+  reached_exact begins = none_yet program shape
+  reached_exact (goes_on act before longer from) = longer
+
+  from_wide : {run : List Act} {before now : Base} → IsSeenFrom shape run before now → length before.floor ≡ shape.nodes → length now.floor ≡ shape.nodes
+  from_wide as_before wide = wide
+  from_wide (from_level states keeps level some) wide = level.wide
+
+  pub reached_wide : {acts : List Act} {base : Base} → IsReached program shape acts base → length base.floor ≡ shape.nodes
+  reached_wide begins = length-zeros shape.nodes
+  reached_wide (goes_on act before longer from) = from_wide from (reached_wide before)
