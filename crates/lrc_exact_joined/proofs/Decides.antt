@@ -87,11 +87,11 @@ module _ (cap : ℕ) (floor : List ℕ) (history : History) (acts : List Act) (s
   abbrev kept : NodeState
   kept = kept_before history.begun acts history.states.items node
 
-  blank : KeptWord
+  abbrev blank : KeptWord
   blank = record { value = 0; mark = None; before = None }
 
   -- so it is of each word that is kept
-  AreEach : (had news : List ℕ) → Type 0
+  abbrev AreEach : (had news : List ℕ) → Type 0
   AreEach had news =
       (word : ℕ) (one : KeptWord) → slice_get kept.words.items word ≡ Some one → AreDecided cap floor nodes had (known_of made news) word (word_seen one)
 

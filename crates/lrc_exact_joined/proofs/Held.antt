@@ -1,5 +1,5 @@
 -- What is kept of a run is what its nodes have.
-use Rattle.std.proofs.Common.{◌≡◌, ℕ, List, subst}
+use Rattle.std.proofs.Common.{◌≡◌, ℕ, List, refl, subst}
 use Rattle.lrc_trace.specs.declared.act.Act.{Act}
 use Rattle.lrc_exact.specs.Rule.{exact_rule, KeepsExact, State}
 use Rattle.lrc_exact.proofs.LocalRules.{one_list}

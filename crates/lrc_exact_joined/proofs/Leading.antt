@@ -5,6 +5,7 @@ use Rattle.lrc_program.specs.declared.Program.{Program}
 use Rattle.lrc_time.proofs.Times.{length-zeros}
 use Rattle.lrc_trace.specs.declared.act.Act.{Act}
 use Rattle.lrc_trace.specs.declared.act.Deed.{Deed}
+use Rattle.lrc_trace.specs.declared.act.Deed.TheVariants.{Acquire, Depart}
 use Rattle.lrc_lazy.specs.Swapped.{IsNoAcquire}
 use Rattle.lrc_exact.specs.Rule.{Shape, State}
 use Rattle.lrc_exact_laws.specs.Laws.{IsExactRun}
@@ -17,10 +18,14 @@ use Rattle.lrc_exact_joined.specs.Kept.{IsUncompared, seen_from}
 -- ---- deeds that compare nothing
 
 pub uncompared_free : (d : Deed) → IsUncompared d → IsNoAcquire d
+uncompared_free (Acquire lock) u = absurd u
+uncompared_free Depart u = absurd u
 uncompared_free d u = λ l e. cc
 
 pub uncompared_decided : (shape : Shape) (cap : ℕ) (floor : List ℕ) (run : List Act) (states : List State) (node : ℕ) (d : Deed) → IsUncompared d
     → IsDecidedDeed shape cap floor run states node d
+uncompared_decided shape cap floor run states node (Acquire lock) u = absurd u
+uncompared_decided shape cap floor run states node Depart u = absurd u
 uncompared_decided shape cap floor run states node d u = tt
 
 module _ {program : Program} {shape : Shape} {cap : ℕ} where
@@ -45,8 +50,9 @@ module _ {program : Program} {shape : Shape} {cap : ℕ} where
   leads_free run acts base act before free u =
       onward act base before free (λ states keeps. uncompared_decided shape cap base.floor acts states act.node act.deed u) as_before
 
-  -- ---- what is reached
+-- ---- what is reached
 
+module _ {program : Program} {shape : Shape} where
   pub reached_exact : {acts : List Act} {base : Base} → IsReached program shape acts base → IsExactRun program shape acts
   reached_exact begins = none_yet program shape
   reached_exact (goes_on act before longer from) = longer

@@ -1,5 +1,7 @@
 mod Found
 mod Held
+mod Standing
 mod Decides
 mod Leading
+mod Made
 mod Meeting

@@ -1,5 +1,5 @@
 -- Runs that are met by their keys, and put to those that were met before.
-use Rattle.std.proofs.Common.{◌≡◌, ℕ, ◌+◌, ◌<◌, ◌≤◌, List, [], ◌∷◌, ◌++◌, length, inl, inr, refl, sym, subst, ◌∙◌, ap, arith}
+use Rattle.std.proofs.Common.{◌≡◌, ℕ, ◌+◌, ◌<◌, ◌≤◌, List, [], ◌∷◌, ◌++◌, length, inl, inr, refl, sym, subst, ◌∙◌, ap, ap₂, arith}
 use Rattle.std.specs.Prelude.{Option, Some, None, slice_get}
 use Rattle.std.proofs.lemmas.Bool.{cases_eq, cases_lt}
 use Rattle.std.proofs.lemmas.List.{length_push}
@@ -20,10 +20,11 @@ use Rattle.lrc_exact_keys.specs.View.{key_seen}
 use Rattle.lrc_exact_search.specs.declared.run.Task.{Task}
 use Rattle.lrc_exact_search.proofs.Meeting.{has_on}
 use Rattle.lrc_exact_states.specs.Keyed.{HasKeyOf}
-use Rattle.lrc_exact_states.specs.Runs.{Base}
-use Rattle.lrc_exact_states.specs.Searched.{first_seen, IsReached, Seen}
+use Rattle.lrc_exact_states.specs.Runs.{Base, begun}
+use Rattle.lrc_exact_states.specs.Searched.{begins, first_seen, IsReached, Seen}
 use Rattle.lrc_exact_joined.specs.declared.met.SeenRun.{SeenRun}
-use Rattle.lrc_exact_joined.specs.Kept.{AreKept, IsKeyOfRun}
+use Rattle.lrc_exact_joined.specs.Bases.{base_kept}
+use Rattle.lrc_exact_joined.specs.Kept.{AreKept, IsKeyOfRun, seen_from}
 use Rattle.lrc_exact_joined.specs.Searching.{AreReached, AreSearchedByKeys, further_on, GoesOnByKeys, IsMetByKey, IsSearchedByKeys, LeadsToMet, looks_on, PartsByKeys, parts_there, seen_of}
 use Rattle.lrc_exact_joined.proofs.Leading.{reached_exact}
 
@@ -167,3 +168,25 @@ module _ (task : Task) (cap : ℕ) where
           there = ap (λ (l : List SeenRun). slice_get l (length old)) put ∙ slice_get-seam old met [];
           key = let run = reached_exact reached in has_key (seen_of met).acts (seen_of met).base met.key met run is run is (λ flat nodes locks. refl);
         }))
+
+  -- what is put to the runs that were met is kept, and met
+  pub pushed : (old new : List SeenRun) (met : SeenRun) → new ≡ old ++ met ∷ [] → (acts : List Act) (base : Base) → met.acts.items ≡ acts
+      → base_kept met.base ≡ base → IsReached program shape acts base → IsKeyOfRun task cap acts base met.key → AreKept task cap old
+      → AreKept task cap new × IsMetByKey program shape cap new acts base
+  pushed old new met put acts base acts_are base_is reached is kept =
+      let reached' : IsReached program shape met.acts.items (base_kept met.base) =
+      subst (λ (xs : List Act). IsReached program shape xs (base_kept met.base)) (sym acts_are)
+      (subst (λ (b : Base). IsReached program shape acts b) (sym base_is) reached) in
+      let is' : IsKeyOfRun task cap met.acts.items (base_kept met.base) met.key =
+      subst (λ (xs : List Act). IsKeyOfRun task cap xs (base_kept met.base) met.key) (sym acts_are)
+      (subst (λ (b : Base). IsKeyOfRun task cap acts b met.key) (sym base_is) is) in
+      (kept_more met reached' is' old new put kept, met_here met reached' is' old new put acts base acts_are base_is)
+
+  -- so is the run without acts, where there is no other
+  pub begun_kept : (old new : List SeenRun) (met : SeenRun) → old ≡ [] → new ≡ old ++ met ∷ [] → met.acts.items ≡ [] → base_kept met.base ≡ begun shape.nodes
+      → IsKeyOfRun task cap met.acts.items (base_kept met.base) met.key → AreKept task cap new
+  begun_kept old new met none put no_acts base_is is =
+      let reached : IsReached program shape met.acts.items (base_kept met.base) =
+      subst (λ (xs : List Act). IsReached program shape xs (base_kept met.base)) (sym no_acts)
+      (subst (λ (b : Base). IsReached program shape [] b) (sym base_is) begins) in
+      kept_first met reached is old new none put (ap₂ (λ (xs : List Act) (b : Base). seen_from xs b) no_acts base_is)

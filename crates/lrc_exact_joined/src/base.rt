@@ -5,6 +5,7 @@ ghost use Rattle.lrc_exact.specs.Rule.{KeepsExact, State as StateType};
 ghost use Rattle.lrc_exact_judge.specs.Shape.{shape_of};
 ghost use Rattle.lrc_exact_history.specs.Runs.{IsHistoryOf};
 ghost use Rattle.lrc_exact_states.specs.Runs.{IsLevel};
+ghost use Rattle.lrc_exact_states.specs.Searched.{IsSeenFrom};
 ghost use Rattle.lrc_exact_joined.specs.Bases.{IsThere, base_at, base_kept};
 
 use lrc_exact_history::history::History;
@@ -67,8 +68,8 @@ fn stands_there(history: &History, acts: &[Act], node: u8, floor: &Time, first: 
     floor.covers(&held.time)
 }
 
-/// Returns from where a run may be seen, if it is level: all nodes know the same, and all stand behind the same barrier.
-pub fn level(history: &History, acts: &[Act]) -> Option<KeptBase>
+// Returns from where a run may be seen, if it is level: all nodes know the same, and all stand behind the same barrier.
+fn level(history: &History, acts: &[Act]) -> Option<KeptBase>
     requires { IsHistoryOf acts.now history.now }
     ensures { IfSome result (λ base. (states : List StateType)
         → KeepsExact (shape_of history.now.layout) acts.now states
@@ -82,4 +83,16 @@ pub fn level(history: &History, acts: &[Act]) -> Option<KeptBase>
         }
     }
     Some(KeptBase { floor, first })
+}
+
+/// Returns from where a run is seen that was seen from a base before its last act: from where it is, if it is level.
+pub fn base_after(history: &History, acts: &[Act], before: &KeptBase) -> KeptBase
+    requires { IsHistoryOf acts.now history.now }
+    ensures { IsSeenFrom (shape_of history.now.layout) acts.now (base_kept before.now)
+        (base_kept result) }
+{
+    match level(history, acts) {
+        Some(base) => base,
+        None => before.copy(),
+    }
 }

@@ -1,15 +1,15 @@
 // How a run that is searched goes ahead by acts that acquire no lock.
 
-ghost use Rattle.std.specs.Prelude.{◌≡◌, ◌<◌, ℕ, IfOk, OnOk, Some, length, true};
+ghost use Rattle.std.specs.Prelude.{◌≡◌, ◌<◌, ℕ, OnOk, Some, true};
 ghost use Rattle.lrc_trace.specs.declared.act.Act.{Act as ActType};
-ghost use Rattle.lrc_trace.specs.declared.act.Deed.TheVariants.{Depart};
+ghost use Rattle.lrc_lazy.specs.Swapped.{IsNoAcquire};
 ghost use Rattle.lrc_exact_judge.specs.Shape.{shape_of};
 ghost use Rattle.lrc_exact_search.specs.Run.{IsAt, IsTask};
 ghost use Rattle.lrc_exact_states.specs.Runs.{Base};
-ghost use Rattle.lrc_exact_joined.specs.Kept.{IsUncompared, seen_from, seen_going};
+ghost use Rattle.lrc_exact_joined.specs.Kept.{IsUncompared, seen_from};
 ghost use Rattle.lrc_exact_joined.specs.Searching.{IsFree, LeadsAhead};
 
-use crate::base::{KeptBase, level};
+use crate::base::{KeptBase, base_after};
 use crate::keyed::{history_in, is_decided_next};
 use lrc_exact_search::run::{ExactRun, Task};
 use lrc_trace::act::{Act, Deed};
@@ -27,9 +27,17 @@ pub struct Going {
 
 // Whether a deed neither acquires a lock nor departs.
 fn is_uncompared(deed: Deed) -> bool
-    ensures { result ≡ true → IsUncompared deed }
+    ensures uncompared { result ≡ true → IsUncompared deed }
+    ensures free { result ≡ true → IsNoAcquire deed }
 {
     !matches!(deed, Deed::Acquire(_) | Deed::Depart)
+}
+
+// Whether a deed is a depart.
+fn is_depart(deed: Deed) -> bool
+    ensures { result ≡ true → IsNoAcquire deed }
+{
+    matches!(deed, Deed::Depart)
 }
 
 // What the lowest node can do next that neither acquires a lock nor departs.
@@ -60,7 +68,7 @@ fn lowest_depart(run: &ExactRun, task: &Task<'_>) -> Option<Act>
 {
     for node in 0..task.layout.nodes {
         if let Some(deed) = run.deed(task, node) {
-            if matches!(deed, Deed::Depart) {
+            if is_depart(deed) {
                 return Some(Act { node, deed });
             }
         }
@@ -87,7 +95,7 @@ fn go_ahead(alloc: Global, task: &Task<'_>, run: &mut ExactRun) -> Result<(), Al
 }
 
 impl Going {
-    ghost use Rattle.std.specs.Prelude.{◌≡◌, ◌<◌, IfOk, OnOk, Some, length, true};
+    ghost use Rattle.std.specs.Prelude.{◌≡◌, ◌<◌, Bool, IfOk, OnOk, Some, length, true};
     ghost use Rattle.lrc_exact_laws.specs.Laws.{IsExactRun};
     ghost use Rattle.lrc_exact_judge.specs.Shape.{shape_of};
     ghost use Rattle.lrc_exact_search.specs.Run.{IsAt, IsTask};
@@ -122,9 +130,7 @@ impl Going {
         let Some(after) = history_in(alloc, task, &self.run.acts)? else {
             return Ok(false);
         };
-        if let Some(base) = level(&after, &self.run.acts) {
-            self.base = base;
-        }
+        self.base = base_after(&after, &self.run.acts, &self.base);
         Ok(true)
     }
 

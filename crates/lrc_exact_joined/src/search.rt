@@ -100,7 +100,7 @@ struct Joined {
 }
 
 impl Joined {
-    ghost use Rattle.std.specs.Prelude.{◌≡◌, ◌↔◌, ◌++◌, ◌∷◌, ◌<◌, ◌≤◌, ¬◌, ℕ, List, IfOk, OnOk, Some, [], true, false, length, slice_get};
+    ghost use Rattle.std.specs.Prelude.{◌≡◌, ◌↔◌, ◌++◌, ◌∷◌, ◌<◌, ◌≤◌, ℕ, Bool, List, IfOk, OnOk, Some, [], true, false, length, slice_get};
     ghost use Rattle.lrc_trace.specs.declared.act.Act.{Act as ActType};
     ghost use Rattle.lrc_orders.specs.Kept.{Grows};
     ghost use Rattle.lrc_orders.specs.Notes.{notes_of};
@@ -159,7 +159,7 @@ impl Joined {
     fn begin(&mut self, alloc: Global, task: &Task<'_>, cap: u64) -> Result<bool, AllocError>
         requires task { IsTask task.now }
         requires calm { task.now.layout.collect ≡ 0 }
-        requires { self.old.runs.items ≡ [] }
+        requires none { self.old.runs.items ≡ [] }
         ensures kept { IfOk result (λ done. done ≡ true → AreKept task.now cap self.new.runs.items) }
         ensures same { self.new.found ≡ self.old.found }
     {
@@ -194,7 +194,10 @@ impl Joined {
         search_by_keys_finds_all();
         let mut place = 0;
         while place < self.runs.len() {
-            if self.runs.len() > task.most || !self.visit(alloc, task, cap, place)? {
+            if self.runs.len() > task.most {
+                return Ok(false);
+            }
+            if !self.visit(alloc, task, cap, place)? {
                 return Ok(false);
             }
             place += 1;

@@ -1,7 +1,7 @@
 pub mod Changes
 mod Each
 mod KeyOf
-mod Listed
+pub mod Listed
 mod Machine
 mod Parts
 mod Same

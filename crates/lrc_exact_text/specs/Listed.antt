@@ -12,7 +12,7 @@ use Rattle.lrc_protocol.specs.Node.{OptionsRecord}
 use Rattle.lrc_lazy_text.specs.Listed.{AreAscending, marked_line}
 use Rattle.lrc_exact.specs.Rule.{Shape}
 use Rattle.lrc_exact_outcomes.specs.Outcome.{IsExactOutcome}
-use Rattle.lrc_exact_search.specs.Searching.{FitsExactly}
+use Rattle.lrc_exact_joined.specs.Fits.{FitsSome}
 use Rattle.lrc_exact_seeds.specs.Seeds.{AreSeedsFor}
 
 -- these are exactly the outcomes of the exact runs after which no node can act, each once
@@ -39,7 +39,8 @@ pub record TellsExactOutcomes (program : Program) (shape : Shape) (options : Opt
   pub seeded : AreSeedsFor program shape.nodes options tries outcomes seeds
   pub listed : ListsExactOutcomes shape.nodes outcomes seeds out
 
--- No more runs than a bound were enough for the outcomes of the exact runs. Or no order races, so that these are the outcomes of the orders.
+-- No more runs than a bound were enough for the outcomes of the exact runs, or of those with equal keys one. Or no order races, so that these are
+-- the outcomes of the orders.
 pub data FitExactRuns (program : Program) (shape : Shape) (most : ℕ) : Type 0 where
-  by_runs : {outcomes : List Outcome} → FitsExactly program shape most outcomes → FitExactRuns program shape most
+  by_runs : {outcomes : List Outcome} → FitsSome program shape most outcomes → FitExactRuns program shape most
   by_orders : HasNoRace program shape.nodes → FitExactRuns program shape most

@@ -15,8 +15,8 @@ ghost use Rattle.lrc_exact_text.specs.Listed.{FitExactRuns, ListsExactOutcomes, 
 use crate::calm::calm_outcomes;
 use crate::layout::layout_in;
 use indexmap::IndexSet;
+use lrc_exact_joined::outcomes::all_exact_outcomes;
 use lrc_exact_judge::layout::Layout;
-use lrc_exact_search::search::exact_outcomes;
 use lrc_exact_seeds::seeds::seeds_for;
 use lrc_lazy_text::listed::{all_lines, push_none_ends, sorted_lines};
 use lrc_orders::outcomes::Outcome;
@@ -106,7 +106,7 @@ fn outcomes_of(
     match calm_outcomes(alloc, program, layout.nodes, most)? {
         Some(found) => Ok(found),
         None => {
-            let found = exact_outcomes(alloc, program, layout, most)?;
+            let found = all_exact_outcomes(alloc, program, layout, most)?;
             Ok(found.outcomes)
         }
     }

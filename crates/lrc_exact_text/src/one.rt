@@ -7,8 +7,8 @@ ghost use Rattle.lrc_exact_text.specs.Listed.{FitExactRuns};
 ghost use Rattle.lrc_exact_text.specs.One.{IsExactRunOfNumber, TellsExactRunOfNumber};
 
 use crate::calm::{CalmRun, calm_run};
+use lrc_exact_joined::outcomes::all_exact_outcomes;
 use lrc_exact_judge::layout::Layout;
-use lrc_exact_search::search::exact_outcomes;
 use lrc_exec::state::copied;
 use lrc_explore_text::orders::acts_told;
 use lrc_explore_text::outcome_run::place_of;
@@ -86,7 +86,7 @@ fn searched_run(
     ensures too_many { IfErr result (λ fault. fault ≡ ExploreFault.TooMany
         → MeetsMore program.now (shape_of layout) most) }
 {
-    let found = exact_outcomes(alloc, program, layout, most)?;
+    let found = all_exact_outcomes(alloc, program, layout, most)?;
     let outcomes = found.outcomes.as_slice();
     match place_of(alloc, layout.nodes, outcomes, number)? {
         Some(place) => {
