@@ -24,6 +24,9 @@ use lrc_exec::spot::Spot;
 use lrc_trace::act::{Act, Deed};
 use std::alloc::{AllocError, Global};
 
+/// The most acts of a run whose history is kept: for each act it keeps what its node had.
+const MOST_ACTS: usize = 1000;
+
 // Whether acts write only words below this.
 fn are_within(acts: &[Act], words: u32) -> bool
     ensures { result ≡ true → (j node word value : ℕ) → Does acts.now j node (Write word value)
@@ -47,7 +50,7 @@ fn is_within(deed: Deed, words: u32) -> bool
     }
 }
 
-/// Returns the history of an exact run, if it can be kept. It fails if memory runs out.
+/// Returns the history of an exact run, unless it is too long, or writes what is no word. It fails if memory runs out.
 pub fn history_in(
     alloc: Global,
     task: &Task<'_>,
@@ -57,7 +60,7 @@ pub fn history_in(
     requires exact { IsExactRun task.now.program.now (shape_of task.now.layout) acts.now }
     ensures { IfOk result (λ found. IfSome found (IsHistoryIn task.now acts.now)) }
 {
-    if acts.len() >= u32::MAX as usize {
+    if acts.len() > MOST_ACTS {
         return Ok(None);
     }
     if !are_within(acts, task.program.words) {

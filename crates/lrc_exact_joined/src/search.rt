@@ -265,7 +265,7 @@ impl Joined {
         let Some(key) = key_in(alloc, task, cap, &going.run, &going.base)? else {
             return Ok(false);
         };
-        if place_of(&self.runs, &key).is_some() {
+        if let Some(_place) = place_of(&self.runs, &key) {
             return Ok(true);
         }
         let acts = copied(alloc, &going.run.acts)?;
