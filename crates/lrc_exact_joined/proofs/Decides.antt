@@ -11,7 +11,7 @@ use Rattle.lrc_trace.specs.Run.{departs_before}
 use Rattle.lrc_time.specs.Time.{entry}
 use Rattle.lrc_exact.specs.LocalRule.{arrived_state}
 use Rattle.lrc_exact.specs.Memory.{Interval, Rank, Word}
-use Rattle.lrc_exact.specs.Rule.{closed, Knowledge, known_by_all, Shape, State, with_news}
+use Rattle.lrc_exact.specs.Rule.{closed, KeepsExact, Knowledge, known_by_all, Shape, State, with_news}
 use Rattle.lrc_exact_copies.specs.declared.made.Made.{Made}
 use Rattle.lrc_exact_copies.specs.Made.{AreAmong, in_row, row_of}
 use Rattle.lrc_exact_judge.specs.Keepers.{known_of}
@@ -19,7 +19,7 @@ use Rattle.lrc_exact_judge.specs.Shape.{shape_of}
 use Rattle.lrc_exact_history.specs.declared.history.History.{History}
 use Rattle.lrc_exact_history.specs.declared.node.NodeState.{NodeState}
 use Rattle.lrc_exact_history.specs.declared.words.KeptWord.{KeptWord}
-use Rattle.lrc_exact_history.specs.Runs.{IsHistoryAt, kept_before, news_of, told}
+use Rattle.lrc_exact_history.specs.Runs.{IsHistoryAt, IsHistoryOf, kept_before, news_of, told}
 use Rattle.lrc_exact_history.specs.States.{by_itself}
 use Rattle.lrc_exact_history.specs.Words.{word_seen}
 use Rattle.lrc_exact_history.proofs.Lasts.{AreBoth, both, neither}
@@ -29,7 +29,7 @@ use Rattle.lrc_exact_states.specs.Alike.{AreDecided, IsDecided}
 use Rattle.lrc_exact_states.specs.Levels.{Change, last_change, newest}
 use Rattle.lrc_exact_states.specs.Runs.{here, IsDecidedDeed}
 use Rattle.lrc_exact_keys.proofs.Changes.{last-agree}
-use Rattle.lrc_exact_joined.proofs.Held.{held_here}
+use Rattle.lrc_exact_joined.proofs.Held.{held_here, held_time, history_at}
 
 no-change : (b : Bool) → (if b then None else None) ≡ None {A = Change}
 no-change true = refl
@@ -141,3 +141,18 @@ module _ (cap : ℕ) (floor : List ℕ) (history : History) (acts : List Act) (s
       (news_are nodes history.words made history.states.items states at.states_are acts node Depart) all refl in
       learns now.knows.time had b.0 all had_is b.2 b.3 (each b.0 (news_is ∙ b.1)) word
   decided_deed deed had news had_is news_is each = tt
+
+-- the same of what is looked up
+pub all_decided : (cap : ℕ) (floor : List ℕ) (history : History) (acts : List Act) → IsHistoryOf acts history → (node : ℕ) (deed : Deed) (held : NodeState)
+    → held ≡ kept_before history.begun acts history.states.items node → (had : List ℕ) (news : Option (List ℕ))
+    → ((shape : Shape) (state : State) → state.knows.time ≡ held.time → (by_itself shape node deed state).knows.time ≡ had)
+    → news ≡ news_of history.layout.nodes acts history.states.items node deed
+    → ((time : List ℕ) → news ≡ Some time → (word : ℕ) (one : KeptWord) → slice_get held.words.items word ≡ Some one
+    → AreDecided cap floor history.layout.nodes had (known_of history.made.items time) word (word_seen one))
+    → (states : List State) → KeepsExact (shape_of history.layout) acts states → IsDecidedDeed (shape_of history.layout) cap floor acts states node deed
+all_decided cap floor history acts h node deed held is had news own news_is each states keeps =
+    let at = history_at history acts h states keeps in
+    decided_deed cap floor history acts states at node deed had news
+    (sym (own (shape_of history.layout) (here (shape_of history.layout) acts states node) (held_time history acts states at node held is))) news_is
+    (λ time there word one stands.
+    each time there word one (ap (λ (k : NodeState). slice_get k.words.items word) is ∙ stands))

@@ -1,5 +1,5 @@
 -- Acts that lead from one run to another.
-use Rattle.std.proofs.Common.{◌≡◌, ℕ, ◌+◌, ◌≤◌, List, [], ◌∷◌, ◌++◌, length, refl, arith}
+use Rattle.std.proofs.Common.{◌≡◌, ℕ, ◌+◌, ◌<◌, ◌≤◌, List, [], ◌∷◌, ◌++◌, length, refl, sym, subst, ap₂, arith}
 use Rattle.std.proofs.lemmas.List.{length_push}
 use Rattle.lrc_program.specs.declared.Program.{Program}
 use Rattle.lrc_time.proofs.Times.{length-zeros}
@@ -7,12 +7,14 @@ use Rattle.lrc_trace.specs.declared.act.Act.{Act}
 use Rattle.lrc_trace.specs.declared.act.Deed.{Deed}
 use Rattle.lrc_trace.specs.declared.act.Deed.TheVariants.{Acquire, Depart}
 use Rattle.lrc_lazy.specs.Swapped.{IsNoAcquire}
+use Rattle.lrc_orders.specs.declared.outcomes.Outcome.{Outcome}
 use Rattle.lrc_exact.specs.Rule.{Shape, State}
 use Rattle.lrc_exact_laws.specs.Laws.{IsExactRun}
 use Rattle.lrc_exact_search.proofs.Standing.{none_yet}
 use Rattle.lrc_exact_states.specs.Runs.{Base, IsDecidedDeed}
 use Rattle.lrc_exact_states.specs.Searched.{as_before, begins, from_level, goes_on, IsReached, IsSeenFrom, Seen}
-use Rattle.lrc_exact_joined.specs.Searching.{IsDecidedNext, IsFree, LeadsAhead, onward, still}
+use Rattle.lrc_exact_joined.specs.declared.met.SeenRun.{SeenRun}
+use Rattle.lrc_exact_joined.specs.Searching.{further_on, IsDecidedNext, IsFree, IsMetByKey, IsSearchedByKeys, LeadsAhead, onward, PartsByKeys, parts_there, still}
 use Rattle.lrc_exact_joined.specs.Kept.{IsUncompared, seen_from}
 
 -- ---- deeds that compare nothing
@@ -49,6 +51,26 @@ module _ {program : Program} {shape : Shape} {cap : ℕ} where
       → IsFree program shape acts act → IsUncompared act.deed → LeadsAhead program shape cap (seen_from run base) (seen_from (acts ++ act ∷ []) base)
   leads_free run acts base act before free u =
       onward act base before free (λ states keeps. uncompared_decided shape cap base.floor acts states act.node act.deed u) as_before
+
+  -- one act that is decided
+  pub leads_one : (run : List Act) (base base' : Base) (act : Act) → IsFree program shape run act → IsDecidedNext shape cap (seen_from run base) act
+      → (acts : List Act) → acts ≡ run ++ act ∷ [] → IsSeenFrom shape acts base base' → LeadsAhead program shape cap (seen_from run base) (seen_from acts base')
+  leads_one run base base' act free decided acts is from =
+      subst (λ (xs : List Act). LeadsAhead program shape cap (seen_from run base) (seen_from xs base')) (sym is)
+      (onward act base' still free decided (subst (λ (xs : List Act). IsSeenFrom shape xs base base') is from))
+
+  -- ---- what is found ahead of a run that was looked at
+
+  module _ {runs : List SeenRun} {outcomes : List Outcome} {seen ahead : Seen} (goes : LeadsAhead program shape cap seen ahead) where
+    pub searched_further : length seen.acts < length ahead.acts → IsMetByKey program shape cap runs ahead.acts ahead.base
+        → IsSearchedByKeys program shape cap runs outcomes seen
+    searched_further longer met = record { ahead = ahead; goes = goes; then = further_on longer met }
+
+    pub searched_parts : PartsByKeys program shape cap runs outcomes ahead → IsSearchedByKeys program shape cap runs outcomes seen
+    searched_parts parts = record { ahead = ahead; goes = goes; then = parts_there parts }
+
+pub same_seen : {acts acts' : List Act} {base base' : Base} → acts ≡ acts' → base ≡ base' → seen_from acts base ≡ seen_from acts' base'
+same_seen acts_are base_is = ap₂ (λ (xs : List Act) (b : Base). seen_from xs b) acts_are base_is
 
 -- ---- what is reached
 

@@ -1,6 +1,6 @@
 -- Runs that are met by their keys, and put to those that were met before.
 use Rattle.std.proofs.Common.{◌≡◌, ℕ, ◌+◌, ◌<◌, ◌≤◌, List, [], ◌∷◌, ◌++◌, length, inl, inr, refl, sym, subst, ◌∙◌, ap, ap₂, arith}
-use Rattle.std.specs.Prelude.{Option, Some, None, slice_get}
+use Rattle.std.specs.Prelude.{◌↔◌, Option, Some, None, slice_get}
 use Rattle.std.proofs.lemmas.Bool.{cases_eq, cases_lt}
 use Rattle.std.proofs.lemmas.List.{length_push}
 use Rattle.std.proofs.lemmas.Option.{none-some, same_Some, slice_get_within}
@@ -15,9 +15,12 @@ use Rattle.lrc_orders.proofs.Keeping.{item_at, stands_on as stays}
 use Rattle.lrc_exact.specs.Rule.{Shape}
 use Rattle.lrc_exact_judge.specs.Shape.{shape_of}
 use Rattle.lrc_exact_laws.specs.Laws.{IsExactRun}
+use Rattle.lrc_exact_outcomes.specs.Outcome.{IsExactOutcome}
 use Rattle.lrc_exact_keys.specs.declared.key.RunKey.{RunKey}
 use Rattle.lrc_exact_keys.specs.View.{key_seen}
 use Rattle.lrc_exact_search.specs.declared.run.Task.{Task}
+use Rattle.lrc_exact_search.specs.declared.search.Met.{Met}
+use Rattle.lrc_exact_search.specs.Searching.{AreRunsOf}
 use Rattle.lrc_exact_search.proofs.Meeting.{has_on}
 use Rattle.lrc_exact_states.specs.Keyed.{HasKeyOf}
 use Rattle.lrc_exact_states.specs.Runs.{Base, begun}
@@ -25,7 +28,7 @@ use Rattle.lrc_exact_states.specs.Searched.{begins, first_seen, IsReached, Seen}
 use Rattle.lrc_exact_joined.specs.declared.met.SeenRun.{SeenRun}
 use Rattle.lrc_exact_joined.specs.Bases.{base_kept}
 use Rattle.lrc_exact_joined.specs.Kept.{AreKept, IsKeyOfRun, seen_from}
-use Rattle.lrc_exact_joined.specs.Searching.{AreReached, AreSearchedByKeys, further_on, GoesOnByKeys, IsMetByKey, IsSearchedByKeys, LeadsToMet, looks_on, PartsByKeys, parts_there, seen_of}
+use Rattle.lrc_exact_joined.specs.Searching.{AreReached, AreSearchedByKeys, further_on, GoesOnByKeys, IsMetByKey, IsSearchedByKeys, LeadsToMet, looks_on, PartsByKeys, parts_there, SearchByKeysFindsAll, seen_of}
 use Rattle.lrc_exact_joined.proofs.Leading.{reached_exact}
 
 -- ---- more runs
@@ -190,3 +193,16 @@ module _ (task : Task) (cap : ℕ) where
       subst (λ (xs : List Act). IsReached program shape xs (base_kept met.base)) (sym no_acts)
       (subst (λ (b : Base). IsReached program shape [] b) (sym base_is) begins) in
       kept_first met reached is old new none put (ap₂ (λ (xs : List Act) (b : Base). seen_from xs b) no_acts base_is)
+
+-- ---- what was found
+
+-- where all were looked at, the outcomes are exactly those of the exact runs
+pub exactly : (program : Program) (shape : Shape) (cap : ℕ) (runs : List SeenRun) (outcomes : List Outcome) → SearchByKeysFindsAll → shape.collect ≡ 0
+    → 1 ≤ cap → AreReached program shape runs → AreSearchedByKeys program shape cap runs outcomes (length runs) → (ended : List Met)
+    → AreRunsOf program shape outcomes ended → (notes : List Act) → IsExactOutcome program shape notes ↔ HasOutcome outcomes notes
+exactly program shape cap runs outcomes law calm some reached searched ended sound notes = (
+  λ is. law program shape cap runs outcomes calm some reached searched notes is,
+  λ has.
+      let r = sound.each has.place has.outcome has.there in
+      record { acts = r.met.acts.items; run = r.is.run; over = r.is.over; are = r.is.are ∙ has.same },
+)

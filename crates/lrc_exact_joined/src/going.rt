@@ -182,7 +182,6 @@ impl Going {
         if !self.depart_all(alloc, task, cap)? {
             return Ok(None);
         }
-        let now = self.run.acts.len();
-        Ok(Some(before < now && settled < now))
+        Ok(Some(settled < self.run.acts.len()))
     }
 }

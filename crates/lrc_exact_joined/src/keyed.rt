@@ -100,12 +100,24 @@ fn have_departed(nodes: u8, spots: &[Spot], acts: &[Act]) -> bool
         → departs_before acts.now n (length acts.now) ≡ arrives_before acts.now n (length acts.now) }
 {
     for node in 0..nodes {
-        let spot = spots[usize::from(node)];
-        if spot.stopped && departs(acts, node) != arrives(acts, node) {
+        if !has_departed(spots[usize::from(node)], node, acts) {
             return false;
         }
     }
     true
+}
+
+// Whether a node, if it has stopped, has departed as often as it has arrived.
+fn has_departed(spot: Spot, node: u8, acts: &[Act]) -> bool
+    ensures { result ≡ true → spot.stopped ≡ true
+        → departs_before acts.now node (length acts.now)
+        ≡ arrives_before acts.now node (length acts.now) }
+{
+    if spot.stopped {
+        departs(acts, node) == arrives(acts, node)
+    } else {
+        true
+    }
 }
 
 /// Returns the key of a run that is seen from a base, if it can be told. It fails if memory runs out.

@@ -234,10 +234,13 @@ impl Joined {
         let run = replayed(alloc, task, &met.acts)?;
         let base = met.base.copy();
         let mut going = Going { run, base };
-        match going.settle(alloc, task, cap)? {
-            Some(true) => self.meet(alloc, task, cap, &going),
-            Some(false) => self.part(alloc, task, cap, &going),
-            None => Ok(false),
+        let Some(again) = going.settle(alloc, task, cap)? else {
+            return Ok(false);
+        };
+        if again {
+            self.meet(alloc, task, cap, &going)
+        } else {
+            self.part(alloc, task, cap, &going)
         }
     }
 
@@ -303,14 +306,14 @@ impl Joined {
         let Some(history) = history_in(alloc, task, &going.run.acts)? else {
             return Ok(false);
         };
-        match self.meet_nexts(alloc, task, cap, going, &history)? {
-            Some(true) => Ok(true),
-            Some(false) => {
-                self.take_outcome(alloc, task, &going.run)?;
-                Ok(true)
-            }
-            None => Ok(false),
+        let Some(some) = self.meet_nexts(alloc, task, cap, going, &history)? else {
+            return Ok(false);
+        };
+        if some {
+            return Ok(true);
         }
+        self.take_outcome(alloc, task, &going.run)?;
+        Ok(true)
     }
 
     // Meets the runs with one act more, and says whether there is one, or nothing where something is not decided.

@@ -1,14 +1,17 @@
 use Rattle.std.proofs.Common.{sym, ◌∙◌}
-use Rattle.lrc_exact_joined.proofs.Standing.{held_wide, there_is}
+use Rattle.lrc_exact_joined.proofs.Held.{held_wide}
+use Rattle.lrc_exact_joined.proofs.Standing.{there_is}
 use Rattle.lrc_exact_joined.proofs.base.stands_there.Goals as goal
 
 pub covers-requires : goal.covers-requires
 covers-requires c =
-    held_wide c.args.history.now c.args.acts.now c.requires.history c.args.node c.held-held.result.now c.held-held.ensures ∙ sym c.requires.wide
+    let h = c.requires.history in
+    held_wide c.args.history.now c.args.acts.now h.0 h.1 c.args.node c.held-held.result.now c.held-held.ensures ∙ sym c.requires.wide
 
 pub covers-2-requires : goal.covers-2-requires
 covers-2-requires c =
-    sym (held_wide c.args.history.now c.args.acts.now c.requires.history c.args.node c.held-held.result.now c.held-held.ensures ∙ sym c.requires.wide)
+    let h = c.requires.history in
+    sym (held_wide c.args.history.now c.args.acts.now h.0 h.1 c.args.node c.held-held.result.now c.held-held.ensures ∙ sym c.requires.wide)
 
 pub returns : goal.returns
 returns c = λ yes.
