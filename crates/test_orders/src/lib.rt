@@ -5,6 +5,8 @@
 #[cfg(test)]
 mod checks;
 #[cfg(test)]
+mod exact_joined;
+#[cfg(test)]
 mod exact_outcomes;
 #[cfg(test)]
 mod exact_texts;
