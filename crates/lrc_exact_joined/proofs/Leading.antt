@@ -1,5 +1,6 @@
 -- Acts that lead from one run to another.
 use Rattle.std.proofs.Common.{◌≡◌, ℕ, ◌+◌, ◌<◌, ◌≤◌, List, [], ◌∷◌, ◌++◌, length, refl, sym, subst, ap₂, arith}
+use Rattle.std.specs.Prelude.{IfSome, Option, Some}
 use Rattle.std.proofs.lemmas.List.{length_push}
 use Rattle.lrc_program.specs.declared.Program.{Program}
 use Rattle.lrc_time.proofs.Times.{length-zeros}
@@ -16,6 +17,10 @@ use Rattle.lrc_exact_states.specs.Searched.{as_before, begins, from_level, goes_
 use Rattle.lrc_exact_joined.specs.declared.met.SeenRun.{SeenRun}
 use Rattle.lrc_exact_joined.specs.Searching.{further_on, IsDecidedNext, IsFree, IsMetByKey, IsSearchedByKeys, LeadsAhead, onward, PartsByKeys, parts_there, still}
 use Rattle.lrc_exact_joined.specs.Kept.{IsUncompared, seen_from}
+
+-- what holds of what is there, if something is
+pub some_is : {A : Type 0} (o : Option A) (P : A → Type 0) (x : A) → o ≡ Some x → IfSome o P → P x
+some_is {A} o P x is h = subst (λ (p : Option A). IfSome p P) is h
 
 -- ---- deeds that compare nothing
 

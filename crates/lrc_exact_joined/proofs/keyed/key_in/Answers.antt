@@ -1,11 +1,12 @@
 use Rattle.std.proofs.Common.{◌≡◌, ℕ, List, length, sym, subst, ap, ◌∙◌}
-use Rattle.std.specs.Prelude.{IfSome, Some, slice_get}
+use Rattle.std.specs.Prelude.{Some, slice_get}
 use Rattle.lrc_trace.specs.declared.act.Act.{Act}
 use Rattle.lrc_trace.specs.Run.{arrives_before, departs_before}
 use Rattle.lrc_exec.specs.declared.spot.Spot.{Spot}
 use Rattle.lrc_exact_judge.specs.Shape.{shape_of}
 use Rattle.lrc_exact_laws.specs.Laws.{IsExactRun}
 use Rattle.lrc_exact_joined.specs.Kept.{IsHistoryIn}
+use Rattle.lrc_exact_joined.proofs.Leading.{some_is}
 use Rattle.lrc_exact_joined.proofs.Made.{spots_are}
 use Rattle.lrc_exact_joined.proofs.keyed.key_in.Goals as goal
 
@@ -20,7 +21,7 @@ have_departed-requires c =
 pub key_with-requires-clause-history : goal.key_with-requires-clause-history
 key_with-requires-clause-history c =
     subst (λ (xs : List Act). IsHistoryIn c.args.task.now xs c.in-Some.history) c.deref.ensures.value
-    (subst (λ o. IfSome o (IsHistoryIn c.args.task.now c.deref.result.now)) c.in-Some.is c.in_ok-history.ensures)
+    (some_is _ (IsHistoryIn c.args.task.now c.deref.result.now) _ c.in-Some.is c.in_ok-history.ensures)
 
 pub key_with-requires-clause-departed : goal.key_with-requires-clause-departed
 key_with-requires-clause-departed c = λ n spot there stopped.

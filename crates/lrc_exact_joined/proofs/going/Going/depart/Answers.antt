@@ -1,5 +1,4 @@
 use Rattle.std.proofs.Common.{◌≡◌, List, sym, subst, ◌∙◌}
-use Rattle.std.specs.Prelude.{IfSome}
 use Rattle.lrc_trace.specs.declared.act.Act.{Act}
 use Rattle.lrc_exact_judge.specs.declared.layout.Layout.{Layout}
 use Rattle.lrc_exact_judge.specs.Shape.{shape_of}
@@ -9,7 +8,7 @@ use Rattle.lrc_exact_states.specs.Searched.{IsSeenFrom}
 use Rattle.lrc_exact_joined.specs.Bases.{base_kept}
 use Rattle.lrc_exact_joined.specs.Kept.{IsHistoryIn, seen_from}
 use Rattle.lrc_exact_joined.specs.Searching.{IsDecidedNext}
-use Rattle.lrc_exact_joined.proofs.Leading.{leads_one}
+use Rattle.lrc_exact_joined.proofs.Leading.{leads_one, some_is}
 use Rattle.lrc_exact_joined.proofs.going.Going.depart.Goals as goal
 
 pub history_in-requires-clause-exact : goal.history_in-requires-clause-exact
@@ -19,7 +18,7 @@ history_in-requires-clause-exact c =
 pub is_decided_next-requires-clause-history : goal.is_decided_next-requires-clause-history
 is_decided_next-requires-clause-history c =
     subst (λ (xs : List Act). IsHistoryIn c.args.task.now xs c.in-Some.history) (c.deref.ensures.value ∙ sym c.deref-2.ensures.value)
-    (subst (λ o. IfSome o (IsHistoryIn c.args.task.now c.deref.result.now)) c.in-Some.is c.in_ok-history.ensures)
+    (some_is _ (IsHistoryIn c.args.task.now c.deref.result.now) _ c.in-Some.is c.in_ok-history.ensures)
 
 pub make-requires-clause-next : goal.make-requires-clause-next
 make-requires-clause-next c = c.requires.free.longer
@@ -32,7 +31,7 @@ history_in-2-requires-clause-exact c =
 pub base_after-requires : goal.base_after-requires
 base_after-requires c =
     subst (λ (xs : List Act). IsHistoryOf xs c.in-Some-2.after) (c.deref-3.ensures.value ∙ sym c.deref-4.ensures.value)
-    (subst (λ o. IfSome o (IsHistoryIn c.args.task.now c.deref-3.result.now)) c.in-Some-2.is c.in_ok-after.ensures).history
+    (some_is _ (IsHistoryIn c.args.task.now c.deref-3.result.now) _ c.in-Some-2.is c.in_ok-after.ensures).history
 
 pub returns-clause-ahead : goal.returns-clause-ahead
 returns-clause-ahead c = λ done.
@@ -41,7 +40,7 @@ returns-clause-ahead c = λ done.
     let base = base_kept old.base in
     let shape = shape_of task.layout in
     let acts = c.make.new.self.acts.items in
-    let after = subst (λ o. IfSome o (IsHistoryIn task c.deref-3.result.now)) c.in-Some-2.is c.in_ok-after.ensures in
+    let after = some_is _ (IsHistoryIn task c.deref-3.result.now) _ c.in-Some-2.is c.in_ok-after.ensures in
     leads_one old.run.acts.items base (base_kept c.base_after.result) c.args.act c.requires.free
     (subst (λ (xs : List Act). IsDecidedNext shape c.args.cap (seen_from xs base) c.args.act) c.deref-2.ensures.value
     (c.is_decided_next.ensures c.if-not-is_decided_next.false))
