@@ -5,3 +5,4 @@ mod Decides
 mod Leading
 mod Made
 mod Meeting
+mod Fitting

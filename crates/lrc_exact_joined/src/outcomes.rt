@@ -99,14 +99,28 @@ fn by_keys(
         (shape_of layout) most all.outcomes.keys)) }
 {
     let task = task_of(code, layout, most.min(MOST_KEYS));
-    let mut cap: u64 = 4;
-    for _ in 0..6 {
-        if let Some(found) = joined_outcomes(alloc, &task, cap)? {
+    for step in 0..8 {
+        if let Some(found) = joined_outcomes(alloc, &task, cap_of(step))? {
             return Ok(Some(found));
         }
-        cap = cap.saturating_mul(4);
     }
     Ok(None)
+}
+
+// The cap of a search after so many others: with the first, weights decide nothing.
+fn cap_of(step: u32) -> u64
+    ensures { 1 ≤ result }
+{
+    match step {
+        0 => 1,
+        1 => 2,
+        2 => 4,
+        3 => 16,
+        4 => 64,
+        5 => 256,
+        6 => 1024,
+        _ => 4096,
+    }
 }
 
 // What is searched of a program's code.
