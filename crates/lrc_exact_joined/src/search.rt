@@ -1,6 +1,6 @@
 // The search that joins runs with equal keys.
 
-ghost use Rattle.std.specs.Prelude.{◌≡◌, ◌↔◌, ◌++◌, ◌∷◌, ◌≤◌, ◌<◌, [], ℕ, IfOk, IfSome, List, OnOk, Some, length, slice_get};
+ghost use Rattle.std.specs.Prelude.{◌≡◌, ◌↔◌, ◌++◌, ◌∷◌, ◌≤◌, ◌<◌, [], ℕ, IfOk, IfSome, List, Some, slice_get, true};
 ghost use Rattle.lrc_exec.specs.declared.spot.Flat.{Flat as FlatType};
 ghost use Rattle.lrc_trace.specs.declared.act.Act.{Act as ActType};
 ghost use Rattle.lrc_trace.specs.declared.act.Deed.{Deed as DeedType};
@@ -19,7 +19,7 @@ use crate::base::KeptBase;
 use crate::going::Going;
 use crate::keyed::{history_in, is_decided_next, key_in};
 use crate::laws::search_by_keys_finds_all;
-use crate::met::SeenRun;
+use crate::met::{SeenRun, sum_of};
 use indexmap::IndexSet;
 use lrc_exact_history::history::History;
 use lrc_exact_keys::key::RunKey;
@@ -52,14 +52,22 @@ fn with_act(alloc: Global, acts: &[Act], act: Act) -> Result<Vec<Act>, AllocErro
     Ok(longer)
 }
 
-// The place of a run that was met whose key is this, if there is one.
-fn place_of(runs: &[SeenRun], key: &RunKey) -> Option<usize>
+// Whether a run that was met has this key, which has this sum.
+fn has_key(run: &SeenRun, key: &RunKey, sum: u64) -> bool
+    ensures { result ≡ true → (flat : FlatType) (nodes locks : ℕ)
+        → key_seen flat nodes locks key.now ≡ key_seen flat nodes locks run.now.key }
+{
+    run.sum == sum && key.is(&run.key)
+}
+
+// The place of a run that was met with this key, which has this sum, if there is one.
+fn place_of(runs: &[SeenRun], key: &RunKey, sum: u64) -> Option<usize>
     ensures { IfSome result (λ place. (met : SeenRunType) × (slice_get runs.now place ≡ Some met)
         × ((flat : FlatType) (nodes locks : ℕ)
         → key_seen flat nodes locks key.now ≡ key_seen flat nodes locks met.key)) }
 {
     for place in 0..runs.len() {
-        if key.is(&runs[place].key) {
+        if has_key(&runs[place], key, sum) {
             return Some(place);
         }
     }
@@ -169,7 +177,13 @@ impl Joined {
             return Ok(false);
         };
         let acts = run.acts;
-        self.runs.push(SeenRun { acts, base, key })?;
+        let sum = sum_of(&key);
+        self.runs.push(SeenRun {
+            acts,
+            base,
+            key,
+            sum,
+        })?;
         Ok(true)
     }
 
@@ -268,12 +282,18 @@ impl Joined {
         let Some(key) = key_in(alloc, task, cap, &going.run, &going.base)? else {
             return Ok(false);
         };
-        if let Some(_place) = place_of(&self.runs, &key) {
+        let sum = sum_of(&key);
+        if let Some(_place) = place_of(&self.runs, &key, sum) {
             return Ok(true);
         }
         let acts = copied(alloc, &going.run.acts)?;
         let base = going.base.copy();
-        self.runs.push(SeenRun { acts, base, key })?;
+        self.runs.push(SeenRun {
+            acts,
+            base,
+            key,
+            sum,
+        })?;
         Ok(true)
     }
 

@@ -33,14 +33,14 @@ returns-clause-kept c =
     let task = c.args.task.now in
     let going = c.args.going.now in
     let runs = c.args.self.now.runs.items in
-    let met : SeenRun = record { acts = c.in_ok-acts.acts; base = c.copy-base.result; key = c.in-Some.key } in
+    let met : SeenRun = record { acts = c.in_ok-acts.acts; base = c.copy-base.result; key = c.in-Some.key; sum = c.sum_of-sum.result } in
     let is = some_is _ (IsKeyOfRun task c.args.cap going.run.acts.items (base_kept going.base)) _ c.in-Some.is c.in_ok-key.ensures in
     (pushed task c.args.cap runs c.push.new.self.items met c.in_ok-push.ensures.items going.run.acts.items (base_kept going.base)
     (c.in_ok-acts.ensures ∙ c.deref-2.ensures.value) c.copy-base.ensures c.requires.reached is c.requires.kept).0
 
 pub returns-clause-grows : goal.returns-clause-grows
 returns-clause-grows c =
-    let met : SeenRun = record { acts = c.in_ok-acts.acts; base = c.copy-base.result; key = c.in-Some.key } in
+    let met : SeenRun = record { acts = c.in_ok-acts.acts; base = c.copy-base.result; key = c.in-Some.key; sum = c.sum_of-sum.result } in
     put_grows c.args.self.now.runs.items c.push.new.self.items met c.in_ok-push.ensures.items
 
 pub returns-clause-met : goal.returns-clause-met
@@ -48,7 +48,7 @@ returns-clause-met c = λ done.
     let task = c.args.task.now in
     let going = c.args.going.now in
     let runs = c.args.self.now.runs.items in
-    let met : SeenRun = record { acts = c.in_ok-acts.acts; base = c.copy-base.result; key = c.in-Some.key } in
+    let met : SeenRun = record { acts = c.in_ok-acts.acts; base = c.copy-base.result; key = c.in-Some.key; sum = c.sum_of-sum.result } in
     let is = some_is _ (IsKeyOfRun task c.args.cap going.run.acts.items (base_kept going.base)) _ c.in-Some.is c.in_ok-key.ensures in
     (pushed task c.args.cap runs c.push.new.self.items met c.in_ok-push.ensures.items going.run.acts.items (base_kept going.base)
     (c.in_ok-acts.ensures ∙ c.deref-2.ensures.value) c.copy-base.ensures c.requires.reached is c.requires.kept).1
