@@ -95,9 +95,19 @@ pub fn joined_outcomes(
         (shape_of task.now.layout) task.now.most all.outcomes.keys)) }
 {
     let mut search = Joined::none(alloc);
-    let all = search.search(alloc, task, cap)?;
+    let ended = search.search(alloc, task, cap);
     let found = search.found;
-    if all { Ok(Some(found)) } else { Ok(None) }
+    match ended {
+        Ok(all) => Ok(if_all(all, found)),
+        Err(fault) => Err(fault),
+    }
+}
+
+// What was found, if that is all.
+fn if_all(all: bool, found: ExactOutcomes) -> Option<ExactOutcomes>
+    ensures { IfSome result (λ kept. (kept ≡ found) × (all ≡ true)) }
+{
+    if all { Some(found) } else { None }
 }
 
 // The runs that were met, in the order in which they were, no two with one key, and what was found.
