@@ -4,26 +4,23 @@
 //!
 //! PLAN (goes when the work is done). Without collections alone.
 //!
-//! Decided: no lower crate changes. A key is computed of the run's acts, not of the memory that the search keeps. The crate
-//! `lrc_exact_history` makes of the acts what each node has after each act, as the definition says it, position by position: each
-//! state of the definition has one that is kept, so `here`, what a lock hands on and what was known at an arrive are looked up by
-//! the very definitions (`last_state` over what is kept), and no invariant of a machine is needed. It is slow (a copy of the node's
-//! words for each act), and wants only `collect` to be 0.
+//! A key is computed of the run's acts, not of the memory that the search keeps. The crate `lrc_exact_history` makes of the acts
+//! what each node has after each act, as the definition says it, position by position: each state of the definition has one that is
+//! kept, so `here`, what a lock hands on and what was known at an arrive are looked up by the very definitions (`last_state` over
+//! what is kept), and no invariant of a machine is needed. It is slow (a copy of the node's words for each act), and wants only
+//! `collect` to be 0.
 //!
-//! 1. `lrc_exact_history` (`history_of` is the history of a run, `IsHistoryOf`), proved function by function; the whole was never checked.
-//! 2. Done: the law `laws::search_by_keys_finds_all`; `met`: a run that is met, and its base; `specs/Searching.antt`: the search.
-//! 3. `lrc_exact_keys`. Its `key`, `gaps`, `places` and `decided` were proved before they moved there. `kept_words`, `run_places` and
-//!    `proofs/Seen.antt` were checked, with no hole, in a scratch crate that joined them to the files below that they cite (`Seen` has
-//!    had `held_at` added since); over the libraries they were never checked.
-//! 4. `key_of_run` in `lrc_exact_keys`: its answers are written. `numbers_since` was checked so; `notes_of`, `words_of_nodes`,
-//!    `heights_of_places`, `key_of_run` and the lemmas that they cite (`proofs/Listed`, `Machine`, `Parts`, `KeyOf`) were never checked.
-//!    `IsMadeBy` wants of the caller that a node that has stopped has departed as often as it has arrived.
-//! 5. To do here: the search, over `lrc_exact_search` and `lrc_exact_keys`. It keeps a `SeenRun` for each key, and hands back
-//!    `Undecided` where an acquire or a depart is not decided. Its clauses are those of `exact_outcomes` but for `TooMany`.
-//!    Before it comes whether a run is level, whether an act is decided (of what is kept: so no closed interval may change a word
-//!    past those of the memory), and that a node that has stopped has departed. `ExactRun::spins` has to say that it made looks
-//!    alone. Caps 4, 16, .., 4,096, one after another, then `exact_outcomes`; so it is with collections. Keys of programs with many
-//!    words are great: the square of the number of places, times nodes and words.
+//! All code is written, and runs. What is proved of it, and what is only written:
+//!
+//! 1. `lrc_exact_history`: was proved function by function. Since then `arrives` and the clause `past` of `AreKeptOf` (no interval
+//!    changes a word past those of the memory) came in; `History::begun` is proved with it.
+//! 2. `lrc_exact_keys`: as the commit before says it; `are_decided` wants less of `had`. Its Answers are partly guessed.
+//! 3. Here: the law `laws::search_by_keys_finds_all` and `proofs/Found` were proved before `SeenRun` got its base and its key. All
+//!    other proofs were written before any check was possible: names of goals are guessed after those of like functions, and no
+//!    lemma was checked. `base` (where a run is level), `decided` (whether an act is decided), `keyed` (histories and keys of runs
+//!    that are searched), `going` (how a run goes ahead), `search`, `outcomes` (caps 1, 2, 4, 16, .., 4,096, then `exact_outcomes`).
+//! 4. `lrc_exact_text` calls `outcomes::all_exact_outcomes`; `FitExactRuns` says of a search by keys what it says of the other.
+//!    Tests are in `test_orders`, `exact_joined`.
 #![tactic(auto)]
 
 pub mod base;
