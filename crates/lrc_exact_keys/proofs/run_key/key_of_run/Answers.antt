@@ -1,4 +1,5 @@
-use Rattle.std.proofs.Common.{◌≡◌, ℕ, ◌-◌, List, length, map, subst, sym, ap, ◌∙◌}
+use Rattle.std.proofs.Common.{◌≡◌, ℕ, ◌+◌, ◌-◌, ◌<◌, ◌^◌, List, length, map, subst, sym, ap, ◌∙◌}
+use Rattle.std.proofs.lemmas.List.{length-map}
 use Rattle.std.specs.Prelude.{Option, Vec, slice_get, slice_index}
 use Rattle.std.specs.declared.alloc.Global.{Global}
 use Rattle.lrc_exec.specs.States.{plain_at}
@@ -14,6 +15,19 @@ use Rattle.lrc_exact_keys.specs.Places.{ArePlacesOf, known_there}
 use Rattle.lrc_exact_keys.proofs.KeyOf.{key_is}
 use Rattle.lrc_exact_keys.proofs.Parts.{are_places, are_wide}
 use Rattle.lrc_exact_keys.proofs.run_key.key_of_run.Goals as goal
+
+pub times_at_places-requires-clause-all : goal.times_at_places-requires-clause-all
+times_at_places-requires-clause-all c =
+    ap length (c.as_slice-2.ensures.value ∙ c.in_ok-arrived.ensures.numbers)
+    ∙ length-map c.as_slice.result.now (λ (number : ℕ). number - c.args.seen.first)
+    ∙ ap length c.as_slice.ensures.value ∙ c.requires.state.arrivals ∙ c.requires.nodes
+
+pub times_at_places-requires-clause-room : goal.times_at_places-requires-clause-room
+times_at_places-requires-clause-room c = λ node.
+    subst (λ (xs : List ℕ). slice_index xs node + c.args.seen.first < 2 ^ 64) (sym c.as_slice-2.ensures.value) (c.in_ok-arrived.ensures.room node)
+
+pub notes_of-requires : goal.notes_of-requires
+notes_of-requires c = c.requires.history.1.keeps.in_range
 
 pub heights_of_places-requires : goal.heights_of_places-requires
 heights_of_places-requires c = λ index time there.
