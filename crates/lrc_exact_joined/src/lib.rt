@@ -12,8 +12,8 @@
 //!
 //! All code is written, and runs. What is proved of it, and what is only written:
 //!
-//! 1. `lrc_exact_history`: was proved function by function. Since then `arrives` and the clause `past` of `AreKeptOf` (no interval
-//!    changes a word past those of the memory) came in; `History::begun` is proved with it.
+//! 1. `lrc_exact_history`: proved, by its whole check. `arrives` and the clause `past` of `AreKeptOf` (no interval changes a word past
+//!    those of the memory) are new.
 //! 2. `lrc_exact_keys`: as the commit before says it; `are_decided` wants less of `had`. Its Answers are partly guessed.
 //! 3. Here: the law `laws::search_by_keys_finds_all` and `proofs/Found` were proved before `SeenRun` got its base and its key. All
 //!    other proofs were written before any check was possible: names of goals are guessed after those of like functions, and no
@@ -21,6 +21,9 @@
 //!    that are searched), `going` (how a run goes ahead), `search`, `outcomes` (caps 1, 2, 4, 16, .., 4,096, then `exact_outcomes`).
 //! 4. `lrc_exact_text` calls `outcomes::all_exact_outcomes`; `FitExactRuns` says of a search by keys what it says of the other.
 //!    Tests are in `test_orders`, `exact_joined`.
+//!
+//! Tried, unproved (`rt try`): a spin under a lock beside a race, and spins under two locks where weights decide, have their three
+//! outcomes each with a cap of 2 (the latter has too many keys with 4 and 16); barriers for ever have none with 4.
 #![tactic(auto)]
 
 pub mod base;
