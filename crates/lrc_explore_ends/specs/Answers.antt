@@ -15,8 +15,8 @@ pub record AreEndFindings (program : Program) (nodes : ℕ) (found : EndFindings
   pub besides : AreFindings program nodes found.besides
   pub end : TellsEnd program nodes (option_map (λ order. order.items) found.lost)
 
--- No order races, if that is looked for, and what is found besides is so. Or the last two acts of the order race; or it is
--- told what was met where the search was cut short.
+-- No order races, if that is looked for, and what is found besides is so. Or the last two acts of the order race; or it
+-- is told what was met where the search was cut short.
 abbrev pub IsEndAnswer : Program → (nodes most : ℕ) → (races : Bool) → EndVerdict → Type 0
 IsEndAnswer program nodes most races (Through found) = (races ≡ true → HasNoRace program nodes) × AreEndFindings program nodes found
 IsEndAnswer program nodes most races (Racy order) = (races ≡ true) × EndsInRace program nodes order.items
